@@ -1,9 +1,9 @@
--- The bytes in an array from a start to an end, after more were put behind them.
+-- The bytes in an array from a start to an end, after more were appended.
 use Rattle.std.proofs.Common.{◌≡◌, ℕ, ◌+◌, ◌-◌, ◌≤◌, List, ◌++◌, length, take, drop, ap, sym, subst, arith, ◌∙◌, refl}
 use Rattle.std.proofs.lemmas.List.{take_at, drop-take, length-take-le, length-drop, take-append-le, drop-append-le, drop-drop, take_all, append_assoc}
 use Rattle.std.proofs.Math.Seq.{take-append-add}
 
--- what an array begins with, after n bytes were put behind its first a
+-- the first bytes of an array, after n bytes were written after its first a
 pub filled : (a n : ℕ) (xs ys rest items : List ℕ) → take a xs ≡ items → a ≤ length xs → n ≤ length ys
     → take (a + n) (take a xs ++ (ys ++ rest)) ≡ items ++ take n ys
 filled a n xs ys rest items e h k =
@@ -11,18 +11,18 @@ filled a n xs ys rest items e h k =
     (take-append-add (take a xs) (ys ++ rest) n ∙ ap (λ l. take a xs ++ l) (take-append-le n ys rest k))
     ∙ ap (λ l. l ++ take n ys) e
 
--- the bytes from a start to an end are what the first bytes up to the end have from the start on
+-- the bytes from a start to an end are those before the end, without those before the start
 pub from_start : (s e : ℕ) (xs : List ℕ) → s ≤ e → take (e - s) (drop s xs) ≡ drop s (take e xs)
 from_start s e xs h =
     let whole : s + (e - s) ≡ e = omega arith in
     sym (drop-take s (e - s) xs) ∙ ap (λ n. drop s (take n xs)) whole
 
--- bytes put behind the first e of an array
+-- bytes written after the first e of an array
 pub put_behind : (e : ℕ) (xs ys rest : List ℕ) → e ≤ length xs → take (e + length ys) (take e xs ++ (ys ++ rest)) ≡ take e xs ++ ys
 put_behind e xs ys rest h =
     filled e (length ys) xs ys rest (take e xs) refl h (omega arith) ∙ ap (λ l. take e xs ++ l) (take_all (length ys) ys (omega arith))
 
--- Bytes were put behind those from a start to an end.
+-- Bytes were appended to those from a start to an end.
 pub appended : (s e to : ℕ) (xs ys more items : List ℕ) → take (e - s) (drop s xs) ≡ items → s ≤ e → e ≤ length xs → e ≤ to
     → take to ys ≡ take e xs ++ more → take (to - s) (drop s ys) ≡ items ++ more
 appended s e to xs ys more items is h below later put =
@@ -30,25 +30,25 @@ appended s e to xs ys more items is h below later put =
     from_start s to ys (omega arith) ∙ ap (drop s) put ∙ drop-append-le s (take e xs) more within
     ∙ ap (λ l. l ++ more) (sym (from_start s e xs h) ∙ is)
 
--- What is behind the end was overwritten.
+-- The bytes after the end were overwritten.
 pub overwritten : (s e : ℕ) (xs rest items : List ℕ) → take (e - s) (drop s xs) ≡ items → s ≤ e → e ≤ length xs
     → take (e - s) (drop s (take e xs ++ rest)) ≡ items
 overwritten s e xs rest items is h below =
     from_start s e (take e xs ++ rest) h ∙ ap (drop s) (take_at (take e xs) rest e (length-take-le e xs below)) ∙ sym (from_start s e xs h) ∙ is
 
--- three texts put one behind the other
+-- three texts written one after the other
 pub put_three : (e m b z : ℕ) (xs first second third p t q : List ℕ) → take m first ≡ take e xs ++ p → take b second ≡ take m first ++ t
     → take z third ≡ take b second ++ q → take z third ≡ take e xs ++ (p ++ (t ++ q))
 put_three e m b z xs first second third p t q one two three =
     three ∙ ap (λ l. l ++ q) (two ∙ ap (λ l. l ++ t) one) ∙ append_assoc (take e xs ++ p) t q ∙ append_assoc (take e xs) p (t ++ q)
 
--- how many bytes there are from a start to an end
+-- the number of bytes from a start to an end
 pub length-from_start : (s e : ℕ) (xs items : List ℕ) → take (e - s) (drop s xs) ≡ items → e ≤ length xs → length items ≡ e - s
 length-from_start s e xs items is h =
     let some : e - s ≤ length (drop s xs) = omega (arith, length-drop s xs) in
     sym (ap length is) ∙ length-take-le (e - s) (drop s xs) some
 
--- the last n of them
+-- the last n bytes of those from a start to an end
 pub kept_last : (s e n : ℕ) (xs items : List ℕ) → take (e - s) (drop s xs) ≡ items → s ≤ e → e ≤ length xs → n ≤ length items
     → take (e - (e - n)) (drop (e - n) xs) ≡ drop (length items - n) items
 kept_last s e n xs items is h below few =

@@ -1,4 +1,4 @@
--- Lines that are joined, and a text that is cut into its lines.
+-- Joining lines, and splitting a text into lines.
 use Rattle.std.specs.Prelude.{map}
 use Rattle.std.proofs.Common.{◌≡◌, ℕ, ◌+◌, ◌<◌, suc, zero, List, [], ◌∷◌, ◌++◌, length, take, drop, refl, ap, sym, arith, ◌∙◌, append_assoc, inl, inr, get_or, add-one}
 use Rattle.std.proofs.lemmas.Bool.Decides.{nat_tests}
@@ -54,7 +54,7 @@ lines_of-last (x ∷ y ∷ text) some h =
     past_lf x (y ∷ text) (h 0 (omega arith))
     ∙ ap (onto_first x) (lines_of-last (y ∷ text) (omega arith) (λ k below. h (suc k) (omega arith)))
 
--- the lines of a text have its bytes
+-- the lines of a text, joined, are its bytes
 joined-onto_first : (x : ℕ) (lines : List Line) → joined (onto_first x lines) ≡ x ∷ joined lines
 joined-onto_first x [] = refl
 joined-onto_first x (line ∷ lines) = refl
@@ -67,7 +67,7 @@ joined-lines_of (x ∷ bytes) =
       | inr ne ↦ ap joined (past_lf x bytes ne) ∙ joined-onto_first x (lines_of bytes) ∙ ap (λ (l : List ℕ). x ∷ l) (joined-lines_of bytes)
     ]
 
--- ---- A text, cut at its first LF
+-- ---- A text, split at its first LF
 
 pub line_texts-ended : (line rest : List ℕ) → HasNoLf line → line_texts (line ++ 10 ∷ rest) ≡ line ∷ line_texts rest
 line_texts-ended line rest h = ap (map (λ (l : Line). l.text)) (lines_of-ended line rest h)
@@ -96,7 +96,7 @@ pub line_texts-cut : (xs : List ℕ) (n : ℕ) → n < length xs
     → line_texts xs ≡ take n xs ∷ line_texts (drop (n + 1) xs)
 line_texts-cut xs n h e before = ap (map (λ (l : Line). l.text)) (lines_of-cut xs n h e before)
 
--- what a search for a byte found
+-- the result of a search for a byte
 passed : (a : ℕ) (xs : List ℕ) (k : ℕ) → Passes (is_byte a) xs k → get_or xs k 0 ≡ a
 passed a xs k h = grind (arith, nat_tests)
 

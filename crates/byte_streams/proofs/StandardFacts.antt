@@ -1,5 +1,4 @@
--- Worked values of lines, so that a wrong rule in the specs does not check. They follow from the definitions, and no code lies
--- between.
+-- Examples of lines, so that a wrong rule in the specs fails to check. They follow from the definitions alone, without code.
 use Rattle.std.proofs.Common.{◌≡◌, List, ℕ, [], ◌∷◌, ◌++◌, length, codes, refl, ap, arith}
 use Rattle.byte_streams.specs.Lines.{AreEnded, ended, unended, joined, line_texts, lines_of}
 
@@ -10,7 +9,7 @@ feed = 10 ∷ []
 abbrev carriage : List ℕ
 carriage = 13 ∷ []
 
--- a last line without a line feed counts, and nothing after a last line feed does
+-- the last line may have no line feed, and no line follows the last line feed
 pub last_line_without_feed : lines_of (codes "a" ++ feed ++ codes "b") ≡ ended (codes "a") ∷ unended (codes "b") ∷ []
 last_line_without_feed = refl
 

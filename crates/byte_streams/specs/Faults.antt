@@ -1,26 +1,26 @@
--- How often calls have failed, and how much was read.
+-- How many calls have failed, and how many bytes were read.
 use Rattle.std.specs.Prelude.{◌≡◌, ◌⊎◌, ℕ, ◌+◌, ◌-◌, ◌^◌, ◌≤◌, min, Result, MatchResult}
 
--- A count rose: by one at least, unless it is at the greatest number of 64 bits.
+-- A count rose by at least one, unless it is the greatest 64-bit number.
 abbrev pub Rises : ℕ → ℕ → Type 0
 Rises before now = (before ≤ now) × (min (before + 1) (2 ^ 64 - 1) ≤ now)
 
--- Where a call gave `Ok`, the count of faults is as it was, and where it gave an error, it rose.
+-- After `Ok` the count of failed calls is unchanged, and after an error it rose.
 abbrev pub HasCause : {V E : Type 0} → Result V E → ℕ → ℕ → Type 0
 HasCause result before now = MatchResult result (λ _. now ≡ before) (λ _. Rises before now)
 
--- a count after n more, up to the greatest number of 64 bits
+-- a count plus n, at most the greatest 64-bit number
 abbrev pub count_more : ℕ → ℕ → ℕ
 count_more before n = min (before + n) (2 ^ 64 - 1)
 
--- The count of bytes that reads have given is that of before, with those of this one.
+-- A read added the number of bytes that it returned to their count. A failed read left the count unchanged.
 abbrev pub HasGiven : {E : Type 0} → Result ℕ E → ℕ → ℕ → Type 0
 HasGiven result before now = MatchResult result (λ n. now ≡ count_more before n) (λ _. now ≡ before)
 
--- A call of a source failed since, or the source has given as many bytes as are counted.
+-- A call of a source has failed since, or the source has returned as many bytes as the count can hold.
 abbrev pub IsCutOff : ℕ → ℕ → ℕ → Type 0
 IsCutOff before now given = Rises before now ⊎ (2 ^ 64 - 1 ≤ given)
 
--- A read gave a byte more at least, or it failed.
-abbrev pub HasCome : ℕ → ℕ → ℕ → ℕ → Type 0
-HasCome faults faults' given given' = ((faults' ≡ faults) × (count_more given 1 ≤ given')) ⊎ Rises faults faults'
+-- A read returned at least one byte, or it failed.
+abbrev pub HasProgressed : ℕ → ℕ → ℕ → ℕ → Type 0
+HasProgressed faults faults' given given' = ((faults' ≡ faults) × (count_more given 1 ≤ given')) ⊎ Rises faults faults'

@@ -1,7 +1,7 @@
 -- The lines of bytes.
 use Rattle.std.specs.Prelude.{◌≡◌, ◌<◌, ℕ, List, [], ◌∷◌, ◌++◌, if◌then◌else◌, ◌==◌, length, slice_index, map}
 
--- a line: the bytes before its LF, and LF, or nothing where the input ends without one
+-- a line: the bytes before its LF, and the LF, or nothing if the input ends without one
 pub record Line : Type 0 where
   pub text : List ℕ
   pub ending : List ℕ
@@ -14,12 +14,12 @@ ended text = record { text = text; ending = 10 ∷ [] }
 abbrev pub unended : List ℕ → Line
 unended text = record { text = text; ending = [] }
 
--- the byte b in front of the first of the lines
+-- the lines, with the byte b before the first one
 abbrev pub onto_first : ℕ → List Line → List Line
 onto_first b [] = unended (b ∷ []) ∷ []
 onto_first b (line ∷ lines) = record { text = b ∷ line.text; ending = line.ending } ∷ lines
 
--- The lines of a text. What comes after the last LF is a line unless it is empty.
+-- The lines of a text. The bytes after the last LF are a line, unless there are no bytes.
 abbrev pub lines_of : List ℕ → List Line
 lines_of [] = []
 lines_of (b ∷ bytes) = if b == 10 then ended [] ∷ lines_of bytes else onto_first b (lines_of bytes)
@@ -28,7 +28,7 @@ lines_of (b ∷ bytes) = if b == 10 then ended [] ∷ lines_of bytes else onto_f
 abbrev pub line_texts : List ℕ → List (List ℕ)
 line_texts bytes = map (λ (line : Line). line.text) (lines_of bytes)
 
--- the bytes of lines
+-- the bytes of the lines, one after the other
 abbrev pub joined : List Line → List ℕ
 joined [] = []
 joined (line ∷ lines) = (line.text ++ line.ending) ++ joined lines
@@ -37,7 +37,7 @@ joined (line ∷ lines) = (line.text ++ line.ending) ++ joined lines
 abbrev pub HasNoLf : List ℕ → Type 0
 HasNoLf bytes = (k : ℕ) → k < length bytes → ¬ (slice_index bytes k ≡ 10)
 
--- each ends with its one LF
+-- each line ends with its only LF
 abbrev pub AreEnded : List Line → Type 0
 AreEnded [] = Unit {0}
 AreEnded (line ∷ lines) = HasNoLf line.text × (line.ending ≡ 10 ∷ []) × AreEnded lines

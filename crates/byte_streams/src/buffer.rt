@@ -1,17 +1,17 @@
-//! Bytes in an array.
+//! A buffer in an array.
 ghost use Rattle.std.specs.Io.KnownBytes.{Consumes, IsAtEnd, Keeps};
 ghost use Rattle.std.specs.IoError.{error_kind};
 ghost use Rattle.std.specs.Prelude.{◌≡◌, ◌≢◌, ◌+◌, ◌-◌, ◌<◌, ◌≤◌, ◌↔◌, ℕ, List, [], ◌++◌, length, take, drop, Some, IsTrue, false, MatchResult};
 ghost use Rattle.byte_streams.specs.Buffer.{Contents};
-ghost use Rattle.byte_streams.specs.Faults.{HasCause, HasCome, HasGiven, Rises};
+ghost use Rattle.byte_streams.specs.Faults.{HasCause, HasProgressed, HasGiven, Rises};
 
 use crate::source::Source;
 use std::io;
 use std::io::{ErrorKind, Write};
 use std::marker::Model;
 
-/// A buffer of at most `N` bytes in an array. It allocates nothing, and to clear it costs nothing. As a writer it takes the bytes
-/// that fit.
+/// A buffer of at most `N` bytes in an array. It allocates nothing, and clearing it costs nothing. As a writer it takes
+/// the bytes that fit.
 #[derive(Drop)]
 pub struct ArrayBuf<const N: usize> {
     pub(crate) array: [u8; N],
@@ -79,7 +79,7 @@ impl<const N: usize> ArrayBuf<N> {
         self.start = self.end - n;
     }
 
-    /// Whether these bytes fit behind the buffered ones.
+    /// Whether these bytes fit after the buffered ones.
     #[inline(always)]
     pub fn has_room(&self, bytes: &[u8]) -> bool
         ensures { IsTrue result ↔ (length bytes.now ≤ self.now.room) }
@@ -103,7 +103,7 @@ impl<const N: usize> ArrayBuf<N> {
         self.end = end;
     }
 
-    // Moves the bytes to the start of the array, so that all free bytes are behind them.
+    // Moves the bytes to the start of the array, so that all free bytes come after them.
     fn move_to_start(&mut self)
         ensures items { self.new.items ≡ self.old.items }
         ensures room { self.new.room ≡ N - length self.old.items }
@@ -113,7 +113,7 @@ impl<const N: usize> ArrayBuf<N> {
         self.start = 0;
     }
 
-    // Reads once, into the free bytes at the end of the array. 0 is the end.
+    // Reads once, into the free bytes at the end of the array. 0 means the end of the input.
     fn read_behind<R: Source>(&mut self, input: &mut R) -> io::Result<usize>
         requires { 0 < self.old.room }
         ensures read { MatchResult result
@@ -134,8 +134,8 @@ impl<const N: usize> ArrayBuf<N> {
         }
     }
 
-    /// Reads once, and appends the bytes. `false`: the input is at its end. An interrupted read appends nothing, and returns
-    /// `true`.
+    /// Reads once, and appends the bytes. Returns `false` at the end of the input. An interrupted read appends nothing,
+    /// and returns `true`.
     pub fn fill<R: Source>(&mut self, input: &mut R) -> io::Result<bool>
         requires { length self.old.items < N }
         ensures read { MatchResult result
@@ -145,7 +145,7 @@ impl<const N: usize> ArrayBuf<N> {
             (λ e. Keeps (R.remaining input.old) (R.remaining input.new) × (self.new.items ≡ self.old.items)
             × (error_kind e ≢ ErrorKind.Interrupted)) }
         ensures cause { MatchResult result
-            (λ goes_on. IsTrue goes_on → HasCome (R.faults input.old) (R.faults input.new) (R.given input.old) (R.given input.new))
+            (λ goes_on. IsTrue goes_on → HasProgressed (R.faults input.old) (R.faults input.new) (R.given input.old) (R.given input.new))
             (λ _. Rises (R.faults input.old) (R.faults input.new)) }
     {
         self.move_to_start();
@@ -177,7 +177,7 @@ impl<const N: usize> Write for ArrayBuf<N> {
         Ok(())
     }
 
-    // Appends the bytes, and returns an error where they don't all fit.
+    // Appends the bytes. Returns an error if they don't all fit.
     #[inline(always)]
     fn write_all(&mut self, buf: &[u8]) -> io::Result<()> {
         if self.has_room(buf) {

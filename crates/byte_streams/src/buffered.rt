@@ -1,4 +1,4 @@
-//! A sink whose bytes are buffered.
+//! A buffered sink.
 ghost use Rattle.std.specs.Io.KnownBytes.{Appends, Keeps, append_known};
 ghost use Rattle.std.specs.Prelude.{◌≡◌, ◌≤◌, ◌++◌, [], length, take, drop, IfSome, OnOk};
 ghost use Rattle.byte_streams.specs.Faults.{HasCause};
@@ -13,10 +13,10 @@ use std::io::Write;
 // How many bytes are buffered.
 const CAPACITY: usize = 65536;
 
-// More bytes than most texts have that are printed.
+// More bytes than most printed values have.
 const LONGEST: usize = 128;
 
-/// A sink, and up to 65536 buffered bytes that are still to be written to it. It allocates nothing.
+/// A sink with a buffer of up to 65536 bytes that are still to be written to it. It allocates nothing.
 #[derive(Drop)]
 pub struct BufferedSink<W> {
     /// The sink.
@@ -85,7 +85,7 @@ impl<W: Sink> BufferedSink<W> {
         self.sink.write_all(bytes)
     }
 
-    // Writes the buffered bytes, and then what is printed of a value.
+    // Writes the buffered bytes, and then what `Display` prints of a value.
     #[cold]
     #[inline(never)]
     fn print_past<D: Display + Drop>(&mut self, text: D) -> Result<(), Unwritten>
@@ -98,7 +98,7 @@ impl<W: Sink> BufferedSink<W> {
         self.sink.write_fmt(text)
     }
 
-    // Writes bytes with a text for those from `begin` to before `end`, part by part.
+    // Writes bytes with a text in place of those from `begin` to before `end`, part by part.
     #[inline(never)]
     fn write_parts(
         &mut self,
@@ -149,8 +149,8 @@ impl<W: Sink> Sink for BufferedSink<W> {
 
     ghost through = { λ buffered. W.through buffered.sink };
 
-    // A few bytes that don't fit are appended after the others are written. They have one place in the code that copies them,
-    // so that the compiler lays out a constant or an array in the buffer itself.
+    // Writes the buffered bytes first if the new ones don't fit. Bytes longer than the whole buffer aren't buffered.
+    // Only one call appends bytes, so that the compiler builds a constant or an array in the buffer itself.
     #[inline(always)]
     fn write_all(&mut self, bytes: &[u8]) -> Result<(), Unwritten> {
         if !self.buffer.has_room(bytes) {
@@ -174,7 +174,7 @@ impl<W: Sink> Sink for BufferedSink<W> {
         }
     }
 
-    // Keeps the bytes buffered: after a write that fails nothing is known of them.
+    // Leaves the bytes buffered, since after a failed write nothing is known of them.
     fn flush(&mut self) -> Result<(), Unwritten> {
         self.sink.flush()
     }

@@ -1,4 +1,4 @@
-//! Readers and writers of std, whose errors are counted.
+//! Counts the errors of readers and writers of std.
 ghost use Rattle.std.specs.Prelude.{◌≡◌, ◌≤◌, ◌↔◌, IsTrue, None};
 ghost use Rattle.byte_streams.specs.Faults.{Rises, IsCutOff};
 
@@ -8,10 +8,10 @@ use std::fmt::Display;
 use std::io;
 use std::io::{Read, Write};
 
-/// A reader or a writer of std. It counts the calls of it that gave an error and the bytes that its reads gave, both up to
+/// A reader or a writer of std. It counts the failed calls and the bytes that reads returned, both up to
 /// 18446744073709551615, and keeps the last error of a write or a flush.
 ///
-/// A call of a `Vec` fails where memory is short.
+/// A call on a `Vec` fails if memory is short.
 #[derive(Drop)]
 pub struct Counted<T> {
     inner: T,
@@ -21,7 +21,7 @@ pub struct Counted<T> {
 }
 
 impl<T> Counted<T> {
-    /// The same reader or writer, of which no call has failed yet.
+    /// Wraps a reader or writer, with counts of 0 and no error.
     pub fn new(inner: T) -> Counted<T>
         ensures inner { result.inner ≡ inner }
         ensures faults { result.faults ≡ 0 }
@@ -57,14 +57,14 @@ impl<T> Counted<T> {
         (inner, error)
     }
 
-    // Whether a call has failed, or reads have given 18446744073709551615 bytes.
+    // Whether a call has failed, or reads have returned 18446744073709551615 bytes.
     fn is_cut_off(&self) -> bool
         ensures { IsTrue result ↔ IsCutOff 0 self.now.faults self.now.given }
     {
         self.faults > 0 || self.given == u64::MAX
     }
 
-    /// A count of readers that were cut off, and this one, where it was: a call of it has failed, or it has given
+    /// A count of readers that were cut off, raised by one if this one was: a call has failed, or reads have returned
     /// 18446744073709551615 bytes.
     pub fn count_cut_off(&self, count: u64) -> u64
         ensures cut_off { IsCutOff 0 self.now.faults self.now.given → Rises count result }
@@ -78,7 +78,7 @@ impl<T> Counted<T> {
         }
     }
 
-    // Counts a call that gave an error.
+    // Counts a failed call.
     fn count_fault(&mut self)
         ensures inner { self.new.inner ≡ self.old.inner }
         ensures faults { Rises self.old.faults self.new.faults }
@@ -87,7 +87,7 @@ impl<T> Counted<T> {
         self.faults = self.faults.saturating_add(1);
     }
 
-    // The same, and keeps the error.
+    // Counts a failed call, and keeps its error.
     #[cold]
     #[inline(never)]
     fn fail(&mut self, error: io::Error) -> Unwritten
@@ -154,7 +154,7 @@ impl<R: Read> Source for Counted<R> {
 
 #[cfg(test)]
 mod tests {
-    //! What is written, and calls that fail.
+    //! Tests of reads, writes and failed calls.
     use crate::{Bytes, Counted, Lent, Sink, Source, Unwritten};
     use std::io;
     use std::io::{ErrorKind, Read, Write};
@@ -167,7 +167,7 @@ mod tests {
         out.flush()
     }
 
-    // Takes nothing, and gives nothing.
+    // A reader and writer whose calls all fail.
     #[derive(Drop)]
     struct Broken;
 

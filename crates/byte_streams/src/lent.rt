@@ -1,4 +1,4 @@
-//! A writer of std that is lent, whose errors are counted.
+//! Counts the errors of a borrowed writer of std.
 ghost use Rattle.std.specs.Prelude.{◌≡◌, None, IfSome};
 ghost use Rattle.byte_streams.specs.Faults.{Rises};
 
@@ -7,8 +7,8 @@ use std::fmt::Display;
 use std::io;
 use std::io::{ErrorKind, Write};
 
-/// A writer of std that is lent. As [`Counted`](crate::Counted) it counts the calls that gave an error, and keeps the last
-/// one. Its owner has what was written to it.
+/// A borrowed writer of std. Like [`Counted`](crate::Counted) it counts the failed calls, and keeps the last error. The
+/// writer's owner has what was written to it.
 #[derive(Drop)]
 pub struct Lent<'a, W> {
     inner: &'a mut W,
@@ -17,7 +17,7 @@ pub struct Lent<'a, W> {
 }
 
 impl<'a, W> Lent<'a, W> {
-    /// The same writer, of which no call has failed yet.
+    /// Borrows a writer, with a count of 0 and no error.
     pub fn new(inner: &'a mut W) -> Lent<'a, W>
         ensures inner { result.inner.now ≡ inner.old }
         ensures through { result.inner.ghost_name ≡ inner.entry.ghost_name }
@@ -31,7 +31,7 @@ impl<'a, W> Lent<'a, W> {
         }
     }
 
-    /// The last error of a write or a flush, or one of the kind `Other` where none failed.
+    /// The last error of a write or a flush, or one of the kind `Other` if none failed.
     pub fn into_error(self) -> io::Error
         ensures { IfSome self.entry.error (λ error. result ≡ error) }
     {
@@ -46,7 +46,7 @@ impl<'a, W> Lent<'a, W> {
         }
     }
 
-    // Counts a call that gave an error, and keeps the error.
+    // Counts a failed call, and keeps its error.
     #[cold]
     #[inline(never)]
     fn fail(&mut self, error: io::Error) -> Unwritten

@@ -1,4 +1,4 @@
-//! What programs read and write, with a count of the calls that gave an error, its lines, and buffers.
+//! Readers and writers that count their failed calls, buffers, and functions that split bytes into lines.
 #![tactic(auto)]
 
 mod buffer;

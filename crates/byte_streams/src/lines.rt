@@ -1,16 +1,16 @@
-//! The lines of buffered bytes.
+//! Splits lines off buffered bytes.
 ghost use Rattle.std.specs.Prelude.{◌≡◌, ◌∷◌, ◌++◌, ◌<◌, length, MatchOption};
 ghost use Rattle.byte_streams.specs.Lines.{HasNoLf, line_texts};
 
 use memchr::memchr;
 
-/// How many bytes of a line may have what a program looks for: 262144.
+/// How many bytes of a line a program searches: 262144.
 pub const LINE_LIMIT: usize = 262_144;
 
-/// How many bytes of a longer line a program sees behind [`LINE_LIMIT`], so that it knows what follows: 256.
+/// How many bytes after [`LINE_LIMIT`] a program keeps of a longer line, so that it knows what follows: 256.
 pub const LOOKAHEAD: usize = 256;
 
-/// The first line that ends with LF, without its LF, and the bytes after it. `None`: the bytes have no LF.
+/// The first line, without its LF, and the bytes after that LF. `None` if the bytes have no LF.
 #[inline(always)]
 pub fn whole_line(bytes: &[u8]) -> Option<(&[u8], &[u8])>
     ensures { MatchOption result (HasNoLf bytes.now)
@@ -22,7 +22,7 @@ pub fn whole_line(bytes: &[u8]) -> Option<(&[u8], &[u8])>
     }
 }
 
-/// The first line of bytes that aren't empty, without its LF, and the bytes after it. The last line may have no LF.
+/// The first line, without its LF, and the bytes after it. The bytes must not be empty. The last line may have no LF.
 #[inline(always)]
 pub fn first_line(bytes: &[u8]) -> (&[u8], &[u8])
     requires { 0 < length bytes.now }

@@ -1,4 +1,4 @@
-//! Files of a system, with a count of the openings that failed.
+//! Opens files, and counts the failures to open them.
 ghost use Rattle.std.specs.Prelude.{◌≡◌, IfOk};
 ghost use Rattle.byte_streams.specs.Faults.{HasCause, Rises};
 
@@ -7,7 +7,7 @@ use std::io::ErrorKind;
 use std::rt::Files;
 use std::{fs, io, str};
 
-/// Opens files by their names, and counts the openings that gave an error, up to 18446744073709551615.
+/// Opens files by name, and counts the failures to open them, up to 18446744073709551615.
 #[derive(Drop)]
 pub struct Opener<'a, R> {
     rt: &'a R,
@@ -15,14 +15,14 @@ pub struct Opener<'a, R> {
 }
 
 impl<'a, R> Opener<'a, R> {
-    /// The files of the system, of which no opening has failed yet.
+    /// Opens the files of this system. No failure is counted yet.
     pub fn new(rt: &'a R) -> Opener<'a, R>
         ensures { result.faults ≡ 0 }
     {
         Opener { rt, faults: 0 }
     }
 
-    // Counts an opening that gave an error.
+    // Counts a failure to open a file.
     fn count_fault(&mut self)
         ensures { Rises self.old.faults self.new.faults }
     {
@@ -31,7 +31,7 @@ impl<'a, R> Opener<'a, R> {
 }
 
 impl<R: Files> Opener<'_, R> {
-    /// The file of a name, of which no call has failed yet. No file has a name that isn't UTF-8.
+    /// Opens a file by name. No call of the returned file has failed yet. A name that isn't UTF-8 is an error.
     pub fn open(&mut self, name: &[u8]) -> io::Result<Counted<R::File>>
         ensures begun { IfOk result (λ file. file.faults ≡ 0) }
         ensures cause { HasCause result self.old.faults self.new.faults }

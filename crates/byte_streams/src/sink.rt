@@ -1,23 +1,23 @@
-//! What is written to.
+//! Writers.
 ghost use Rattle.std.specs.Io.KnownBytes.{Appends, Keeps};
 ghost use Rattle.std.specs.Prelude.{◌≡◌, ℕ, List, IfSome, OnOk, Option};
 ghost use Rattle.byte_streams.specs.Faults.{HasCause};
 
 use std::fmt::Display;
 
-/// A write or a flush failed. It is small, since each line hands it on.
+/// A write or a flush failed. The type is small, since it is part of the result for each line.
 #[derive(Clone, Copy, Debug, PartialEq, Eq)]
 pub struct Unwritten;
 
-/// What is written to. An error says that a call of it failed.
+/// A writer. An error means that one of its calls failed.
 pub trait Sink {
-    // The bytes that it holds, where they are known.
+    // The bytes that it contains, if they are known.
     ghost contents: { Self → Option (List ℕ) };
 
-    // How often a call of it has failed.
+    // How many of its calls have failed.
     ghost faults: { Self → ℕ };
 
-    // The number that stands for the reference that it writes through, if it does.
+    // Identifies the reference that it writes through, if there is one.
     ghost through: { Self → ℕ } = { λ _. 0 };
 
     /// Writes all of the bytes.
@@ -34,7 +34,7 @@ pub trait Sink {
         ensures cause { HasCause result (faults self.old) (faults self.new) }
         ensures through { through self.new ≡ through self.old };
 
-    /// Hands on what it holds back.
+    /// Flushes the writer.
     fn flush(&mut self) -> Result<(), Unwritten>
         ensures bytes { Keeps (contents self.old) (contents self.new) }
         ensures cause { HasCause result (faults self.old) (faults self.new) }

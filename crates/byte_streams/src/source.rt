@@ -1,4 +1,4 @@
-//! What is read from.
+//! Readers.
 ghost use Rattle.std.specs.Io.{ReadsAtMost};
 ghost use Rattle.std.specs.Io.KnownBytes.{ReadConsumes};
 ghost use Rattle.std.specs.Prelude.{◌≡◌, ℕ, List, Option};
@@ -7,18 +7,18 @@ ghost use Rattle.byte_streams.specs.Faults.{HasCause, HasGiven};
 use std::io;
 use std::io::Read;
 
-/// What is read from. An error says that a call of it failed.
+/// A reader. An error means that one of its calls failed.
 pub trait Source {
-    // The bytes that reads will give from here on, where they are known.
+    // The unread bytes, if they are known.
     ghost remaining: { Self → Option (List ℕ) };
 
-    // How often a call of it has failed.
+    // How many of its calls have failed.
     ghost faults: { Self → ℕ };
 
-    // How many bytes reads of it have given, up to 18446744073709551615.
+    // How many bytes its reads have returned, up to 18446744073709551615.
     ghost given: { Self → ℕ };
 
-    /// Reads some bytes to the front of a buffer, and answers how many: none at the end, or where there is no room.
+    /// Reads some bytes into the start of a buffer. Returns how many: 0 at the end, or if the buffer has length 0.
     fn read(&mut self, buffer: &mut [u8]) -> io::Result<usize>
         ensures bound { ReadsAtMost result buffer.new }
         ensures bytes { ReadConsumes (remaining self.old) (remaining self.new) result buffer.new }
@@ -26,7 +26,7 @@ pub trait Source {
         ensures cause { HasCause result (faults self.old) (faults self.new) };
 }
 
-/// Bytes in memory, of which no read fails.
+/// Bytes in memory. Reading them never fails.
 #[derive(Clone, Copy)]
 pub struct Bytes<'a> {
     rest: &'a [u8],
@@ -34,7 +34,7 @@ pub struct Bytes<'a> {
 }
 
 impl<'a> Bytes<'a> {
-    /// These bytes, of which none was read yet.
+    /// A source of these bytes, all unread.
     pub fn new(bytes: &'a [u8]) -> Bytes<'a>
         ensures rest { result.rest.now ≡ bytes.now }
         ensures given { result.given ≡ 0 }

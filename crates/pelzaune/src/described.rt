@@ -4,19 +4,19 @@ ghost use Rattle.time_values.specs.Calendar.{greatest_year};
 ghost use Rattle.time_record.specs.Resolution.{IsDated, IsTimed, IsOffset, IsPlain, IsUtcMoment};
 ghost use Rattle.byte_streams.specs.Lines.{line_texts};
 ghost use Rattle.pelzaune_ffi.specs.Columns.{IsColumn};
-ghost use Rattle.pelzaune_ffi.specs.Handed.{IsHanded, IsCountHanded, ArePartsHanded, HasDate, HasTime, HasOffset, HasPlain, HasUtc, HasMoment, HasInstant, over_empty, of_record, of_moment, HandsCount};
+ghost use Rattle.pelzaune_ffi.specs.Results.{IsStored, IsCountStored, ArePartsStored, HasDate, HasTime, HasOffset, HasPlain, HasUtc, HasMoment, HasInstant, over_empty, of_record, of_moment, StoresCount};
 ghost use Rattle.pelzaune_ffi.specs.Described as Described;
-ghost use Rattle.pelzaune_ffi.specs.Described.{HandsHeld, Holds, HandsRead};
-ghost use Rattle.pelzaune_ffi.specs.Handed as Formats;
-ghost use Rattle.pelzaune_ffi.specs.Places.{HandsPlace, HandsReadPlace};
+ghost use Rattle.pelzaune_ffi.specs.Described.{StoresBySteps, StoresDescription, StoresByDescription};
+ghost use Rattle.pelzaune_ffi.specs.Results as Formats;
+ghost use Rattle.pelzaune_ffi.specs.Places.{StoresPlace, StoresPlaceByDescription};
 
-use pelzaune_ffi::columns::{column_by, column_held, column_read};
-use pelzaune_ffi::handing::{count, hand, parts};
-use pelzaune_ffi::held::{HeldDescription, describe};
+use pelzaune_ffi::columns::{column_by, column_read, column_stored};
 use pelzaune_ffi::locating::{Place, locate_by, locate_read};
 use pelzaune_ffi::parts::{
     DateParts, Instant, LocalParts, MomentParts, Nanoseconds, OffsetParts, Parts, TimeParts,
 };
+use pelzaune_ffi::results::{count, parts, store_value};
+use pelzaune_ffi::stored::{StoredDescription, describe};
 use time_values::{Date, OffsetDateTime, PlainDateTime, Time, UtcDateTime, UtcOffset};
 
 /// Parses a description in the syntax with this number and stores it in `out`. Returns 0, or the status of its first
@@ -25,10 +25,10 @@ use time_values::{Date, OffsetDateTime, PlainDateTime, Time, UtcDateTime, UtcOff
 pub extern "C" fn pelzaune_describe(
     syntax: u32,
     text: &[u8],
-    out: &mut HeldDescription,
+    out: &mut StoredDescription,
     index: &mut usize,
 ) -> u32
-    ensures { Holds (Described.syntax_of syntax) text.now result out.old out.new index.old index.new }
+    ensures { StoresDescription (Described.syntax_of syntax) text.now result out.old out.new index.old index.new }
 {
     describe(syntax, text, out, index)
 }
@@ -36,96 +36,99 @@ pub extern "C" fn pelzaune_describe(
 /// Parses the date of a text by a stored description. On an error `out` is unchanged.
 #[unsafe(no_mangle)]
 pub extern "C" fn pelzaune_described_date(
-    description: &HeldDescription,
+    description: &StoredDescription,
     text: &[u8],
     out: &mut DateParts,
 ) -> u32
-    ensures { HandsHeld (IsHanded HasDate) (over_empty (IsDated greatest_year)) description.now text.now result out.old out.new }
+    ensures { StoresBySteps (IsStored HasDate) (over_empty (IsDated greatest_year)) description.now text.now
+        result out.old out.new }
 {
-    hand::<Date, DateParts, HeldDescription>(description, text, out)
+    store_value::<Date, DateParts, StoredDescription>(description, text, out)
 }
 
 /// Parses the time of a text by a stored description. On an error `out` is unchanged.
 #[unsafe(no_mangle)]
 pub extern "C" fn pelzaune_described_time(
-    description: &HeldDescription,
+    description: &StoredDescription,
     text: &[u8],
     out: &mut TimeParts,
 ) -> u32
-    ensures { HandsHeld (IsHanded HasTime) (over_empty IsTimed) description.now text.now result out.old out.new }
+    ensures { StoresBySteps (IsStored HasTime) (over_empty IsTimed) description.now text.now result out.old out.new }
 {
-    hand::<Time, TimeParts, HeldDescription>(description, text, out)
+    store_value::<Time, TimeParts, StoredDescription>(description, text, out)
 }
 
 /// Parses the offset of a text by a stored description. On an error `out` is unchanged.
 #[unsafe(no_mangle)]
 pub extern "C" fn pelzaune_described_offset(
-    description: &HeldDescription,
+    description: &StoredDescription,
     text: &[u8],
     out: &mut OffsetParts,
 ) -> u32
-    ensures { HandsHeld (IsHanded HasOffset) (over_empty IsOffset) description.now text.now result out.old out.new }
+    ensures { StoresBySteps (IsStored HasOffset) (over_empty IsOffset) description.now text.now result out.old out.new }
 {
-    hand::<UtcOffset, OffsetParts, HeldDescription>(description, text, out)
+    store_value::<UtcOffset, OffsetParts, StoredDescription>(description, text, out)
 }
 
 /// Parses the date and time of a text by a stored description. On an error `out` is unchanged.
 #[unsafe(no_mangle)]
 pub extern "C" fn pelzaune_described_local(
-    description: &HeldDescription,
+    description: &StoredDescription,
     text: &[u8],
     out: &mut LocalParts,
 ) -> u32
-    ensures { HandsHeld (IsHanded HasPlain) (over_empty (IsPlain greatest_year)) description.now text.now result out.old out.new }
+    ensures { StoresBySteps (IsStored HasPlain) (over_empty (IsPlain greatest_year)) description.now text.now
+        result out.old out.new }
 {
-    hand::<PlainDateTime, LocalParts, HeldDescription>(description, text, out)
+    store_value::<PlainDateTime, LocalParts, StoredDescription>(description, text, out)
 }
 
 /// Parses the date and time in UTC of a text by a stored description. On an error `out` is unchanged.
 #[unsafe(no_mangle)]
 pub extern "C" fn pelzaune_described_utc(
-    description: &HeldDescription,
+    description: &StoredDescription,
     text: &[u8],
     out: &mut LocalParts,
 ) -> u32
-    ensures { HandsHeld (IsHanded HasUtc) (over_empty (IsUtcMoment greatest_year)) description.now text.now result out.old out.new }
+    ensures { StoresBySteps (IsStored HasUtc) (over_empty (IsUtcMoment greatest_year)) description.now text.now
+        result out.old out.new }
 {
-    hand::<UtcDateTime, LocalParts, HeldDescription>(description, text, out)
+    store_value::<UtcDateTime, LocalParts, StoredDescription>(description, text, out)
 }
 
 /// Parses the date, time and offset of a text by a stored description. On an error `out` is unchanged.
 #[unsafe(no_mangle)]
 pub extern "C" fn pelzaune_described_moment(
-    description: &HeldDescription,
+    description: &StoredDescription,
     text: &[u8],
     out: &mut MomentParts,
 ) -> u32
-    ensures { HandsHeld (IsHanded HasMoment) of_moment description.now text.now result out.old out.new }
+    ensures { StoresBySteps (IsStored HasMoment) of_moment description.now text.now result out.old out.new }
 {
-    hand::<OffsetDateTime, MomentParts, HeldDescription>(description, text, out)
+    store_value::<OffsetDateTime, MomentParts, StoredDescription>(description, text, out)
 }
 
 /// Parses the instant of a text's date, time and offset by a stored description. On an error `out` is unchanged.
 #[unsafe(no_mangle)]
 pub extern "C" fn pelzaune_described_instant(
-    description: &HeldDescription,
+    description: &StoredDescription,
     text: &[u8],
     out: &mut Instant,
 ) -> u32
-    ensures { HandsHeld (IsHanded HasInstant) of_moment description.now text.now result out.old out.new }
+    ensures { StoresBySteps (IsStored HasInstant) of_moment description.now text.now result out.old out.new }
 {
-    hand::<OffsetDateTime, Instant, HeldDescription>(description, text, out)
+    store_value::<OffsetDateTime, Instant, StoredDescription>(description, text, out)
 }
 
 /// Parses the nanoseconds from 1970-01-01T00:00:00Z to the instant of a text, by a stored description. On an error
 /// `out` is unchanged.
 #[unsafe(no_mangle)]
 pub extern "C" fn pelzaune_described_nanoseconds(
-    description: &HeldDescription,
+    description: &StoredDescription,
     text: &[u8],
     out: &mut Nanoseconds,
 ) -> u32
-    ensures { HandsHeld IsCountHanded of_moment description.now text.now result out.old out.new }
+    ensures { StoresBySteps IsCountStored of_moment description.now text.now result out.old out.new }
 {
     count(description, text, out)
 }
@@ -134,11 +137,11 @@ pub extern "C" fn pelzaune_described_nanoseconds(
 /// own. Where the text isn't parsed as a whole, all of `out` is unchanged.
 #[unsafe(no_mangle)]
 pub extern "C" fn pelzaune_described_parts(
-    description: &HeldDescription,
+    description: &StoredDescription,
     text: &[u8],
     out: &mut Parts,
 ) -> u32
-    ensures { HandsHeld ArePartsHanded of_record description.now text.now result out.old out.new }
+    ensures { StoresBySteps ArePartsStored of_record description.now text.now result out.old out.new }
 {
     parts(description, text, out)
 }
@@ -146,23 +149,23 @@ pub extern "C" fn pelzaune_described_parts(
 /// Parses each line of a text by a stored description, as `pelzaune_column` does by a format.
 #[unsafe(no_mangle)]
 pub extern "C" fn pelzaune_described_column(
-    description: &HeldDescription,
+    description: &StoredDescription,
     text: &[u8],
     entries: &mut [Nanoseconds],
     refused: &mut usize,
 ) -> usize
     ensures lines { result ≡ length (line_texts text.now) }
-    ensures entries { IsColumn (HandsHeld IsCountHanded of_moment description.now) (line_texts text.now)
+    ensures entries { IsColumn (StoresBySteps IsCountStored of_moment description.now) (line_texts text.now)
         entries.old entries.new refused.new }
 {
-    column_held(description, text, entries, refused)
+    column_stored(description, text, entries, refused)
 }
 
 /// Writes to `out` where a text fails that the format with this number rejects. Returns the status of what was expected
 /// there, numbered as by a parse. Where the format parses the whole text, returns 0 and leaves `out` unchanged.
 #[unsafe(no_mangle)]
 pub extern "C" fn pelzaune_locate(format: u32, text: &[u8], out: &mut Place) -> u32
-    ensures { HandsPlace (Formats.format_of format) text.now result out.old out.new }
+    ensures { StoresPlace (Formats.format_of format) text.now result out.old out.new }
 {
     locate_by(format, text, out)
 }
@@ -176,7 +179,7 @@ pub extern "C" fn pelzaune_read_locate(
     text: &[u8],
     out: &mut Place,
 ) -> u32
-    ensures { HandsReadPlace (Described.syntax_of syntax) description.now text.now result out.old out.new }
+    ensures { StoresPlaceByDescription (Described.syntax_of syntax) description.now text.now result out.old out.new }
 {
     locate_read(syntax, description, text, out)
 }
@@ -197,7 +200,7 @@ pub extern "C" fn pelzaune_column(
     refused: &mut usize,
 ) -> usize
     ensures lines { result ≡ length (line_texts text.now) }
-    ensures entries { IsColumn (HandsCount (Formats.format_of format)) (line_texts text.now)
+    ensures entries { IsColumn (StoresCount (Formats.format_of format)) (line_texts text.now)
         entries.old entries.new refused.new }
 {
     column_by(format, text, entries, refused)
@@ -214,8 +217,8 @@ pub extern "C" fn pelzaune_read_column(
     refused: &mut usize,
 ) -> usize
     ensures lines { result ≡ length (line_texts text.now) }
-    ensures entries { IsColumn (HandsRead IsCountHanded of_moment (Described.syntax_of syntax) description.now)
-        (line_texts text.now) entries.old entries.new refused.new }
+    ensures entries { IsColumn (StoresByDescription IsCountStored of_moment (Described.syntax_of syntax)
+        description.now) (line_texts text.now) entries.old entries.new refused.new }
 {
     column_read(syntax, description, text, entries, refused)
 }

@@ -7,18 +7,18 @@
 ghost use Rattle.std.specs.Prelude.{◌≡◌, length};
 ghost use Rattle.time_values.specs.Calendar.{greatest_year};
 ghost use Rattle.time_record.specs.Resolution.{IsDated, IsTimed, IsOffset, IsPlain, IsUtcMoment};
-ghost use Rattle.pelzaune_ffi.specs.Described.{Checks, HandsRead, syntax_of};
-ghost use Rattle.pelzaune_ffi.specs.Handed.{format_of, Hands, HandsCount, HandsParts, IsHanded, IsCountHanded, ArePartsHanded, HasDate, HasTime, HasOffset, HasPlain, HasUtc, HasMoment, HasInstant, over_empty, of_record, of_moment, HandsText};
+ghost use Rattle.pelzaune_ffi.specs.Described.{Checks, StoresByDescription, syntax_of};
+ghost use Rattle.pelzaune_ffi.specs.Results.{format_of, StoresValue, StoresCount, StoresParts, IsStored, IsCountStored, ArePartsStored, HasDate, HasTime, HasOffset, HasPlain, HasUtc, HasMoment, HasInstant, over_empty, of_record, of_moment, StoresText};
 ghost use Rattle.pelzaune_ffi.specs.Status.{laid_over, status_text};
 
 mod described;
 
 use pelzaune_ffi::descriptions::check;
-use pelzaune_ffi::handing::{count_read, hand_by, hand_read, parts_by, parts_read};
 use pelzaune_ffi::moments::{count_by, local_by, moment_by};
 use pelzaune_ffi::parts::{
     DateParts, Instant, LocalParts, MomentParts, Nanoseconds, OffsetParts, Parts, TimeParts,
 };
+use pelzaune_ffi::results::{count_read, parts_by, parts_read, store_value_by, store_value_read};
 use pelzaune_ffi::text::{lay, pieces_of};
 use pelzaune_ffi::writing::format_moment;
 use time_values::{Date, OffsetDateTime, PlainDateTime, Time, UtcDateTime, UtcOffset};
@@ -46,32 +46,34 @@ pub extern "C" fn pelzaune_write_text(status: u32, buffer: &mut [u8]) -> usize
 /// Parses the date of a text by the format with this number. On an error `out` is unchanged.
 #[unsafe(no_mangle)]
 pub extern "C" fn pelzaune_parse_date(format: u32, text: &[u8], out: &mut DateParts) -> u32
-    ensures { Hands HasDate (over_empty (IsDated greatest_year)) (format_of format) text.now result out.old out.new }
+    ensures { StoresValue HasDate (over_empty (IsDated greatest_year)) (format_of format) text.now
+        result out.old out.new }
 {
-    hand_by::<Date, DateParts>(format, text, out)
+    store_value_by::<Date, DateParts>(format, text, out)
 }
 
 /// Parses the time of a text by the format with this number. On an error `out` is unchanged.
 #[unsafe(no_mangle)]
 pub extern "C" fn pelzaune_parse_time(format: u32, text: &[u8], out: &mut TimeParts) -> u32
-    ensures { Hands HasTime (over_empty IsTimed) (format_of format) text.now result out.old out.new }
+    ensures { StoresValue HasTime (over_empty IsTimed) (format_of format) text.now result out.old out.new }
 {
-    hand_by::<Time, TimeParts>(format, text, out)
+    store_value_by::<Time, TimeParts>(format, text, out)
 }
 
 /// Parses the offset of a text by the format with this number. On an error `out` is unchanged.
 #[unsafe(no_mangle)]
 pub extern "C" fn pelzaune_parse_offset(format: u32, text: &[u8], out: &mut OffsetParts) -> u32
-    ensures { Hands HasOffset (over_empty IsOffset) (format_of format) text.now result out.old out.new }
+    ensures { StoresValue HasOffset (over_empty IsOffset) (format_of format) text.now result out.old out.new }
 {
-    hand_by::<UtcOffset, OffsetParts>(format, text, out)
+    store_value_by::<UtcOffset, OffsetParts>(format, text, out)
 }
 
 /// Parses the date and time of a text by the format with this number, and drops an offset. On an error `out` is
 /// unchanged.
 #[unsafe(no_mangle)]
 pub extern "C" fn pelzaune_parse_local(format: u32, text: &[u8], out: &mut LocalParts) -> u32
-    ensures { Hands HasPlain (over_empty (IsPlain greatest_year)) (format_of format) text.now result out.old out.new }
+    ensures { StoresValue HasPlain (over_empty (IsPlain greatest_year)) (format_of format) text.now
+        result out.old out.new }
 {
     local_by(format, text, out)
 }
@@ -79,15 +81,16 @@ pub extern "C" fn pelzaune_parse_local(format: u32, text: &[u8], out: &mut Local
 /// Parses the date and time in UTC of a text by the format with this number. On an error `out` is unchanged.
 #[unsafe(no_mangle)]
 pub extern "C" fn pelzaune_parse_utc(format: u32, text: &[u8], out: &mut LocalParts) -> u32
-    ensures { Hands HasUtc (over_empty (IsUtcMoment greatest_year)) (format_of format) text.now result out.old out.new }
+    ensures { StoresValue HasUtc (over_empty (IsUtcMoment greatest_year)) (format_of format) text.now
+        result out.old out.new }
 {
-    hand_by::<UtcDateTime, LocalParts>(format, text, out)
+    store_value_by::<UtcDateTime, LocalParts>(format, text, out)
 }
 
 /// Parses the date, time and offset of a text by the format with this number. On an error `out` is unchanged.
 #[unsafe(no_mangle)]
 pub extern "C" fn pelzaune_parse_moment(format: u32, text: &[u8], out: &mut MomentParts) -> u32
-    ensures { Hands HasMoment of_moment (format_of format) text.now result out.old out.new }
+    ensures { StoresValue HasMoment of_moment (format_of format) text.now result out.old out.new }
 {
     moment_by::<MomentParts>(format, text, out)
 }
@@ -95,7 +98,7 @@ pub extern "C" fn pelzaune_parse_moment(format: u32, text: &[u8], out: &mut Mome
 /// Parses the instant of a text's date, time and offset by the format with this number. On an error `out` is unchanged.
 #[unsafe(no_mangle)]
 pub extern "C" fn pelzaune_parse_instant(format: u32, text: &[u8], out: &mut Instant) -> u32
-    ensures { Hands HasInstant of_moment (format_of format) text.now result out.old out.new }
+    ensures { StoresValue HasInstant of_moment (format_of format) text.now result out.old out.new }
 {
     moment_by::<Instant>(format, text, out)
 }
@@ -104,7 +107,7 @@ pub extern "C" fn pelzaune_parse_instant(format: u32, text: &[u8], out: &mut Ins
 /// with this number. An instant that doesn't fit 64 bits has a status of its own. On an error `out` is unchanged.
 #[unsafe(no_mangle)]
 pub extern "C" fn pelzaune_parse_nanoseconds(format: u32, text: &[u8], out: &mut Nanoseconds) -> u32
-    ensures { HandsCount (format_of format) text.now result out.old out.new }
+    ensures { StoresCount (format_of format) text.now result out.old out.new }
 {
     count_by(format, text, out)
 }
@@ -113,7 +116,7 @@ pub extern "C" fn pelzaune_parse_nanoseconds(format: u32, text: &[u8], out: &mut
 /// of its own, and is unchanged where that isn't 0. Where the text isn't parsed as a whole, all of `out` is unchanged.
 #[unsafe(no_mangle)]
 pub extern "C" fn pelzaune_parse_parts(format: u32, text: &[u8], out: &mut Parts) -> u32
-    ensures { HandsParts (format_of format) text.now result out.old out.new }
+    ensures { StoresParts (format_of format) text.now result out.old out.new }
 {
     parts_by(format, text, out)
 }
@@ -130,7 +133,7 @@ pub extern "C" fn pelzaune_format_moment(
     buffer: &mut [u8],
     count: &mut usize,
 ) -> u32
-    ensures { HandsText (format_of format) moment.now result buffer.old buffer.new count.old count.new }
+    ensures { StoresText (format_of format) moment.now result buffer.old buffer.new count.old count.new }
 {
     format_moment(format, moment, buffer, count)
 }
@@ -156,10 +159,10 @@ pub extern "C" fn pelzaune_read_date(
     text: &[u8],
     out: &mut DateParts,
 ) -> u32
-    ensures { HandsRead (IsHanded HasDate) (over_empty (IsDated greatest_year)) (syntax_of syntax) description.now text.now
-        result out.old out.new }
+    ensures { StoresByDescription (IsStored HasDate) (over_empty (IsDated greatest_year)) (syntax_of syntax)
+        description.now text.now result out.old out.new }
 {
-    hand_read::<Date, DateParts>(syntax, description, text, out)
+    store_value_read::<Date, DateParts>(syntax, description, text, out)
 }
 
 /// Parses the time of a text by a description in the syntax with this number. On an error `out` is unchanged.
@@ -170,10 +173,10 @@ pub extern "C" fn pelzaune_read_time(
     text: &[u8],
     out: &mut TimeParts,
 ) -> u32
-    ensures { HandsRead (IsHanded HasTime) (over_empty IsTimed) (syntax_of syntax) description.now text.now
+    ensures { StoresByDescription (IsStored HasTime) (over_empty IsTimed) (syntax_of syntax) description.now text.now
         result out.old out.new }
 {
-    hand_read::<Time, TimeParts>(syntax, description, text, out)
+    store_value_read::<Time, TimeParts>(syntax, description, text, out)
 }
 
 /// Parses the offset of a text by a description in the syntax with this number. On an error `out` is unchanged.
@@ -184,10 +187,10 @@ pub extern "C" fn pelzaune_read_offset(
     text: &[u8],
     out: &mut OffsetParts,
 ) -> u32
-    ensures { HandsRead (IsHanded HasOffset) (over_empty IsOffset) (syntax_of syntax) description.now text.now
+    ensures { StoresByDescription (IsStored HasOffset) (over_empty IsOffset) (syntax_of syntax) description.now text.now
         result out.old out.new }
 {
-    hand_read::<UtcOffset, OffsetParts>(syntax, description, text, out)
+    store_value_read::<UtcOffset, OffsetParts>(syntax, description, text, out)
 }
 
 /// Parses the date and time of a text by a description in the syntax with this number. On an error `out` is unchanged.
@@ -198,10 +201,10 @@ pub extern "C" fn pelzaune_read_local(
     text: &[u8],
     out: &mut LocalParts,
 ) -> u32
-    ensures { HandsRead (IsHanded HasPlain) (over_empty (IsPlain greatest_year)) (syntax_of syntax) description.now text.now
-        result out.old out.new }
+    ensures { StoresByDescription (IsStored HasPlain) (over_empty (IsPlain greatest_year)) (syntax_of syntax)
+        description.now text.now result out.old out.new }
 {
-    hand_read::<PlainDateTime, LocalParts>(syntax, description, text, out)
+    store_value_read::<PlainDateTime, LocalParts>(syntax, description, text, out)
 }
 
 /// Parses the date and time in UTC of a text by a description in the syntax with this number. On an error `out` is
@@ -213,10 +216,10 @@ pub extern "C" fn pelzaune_read_utc(
     text: &[u8],
     out: &mut LocalParts,
 ) -> u32
-    ensures { HandsRead (IsHanded HasUtc) (over_empty (IsUtcMoment greatest_year)) (syntax_of syntax) description.now text.now
-        result out.old out.new }
+    ensures { StoresByDescription (IsStored HasUtc) (over_empty (IsUtcMoment greatest_year)) (syntax_of syntax)
+        description.now text.now result out.old out.new }
 {
-    hand_read::<UtcDateTime, LocalParts>(syntax, description, text, out)
+    store_value_read::<UtcDateTime, LocalParts>(syntax, description, text, out)
 }
 
 /// Parses the date, time and offset of a text by a description in the syntax with this number. On an error `out` is
@@ -228,10 +231,10 @@ pub extern "C" fn pelzaune_read_moment(
     text: &[u8],
     out: &mut MomentParts,
 ) -> u32
-    ensures { HandsRead (IsHanded HasMoment) of_moment (syntax_of syntax) description.now text.now
+    ensures { StoresByDescription (IsStored HasMoment) of_moment (syntax_of syntax) description.now text.now
         result out.old out.new }
 {
-    hand_read::<OffsetDateTime, MomentParts>(syntax, description, text, out)
+    store_value_read::<OffsetDateTime, MomentParts>(syntax, description, text, out)
 }
 
 /// Parses the instant of a text's date, time and offset by a description in the syntax with this number. On an error
@@ -243,10 +246,10 @@ pub extern "C" fn pelzaune_read_instant(
     text: &[u8],
     out: &mut Instant,
 ) -> u32
-    ensures { HandsRead (IsHanded HasInstant) of_moment (syntax_of syntax) description.now text.now
+    ensures { StoresByDescription (IsStored HasInstant) of_moment (syntax_of syntax) description.now text.now
         result out.old out.new }
 {
-    hand_read::<OffsetDateTime, Instant>(syntax, description, text, out)
+    store_value_read::<OffsetDateTime, Instant>(syntax, description, text, out)
 }
 
 /// Parses the nanoseconds from 1970-01-01T00:00:00Z to the instant of a text, by a description in the syntax with this
@@ -258,7 +261,7 @@ pub extern "C" fn pelzaune_read_nanoseconds(
     text: &[u8],
     out: &mut Nanoseconds,
 ) -> u32
-    ensures { HandsRead IsCountHanded of_moment (syntax_of syntax) description.now text.now
+    ensures { StoresByDescription IsCountStored of_moment (syntax_of syntax) description.now text.now
         result out.old out.new }
 {
     count_read(syntax, description, text, out)
@@ -273,7 +276,7 @@ pub extern "C" fn pelzaune_read_parts(
     text: &[u8],
     out: &mut Parts,
 ) -> u32
-    ensures { HandsRead ArePartsHanded of_record (syntax_of syntax) description.now text.now
+    ensures { StoresByDescription ArePartsStored of_record (syntax_of syntax) description.now text.now
         result out.old out.new }
 {
     parts_read(syntax, description, text, out)

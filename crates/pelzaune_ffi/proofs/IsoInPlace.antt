@@ -33,7 +33,7 @@ use Rattle.time_readers.proofs.IsoTimes.{colon_minute, minute_basic}
 use Rattle.time_parsing.specs.Outcome.{IsMomentOutcome, direct}
 use Rattle.time_parsing.specs.Rfc3339.{Reads, Refuses}
 use Rattle.time_parsing.specs.exact.RecordedRfc3339.{direct-value}
-use Rattle.pelzaune_ffi.specs.Handed.{first_refusal}
+use Rattle.pelzaune_ffi.specs.Results.{first_refusal}
 
 -- ---- Values built from parts that may each be rejected
 
@@ -43,9 +43,9 @@ Constructs-made None P v h = refl
 Constructs-made (Some e) P v h = absurd h
 
 -- a value that is built has the property
-pub Constructs-such : {A : Type 0} (r : Option Refusal) (P : A → Type 0) (v : A) → Constructs r P (Ok v) → P v
-Constructs-such None P v h = h
-Constructs-such (Some e) P v h = absurd h
+pub Constructs-property : {A : Type 0} (r : Option Refusal) (P : A → Type 0) (v : A) → Constructs r P (Ok v) → P v
+Constructs-property None P v h = h
+Constructs-property (Some e) P v h = absurd h
 
 -- without an error, a value with the property is built
 pub Constructs-ok : {A : Type 0} (r : Option Refusal) (P : A → Type 0) (v : A) → r ≡ None → P v → Constructs r P (Ok v)
@@ -73,7 +73,7 @@ pub date_of : (s : Said) (m : Month) (d : Date) → month_refusal s.month ≡ No
     → Constructs (date_refusal greatest_year s) (HasDate s) (Ok d)
 date_of s m d none named made =
     let refused = calendar_date_refusal greatest_year (pos s.year) (month_number m) s.day in
-    let parts = Constructs-such refused (Dates.HasParts (pos s.year) m s.day) d made in
+    let parts = Constructs-property refused (Dates.HasParts (pos s.year) m s.day) d made in
     let later : calendar_date_refusal greatest_year (pos s.year) s.month s.day ≡ None =
     rw named at (Constructs-made refused (Dates.HasParts (pos s.year) m s.day) d made) in
     Constructs-ok (date_refusal greatest_year s) (HasDate s) d (rw (none, later) refl)
@@ -90,14 +90,14 @@ pub made_of : (s : Said) (v : OffsetDateTime) → s.second < 60
 unfolding LeapSecondMayStand
 made_of s v below date clock offset =
     let other : (s.second == 60) ≡ false = ne_eqb s.second 60 (λ leap. absurd (omega arith)) in
-    let shown = of_parts greatest_year s _ _ _ v refl refl refl date (rw other clock) offset in
-    (shown.0, shown.1, λ leap. absurd (omega arith))
+    let found = of_parts greatest_year s _ _ _ v refl refl refl date (rw other clock) offset in
+    (found.0, found.1, λ leap. absurd (omega arith))
 
 -- the places of a text's start, one after another
-pub whole_stands : (bytes mid left rest : List ℕ) (n k m : Numbers) → Stand (Asks false) to_second_places nothing_read bytes mid n
+pub whole_matches : (bytes mid left rest : List ℕ) (n k m : Numbers) → Stand (Asks false) to_second_places nothing_read bytes mid n
     → Cut (Asks false Subsecond n) mid left k → Stand (Asks false) offset_places k left rest m → HasForm false bytes rest m
 unfolding Stand
-whole_stands bytes mid left rest n k m first fraction last =
+whole_matches bytes mid left rest n k m first fraction last =
     Stand-append (Asks false) to_second_places (Subsecond ∷ offset_places) nothing_read n m bytes mid rest first (left, k, fraction, last)
 
 in_no_bytes : (xs : List ℕ) → length xs ≤ 0 → xs ≡ []

@@ -1,2 +1,2 @@
-pub mod HeldRows
 pub mod IsoInPlace
+pub mod StoredRows

@@ -2,8 +2,8 @@
 use Rattle.std.specs.Prelude.{◌≡◌, ◌⊎◌, ℕ, ◌+◌, ◌<◌, nat_eq, List, [], ◌∷◌, length, Ok, pos, neg_ℤ, if◌then◌else◌}
 use Rattle.byte_streams.specs.Lines.{line_texts}
 use Rattle.time_components.specs.Tree.{Tree}
-use Rattle.pelzaune_ffi.specs.Described.{HandsByTree}
-use Rattle.pelzaune_ffi.specs.Handed.{IsCountHanded, of_moment}
+use Rattle.pelzaune_ffi.specs.Described.{StoresByTree}
+use Rattle.pelzaune_ffi.specs.Results.{IsCountStored, of_moment}
 use Rattle.pelzaune_ffi.specs.declared.parts.Nanoseconds.{Nanoseconds}
 
 -- How a line is stored: the status of its parse, and the entry before and after it.
@@ -12,11 +12,11 @@ Counting = List ℕ → ℕ → Nanoseconds → Nanoseconds → Type 0
 
 -- Parsed by the description with this tree.
 abbrev pub by_tree : Tree → Counting
-by_tree tree line status old new = HandsByTree IsCountHanded of_moment (Ok tree) line status old new
+by_tree tree line status old new = StoresByTree IsCountStored of_moment (Ok tree) line status old new
 
 -- Rejected with this status, whatever the line.
-abbrev pub refusing : ℕ → Counting
-refusing reason line status old new = (status ≡ reason) × (new ≡ old)
+abbrev pub rejecting : ℕ → Counting
+rejecting reason line status old new = (status ≡ reason) × (new ≡ old)
 
 -- The entry of a rejected line: the least number of 64 bits.
 abbrev pub no_count : Nanoseconds
@@ -29,11 +29,11 @@ one_if_refused status = if nat_eq status 0 then 0 else 1
 -- Each line that has an entry is stored in it, over `no_count`. `refused` is the number of those lines that are
 -- rejected. An entry without a line is unchanged.
 abbrev pub IsColumn : Counting → List (List ℕ) → List Nanoseconds → List Nanoseconds → ℕ → Type 0
-IsColumn hands [] old new refused = (new ≡ old) × (refused ≡ 0)
-IsColumn hands (line ∷ lines) [] new refused = (new ≡ []) × (refused ≡ 0)
-IsColumn hands (line ∷ lines) (entry ∷ old) new refused =
-    (status : ℕ) × (first : Nanoseconds) × hands line status no_count first
-    × (others : List Nanoseconds) × (later : ℕ) × IsColumn hands lines old others later
+IsColumn stores [] old new refused = (new ≡ old) × (refused ≡ 0)
+IsColumn stores (line ∷ lines) [] new refused = (new ≡ []) × (refused ≡ 0)
+IsColumn stores (line ∷ lines) (entry ∷ old) new refused =
+    (status : ℕ) × (first : Nanoseconds) × stores line status no_count first
+    × (others : List Nanoseconds) × (later : ℕ) × IsColumn stores lines old others later
     × (new ≡ first ∷ others) × (refused ≡ one_if_refused status + later)
 
 -- The line is the first of a text, and the bytes after it have the other lines.
@@ -47,4 +47,5 @@ EndsLine rest after = (rest ≡ 10 ∷ after) ⊎ ((rest ≡ []) × (after ≡ [
 
 -- The first line of a text is stored.
 abbrev pub CountsFirst : Counting → List ℕ → ℕ → List ℕ → Nanoseconds → Nanoseconds → Type 0
-CountsFirst hands text status after old new = (line : List ℕ) × IsFirstLine line text after × hands line status old new
+CountsFirst stores text status after old new =
+    (line : List ℕ) × IsFirstLine line text after × stores line status old new

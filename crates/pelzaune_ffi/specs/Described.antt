@@ -21,13 +21,13 @@ use Rattle.time_descriptions.specs.declared.leaf.Version.TheVariants as version
 use Rattle.time_descriptions.specs.Values.{ignored}
 use Rattle.time_record.specs.Reading.{Reads, Refuses}
 use Rattle.time_parsing.specs.Outcome.{over_record}
-use Rattle.pelzaune_ffi.specs.Handed.{Handing, Answering, IsHandedOver}
+use Rattle.pelzaune_ffi.specs.Results.{Storing, Outcomes, IsResultStored}
 use Rattle.pelzaune_ffi.specs.Status.{unknown_syntax}
 use Rattle.pelzaune_ffi.specs.declared.descriptions.TheConstants.{MOST_STEPS}
 use Rattle.pelzaune_ffi.specs.declared.descriptions.Syntax.{Syntax}
 use Rattle.pelzaune_ffi.specs.declared.descriptions.Syntax.TheVariants as syntax
-use Rattle.pelzaune_ffi.specs.declared.held.HeldDescription.{HeldDescription}
-use Rattle.pelzaune_ffi.specs.declared.steps.HeldStep.{HeldStep}
+use Rattle.pelzaune_ffi.specs.declared.stored.StoredDescription.{StoredDescription}
+use Rattle.pelzaune_ffi.specs.declared.steps.StoredStep.{StoredStep}
 
 -- The syntax with this number, if there is one.
 abbrev pub syntax_of : ℕ → Option Syntax
@@ -68,20 +68,20 @@ Checks (Some s) description status old new =
 Checks None description status old new = (status ≡ unknown_syntax) × (new ≡ old)
 
 -- The text is parsed by the described tree, and its result stored. A malformed description has its fault's status.
-abbrev pub HandsByTree : {V S : Type 0} → Handing V S → Answering V → Result Tree Refusal → List ℕ → ℕ → S → S
+abbrev pub StoresByTree : {V S : Type 0} → Storing V S → Outcomes V → Result Tree Refusal → List ℕ → ℕ → S → S
     → Type 0
-HandsByTree handing answers (Ok tree) text status old new =
-    IsHandedOver handing (answers over_record (Reads greatest_year tree) (Refuses greatest_year tree) text)
+StoresByTree storing outcomes (Ok tree) text status old new =
+    IsResultStored storing (outcomes over_record (Reads greatest_year tree) (Refuses greatest_year tree) text)
     status old new
-HandsByTree handing answers (Err e) text status old new = (status ≡ fault_status e) × (new ≡ old)
+StoresByTree storing outcomes (Err e) text status old new = (status ≡ fault_status e) × (new ≡ old)
 
 -- The text is parsed by a description in the syntax, and its result stored. An unknown syntax has a status of its own.
-abbrev pub HandsRead : {V S : Type 0} → Handing V S → Answering V → Option Syntax → List ℕ → List ℕ → ℕ → S → S
+abbrev pub StoresByDescription : {V S : Type 0} → Storing V S → Outcomes V → Option Syntax → List ℕ → List ℕ → ℕ → S → S
     → Type 0
-HandsRead handing answers (Some s) description text status old new =
+StoresByDescription storing outcomes (Some s) description text status old new =
     (described : Result Tree Refusal) × IsDescribed s description described
-    × HandsByTree handing answers described text status old new
-HandsRead handing answers None description text status old new = (status ≡ unknown_syntax) × (new ≡ old)
+    × StoresByTree storing outcomes described text status old new
+StoresByDescription storing outcomes None description text status old new = (status ≡ unknown_syntax) × (new ≡ old)
 
 -- ---- Stored descriptions: rows of steps, each a few numbers. Any numbers are a valid step.
 
@@ -141,7 +141,7 @@ skipping None = nothing
 skipping (Some i) = step.Component (component.Ignore i)
 
 -- The step that a stored step means under each kind, from kind 0.
-abbrev pub kinds : HeldStep → List Step
+abbrev pub kinds : StoredStep → List Step
 kinds h =
     step.Literal h.choice
     ∷ step.More h.choice
@@ -202,41 +202,44 @@ kind_in [] first kind = nothing
 kind_in (row ∷ rows) first kind = if nat_eq kind first then row else kind_in rows (first + 1) kind
 
 -- The step that a stored step means.
-unfoldable pub step_of : HeldStep → Step
+unfoldable pub step_of : StoredStep → Step
 step_of h = kind_in (kinds h) 0 h.kind
 
 -- A stored step of this kind, with a choice and a flag.
-abbrev pub chosen : ℕ → ℕ → Bool → HeldStep
+abbrev pub chosen : ℕ → ℕ → Bool → StoredStep
 chosen kind choice flag = record { len = 0; count = 0; kind = kind; choice = choice; flag = if flag then 1 else 0 }
 
 -- The steps of a stored description: the first `count`, or all where there are fewer.
-abbrev pub steps_of : HeldDescription → List Step
+abbrev pub steps_of : StoredDescription → List Step
 steps_of h = map step_of (take h.count h.steps)
 
 -- The tree of a stored description.
-abbrev pub held_tree : HeldDescription → Tree
-held_tree h = steps_shape (steps_of h)
+abbrev pub stored_tree : StoredDescription → Tree
+stored_tree h = steps_shape (steps_of h)
 
 -- The stored description has the tree; or the description has more steps than fit.
-abbrev pub HasTree : Tree → ℕ → HeldDescription → HeldDescription → Type 0
+abbrev pub HasTree : Tree → ℕ → StoredDescription → StoredDescription → Type 0
 HasTree tree status old new =
-    ((status ≡ 0) × (held_tree new ≡ tree))
+    ((status ≡ 0) × (stored_tree new ≡ tree))
     ⊎ ((status ≡ fault_status too_long) × (new ≡ old)
     × (steps : List Step) × (steps_shape steps ≡ tree) × (MOST_STEPS < length steps))
 
 -- Status 0, and the stored description has the tree; else the status of the first fault, and that fault's index, if it
 -- has one.
-abbrev pub IsHeld : Result Tree Refusal → ℕ → HeldDescription → HeldDescription → ℕ → ℕ → Type 0
-IsHeld (Ok tree) status old new index new_index = HasTree tree status old new × (new_index ≡ index)
-IsHeld (Err e) status old new index new_index =
+abbrev pub IsDescriptionStored : Result Tree Refusal → ℕ → StoredDescription → StoredDescription → ℕ → ℕ → Type 0
+IsDescriptionStored (Ok tree) status old new index new_index = HasTree tree status old new × (new_index ≡ index)
+IsDescriptionStored (Err e) status old new index new_index =
     (status ≡ fault_status e) × (new ≡ old) × (new_index ≡ unwrap_or (index_of e) index)
 
 -- The description is parsed in its syntax and stored. An unknown syntax has a status of its own.
-abbrev pub Holds : Option Syntax → List ℕ → ℕ → HeldDescription → HeldDescription → ℕ → ℕ → Type 0
-Holds (Some s) text status old new index new_index =
-    (described : Result Tree Refusal) × IsDescribed s text described × IsHeld described status old new index new_index
-Holds None text status old new index new_index = (status ≡ unknown_syntax) × (new ≡ old) × (new_index ≡ index)
+abbrev pub StoresDescription : Option Syntax → List ℕ → ℕ → StoredDescription → StoredDescription → ℕ → ℕ → Type 0
+StoresDescription (Some s) text status old new index new_index =
+    (described : Result Tree Refusal) × IsDescribed s text described
+    × IsDescriptionStored described status old new index new_index
+StoresDescription None text status old new index new_index =
+    (status ≡ unknown_syntax) × (new ≡ old) × (new_index ≡ index)
 
 -- The text is parsed by a stored description, and its result stored.
-abbrev pub HandsHeld : {V S : Type 0} → Handing V S → Answering V → HeldDescription → List ℕ → ℕ → S → S → Type 0
-HandsHeld handing answers h text status old new = HandsByTree handing answers (Ok (held_tree h)) text status old new
+abbrev pub StoresBySteps : {V S : Type 0} → Storing V S → Outcomes V → StoredDescription → List ℕ → ℕ → S → S → Type 0
+StoresBySteps storing outcomes h text status old new =
+    StoresByTree storing outcomes (Ok (stored_tree h)) text status old new

@@ -24,10 +24,10 @@ use Rattle.pelzaune_ffi.specs.declared.status.Format.TheVariants.{Rfc3339, Rfc28
 use Rattle.pelzaune_ffi.specs.declared.locating.Place.{Place}
 
 -- What was expected, as an error names it.
-abbrev pub wanted_refusal : Wanted → refusals.Refusal
-wanted_refusal (these_bytes text) = refusals.literal
-wanted_refusal (named name) = refusals.component name
-wanted_refusal the_end = refusals.trailing
+abbrev pub expected_refusal : Wanted → refusals.Refusal
+expected_refusal (these_bytes text) = refusals.literal
+expected_refusal (named name) = refusals.component name
+expected_refusal the_end = refusals.trailing
 
 -- The first byte, or 0.
 abbrev pub first_of : List ℕ → ℕ
@@ -35,42 +35,42 @@ first_of [] = 0
 first_of (b ∷ text) = b
 
 -- The first byte of the literal that was expected, or 0 where a component or the end was.
-abbrev pub wanted_byte : Wanted → ℕ
-wanted_byte (these_bytes text) = first_of text
-wanted_byte (named name) = 0
-wanted_byte the_end = 0
+abbrev pub expected_byte : Wanted → ℕ
+expected_byte (these_bytes text) = first_of text
+expected_byte (named name) = 0
+expected_byte the_end = 0
 
 -- Status 0 for a text that is parsed whole; else the status of what was expected, and where.
-abbrev pub IsPlaceHanded : Option Located → ℕ → Place → Place → Type 0
-IsPlaceHanded None status old new = (status ≡ 0) × (new ≡ old)
-IsPlaceHanded (Some at) status old new =
-    (status ≡ status_of (wanted_refusal (wants at.expected)))
-    × (new ≡ record { index = at.index; byte = wanted_byte (wants at.expected) })
+abbrev pub IsPlaceStored : Option Located → ℕ → Place → Place → Type 0
+IsPlaceStored None status old new = (status ≡ 0) × (new ≡ old)
+IsPlaceStored (Some at) status old new =
+    (status ≡ status_of (expected_refusal (wants at.expected)))
+    × (new ≡ record { index = at.index; byte = expected_byte (wants at.expected) })
 
 -- The location of the text's error, by what a format parses and locates, is stored.
 abbrev pub LocatesBy : Reading → Locating → List ℕ → ℕ → Place → Place → Type 0
 LocatesBy reads locates text status old new =
-    (answer : Option Located) × IsLocated reads locates text empty answer × IsPlaceHanded answer status old new
+    (answer : Option Located) × IsLocated reads locates text empty answer × IsPlaceStored answer status old new
 
 -- The location by the format is stored. An unknown format has a status of its own.
-abbrev pub HandsPlace : Option Format → List ℕ → ℕ → Place → Place → Type 0
-HandsPlace (Some Rfc3339) text status old new =
+abbrev pub StoresPlace : Option Format → List ℕ → ℕ → Place → Place → Type 0
+StoresPlace (Some Rfc3339) text status old new =
     LocatesBy (rfc3339.Reads greatest_year) places_3339.Locates text status old new
-HandsPlace (Some Rfc2822) text status old new =
+StoresPlace (Some Rfc2822) text status old new =
     LocatesBy (rfc2822.Reads greatest_year) places_2822.Locates text status old new
-HandsPlace (Some Iso8601) text status old new =
+StoresPlace (Some Iso8601) text status old new =
     LocatesBy (iso8601.Reads greatest_year) (places_8601.Locates greatest_year) text status old new
-HandsPlace None text status old new = (status ≡ unknown_format) × (new ≡ old)
+StoresPlace None text status old new = (status ≡ unknown_format) × (new ≡ old)
 
 -- The location by the described tree is stored. A malformed description has its fault's status.
-abbrev pub HandsPlaceByTree : Result Tree Refusal → List ℕ → ℕ → Place → Place → Type 0
-HandsPlaceByTree (Ok tree) text status old new =
+abbrev pub StoresPlaceByTree : Result Tree Refusal → List ℕ → ℕ → Place → Place → Type 0
+StoresPlaceByTree (Ok tree) text status old new =
     LocatesBy (Reads greatest_year tree) (LocatesTree greatest_year first_byte tree) text status old new
-HandsPlaceByTree (Err e) text status old new = (status ≡ fault_status e) × (new ≡ old)
+StoresPlaceByTree (Err e) text status old new = (status ≡ fault_status e) × (new ≡ old)
 
 -- The location by a description in the syntax is stored. An unknown syntax has a status of its own.
-abbrev pub HandsReadPlace : Option Syntax → List ℕ → List ℕ → ℕ → Place → Place → Type 0
-HandsReadPlace (Some s) description text status old new =
+abbrev pub StoresPlaceByDescription : Option Syntax → List ℕ → List ℕ → ℕ → Place → Place → Type 0
+StoresPlaceByDescription (Some s) description text status old new =
     (described : Result Tree Refusal) × IsDescribed s description described
-    × HandsPlaceByTree described text status old new
-HandsReadPlace None description text status old new = (status ≡ unknown_syntax) × (new ≡ old)
+    × StoresPlaceByTree described text status old new
+StoresPlaceByDescription None description text status old new = (status ≡ unknown_syntax) × (new ≡ old)

@@ -108,15 +108,17 @@ laid_over text buffer = take (length buffer) text ++ drop (length text) buffer
 -- ---- The law of the statuses' texts
 
 -- The text of the error's status is the error's text.
-abbrev pub Tells : Refusal → Type 0
-Tells e = status_text (status_of e) ≡ refusal_text e
+abbrev pub HasErrorText : Refusal → Type 0
+HasErrorText e = status_text (status_of e) ≡ refusal_text e
 
--- So it is for each error that names one of the components.
-abbrev pub EachTells : List (List ℕ) → Type 0
-EachTells [] = Unit {0}
-EachTells (name ∷ names) =
-    (Tells (component name) × Tells (range name false) × Tells (range name true)) × EachTells names
+-- The status of each error that names one of these components has the error's text.
+abbrev pub EachHasErrorText : List (List ℕ) → Type 0
+EachHasErrorText [] = Unit {0}
+EachHasErrorText (name ∷ names) =
+    (HasErrorText (component name) × HasErrorText (range name false) × HasErrorText (range name true))
+    × EachHasErrorText names
 
--- So it is for each error that names no component, or a component of the table.
-abbrev pub StatusesTell : Type 0
-StatusesTell = Tells literal × Tells trailing × Tells insufficient × EachTells component_names
+-- The status of each error that names no component, or one of the table, has the error's text.
+abbrev pub HaveErrorTexts : Type 0
+HaveErrorTexts =
+    HasErrorText literal × HasErrorText trailing × HasErrorText insufficient × EachHasErrorText component_names

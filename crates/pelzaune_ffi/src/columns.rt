@@ -2,36 +2,36 @@
 ghost use Rattle.std.specs.Prelude.{◌≡◌, ◌<◌, ◌≤◌, length, Some};
 ghost use Rattle.byte_streams.specs.Lines.{line_texts};
 ghost use Rattle.time_components.specs.Tree.{steps_shape};
-ghost use Rattle.pelzaune_ffi.specs.Columns.{Counting, CountsFirst, IsColumn, refusing, by_tree};
+ghost use Rattle.pelzaune_ffi.specs.Columns.{Counting, CountsFirst, IsColumn, rejecting, by_tree};
 ghost use Rattle.pelzaune_ffi.specs.Columns as spec;
 ghost use Rattle.pelzaune_ffi.specs.Described as Described;
-ghost use Rattle.pelzaune_ffi.specs.Described.{HandsRead, HandsHeld};
-ghost use Rattle.pelzaune_ffi.specs.Handed as Formats;
-ghost use Rattle.pelzaune_ffi.specs.Handed.{HandsCount, IsCountHanded, of_moment};
+ghost use Rattle.pelzaune_ffi.specs.Described.{StoresByDescription, StoresBySteps};
+ghost use Rattle.pelzaune_ffi.specs.Results as Formats;
+ghost use Rattle.pelzaune_ffi.specs.Results.{StoresCount, IsCountStored, of_moment};
 
-use crate::cuts::{count_lines, first_line};
 use crate::descriptions::{MOST_STEPS, Syntax, fault_status, read_description, syntax_of};
-use crate::handing::count;
-use crate::held::{HeldDescription, prepare};
+use crate::lines::{count_lines, first_line};
 use crate::moments::{count_by, count_first_by};
 use crate::parts::Nanoseconds;
+use crate::results::count;
 use crate::status::UNKNOWN_SYNTAX;
+use crate::stored::{StoredDescription, prepare};
 use time_preparing::Prepared;
 
 // Stores the nanoseconds of a line's moment.
 trait Count {
     // The status that the call returns, and the entry before and after it.
-    ghost hands: { Self → Counting };
+    ghost stores: { Self → Counting };
 
     // Stores them in `entry` and returns the status.
     fn count_line(&self, line: &[u8], entry: &mut Nanoseconds) -> u32
-        ensures { hands self.now line.now result entry.old entry.new };
+        ensures { stores self.now line.now result entry.old entry.new };
 
     // Stores those of the first line of a text. Also returns the bytes after that line.
     #[inline(always)]
     fn count_first<'a>(&self, text: &'a [u8], entry: &mut Nanoseconds) -> (u32, &'a [u8])
         requires { 0 < length text.now }
-        ensures { CountsFirst (hands self.now) text.now result.0 result.1.now entry.old entry.new }
+        ensures { CountsFirst (stores self.now) text.now result.0 result.1.now entry.old entry.new }
     {
         let (line, after) = first_line(text);
         (self.count_line(line, entry), after)
@@ -43,7 +43,7 @@ trait Count {
 struct ByNumber(u32);
 
 impl Count for ByNumber {
-    ghost hands = { λ s. HandsCount (Formats.format_of s.0) };
+    ghost stores = { λ s. StoresCount (Formats.format_of s.0) };
 
     #[inline(always)]
     fn count_line(&self, line: &[u8], entry: &mut Nanoseconds) -> u32 {
@@ -58,7 +58,7 @@ impl Count for ByNumber {
 
 // By a prepared description.
 impl Count for Prepared<MOST_STEPS> {
-    ghost hands = { λ s. by_tree (steps_shape s) };
+    ghost stores = { λ s. by_tree (steps_shape s) };
 
     #[inline(always)]
     fn count_line(&self, line: &[u8], entry: &mut Nanoseconds) -> u32 {
@@ -68,10 +68,10 @@ impl Count for Prepared<MOST_STEPS> {
 
 // Rejects every line with this status.
 #[derive(Clone, Copy)]
-struct Refusing(u32);
+struct RejectAll(u32);
 
-impl Count for Refusing {
-    ghost hands = { λ s. refusing s.0 };
+impl Count for RejectAll {
+    ghost stores = { λ s. rejecting s.0 };
 
     #[inline(always)]
     fn count_line(&self, _line: &[u8], _entry: &mut Nanoseconds) -> u32 {
@@ -97,20 +97,20 @@ fn column<C: Count>(
     refused: &mut usize,
 ) -> usize
     ensures lines { result ≡ length (line_texts text.now) }
-    ensures entries { IsColumn (C.hands counting.now) (line_texts text.now) entries.old entries.new refused.new }
+    ensures entries { IsColumn (C.stores counting.now) (line_texts text.now) entries.old entries.new refused.new }
 {
     let mut rest = text;
     let mut index = 0;
-    let mut without = 0;
+    let mut rejected = 0;
     while index < entries.len() && !rest.is_empty() {
         let mut entry = Nanoseconds { count: i64::MIN };
         let (status, after) = counting.count_first(rest, &mut entry);
-        without += one_if_refused(status);
+        rejected += one_if_refused(status);
         entries[index] = entry;
         index += 1;
         rest = after;
     }
-    *refused = without;
+    *refused = rejected;
     index + count_lines(rest)
 }
 
@@ -130,7 +130,7 @@ pub fn column_by(
     refused: &mut usize,
 ) -> usize
     ensures lines { result ≡ length (line_texts text.now) }
-    ensures entries { IsColumn (HandsCount (Formats.format_of format)) (line_texts text.now)
+    ensures entries { IsColumn (StoresCount (Formats.format_of format)) (line_texts text.now)
         entries.old entries.new refused.new }
 {
     column(&ByNumber(format), text, entries, refused)
@@ -145,12 +145,12 @@ fn described_column(
     refused: &mut usize,
 ) -> usize
     ensures lines { result ≡ length (line_texts text.now) }
-    ensures entries { IsColumn (HandsRead IsCountHanded of_moment (Some syntax) description.now) (line_texts text.now)
-        entries.old entries.new refused.new }
+    ensures entries { IsColumn (StoresByDescription IsCountStored of_moment (Some syntax) description.now)
+        (line_texts text.now) entries.old entries.new refused.new }
 {
     match read_description(syntax, description) {
         Ok(found) => column(&Prepared::new(&found), text, entries, refused),
-        Err(error) => column(&Refusing(fault_status(error)), text, entries, refused),
+        Err(error) => column(&RejectAll(fault_status(error)), text, entries, refused),
     }
 }
 
@@ -165,26 +165,26 @@ pub fn column_read(
     refused: &mut usize,
 ) -> usize
     ensures lines { result ≡ length (line_texts text.now) }
-    ensures entries { IsColumn (HandsRead IsCountHanded of_moment (Described.syntax_of syntax) description.now)
-        (line_texts text.now) entries.old entries.new refused.new }
+    ensures entries { IsColumn (StoresByDescription IsCountStored of_moment (Described.syntax_of syntax)
+        description.now) (line_texts text.now) entries.old entries.new refused.new }
 {
     match syntax_of(syntax) {
         Some(syntax) => described_column(syntax, description, text, entries, refused),
-        None => column(&Refusing(UNKNOWN_SYNTAX), text, entries, refused),
+        None => column(&RejectAll(UNKNOWN_SYNTAX), text, entries, refused),
     }
 }
 
 /// As [`column_by`], by a stored description, which is prepared once.
 #[inline(always)]
-pub fn column_held(
-    description: &HeldDescription,
+pub fn column_stored(
+    description: &StoredDescription,
     text: &[u8],
     entries: &mut [Nanoseconds],
     refused: &mut usize,
 ) -> usize
     ensures lines { result ≡ length (line_texts text.now) }
-    ensures entries { IsColumn (HandsHeld IsCountHanded of_moment description.now) (line_texts text.now)
-        entries.old entries.new refused.new }
+    ensures entries { IsColumn (StoresBySteps IsCountStored of_moment description.now)
+        (line_texts text.now) entries.old entries.new refused.new }
 {
     column(&prepare(description), text, entries, refused)
 }

@@ -18,14 +18,14 @@ macro_rules! by_description {
 }
 
 pub mod columns;
-mod cuts;
 pub mod descriptions;
-pub mod handing;
-pub mod held;
+mod lines;
 pub mod locating;
 pub mod moments;
 pub mod parts;
+pub mod results;
 pub mod status;
 pub mod steps;
+pub mod stored;
 pub mod text;
 pub mod writing;

@@ -1,8 +1,8 @@
 //! The byte at which a rejected text fails.
 ghost use Rattle.std.specs.Prelude.{◌≡◌};
 ghost use Rattle.pelzaune_ffi.specs.Described as Described;
-ghost use Rattle.pelzaune_ffi.specs.Handed as Formats;
-ghost use Rattle.pelzaune_ffi.specs.Places.{HandsPlace, HandsReadPlace, IsPlaceHanded, LocatesBy, first_of};
+ghost use Rattle.pelzaune_ffi.specs.Results as Formats;
+ghost use Rattle.pelzaune_ffi.specs.Places.{StoresPlace, StoresPlaceByDescription, IsPlaceStored, LocatesBy, first_of};
 
 use crate::descriptions::{fault_status, read_description, syntax_of};
 use crate::status::{Format, UNKNOWN_FORMAT, UNKNOWN_SYNTAX, format_of, status_of_description};
@@ -31,8 +31,8 @@ fn first_of(bytes: &[u8]) -> u8
 }
 
 // Stores a location, and returns the status of what was expected there, or 0.
-fn hand_place(answer: Option<Located<'_>>, out: &mut Place) -> u32
-    ensures { IsPlaceHanded answer.entry result out.old out.new }
+fn store_place(answer: Option<Located<'_>>, out: &mut Place) -> u32
+    ensures { IsPlaceStored answer.entry result out.old out.new }
 {
     let Some(place) = answer else {
         return 0;
@@ -53,14 +53,14 @@ fn hand_place(answer: Option<Located<'_>>, out: &mut Place) -> u32
 fn locate<F: Locate>(format: &F, text: &[u8], out: &mut Place) -> u32
     ensures { LocatesBy (F.reads format.now) (F.locates format.now) text.now result out.old out.new }
 {
-    hand_place(format.locate(text, None), out)
+    store_place(format.locate(text, None), out)
 }
 
 /// Writes to `out` where a text fails that the format with this number rejects. Returns the status of what was expected
 /// there, numbered as by a parse. Where the format parses the whole text, returns 0 and leaves `out` unchanged.
 #[inline(always)]
 pub fn locate_by(format: u32, text: &[u8], out: &mut Place) -> u32
-    ensures { HandsPlace (Formats.format_of format) text.now result out.old out.new }
+    ensures { StoresPlace (Formats.format_of format) text.now result out.old out.new }
 {
     match format_of(format) {
         Some(Format::Rfc3339) => locate(&Rfc3339, text, out),
@@ -74,7 +74,7 @@ pub fn locate_by(format: u32, text: &[u8], out: &mut Place) -> u32
 /// [`check`](crate::descriptions::check) returns, and leaves `out` unchanged.
 #[inline(always)]
 pub fn locate_read(syntax: u32, description: &[u8], text: &[u8], out: &mut Place) -> u32
-    ensures { HandsReadPlace (Described.syntax_of syntax) description.now text.now result out.old out.new }
+    ensures { StoresPlaceByDescription (Described.syntax_of syntax) description.now text.now result out.old out.new }
 {
     by_description!(syntax, description, found => locate(&found, text, out))
 }

@@ -8,13 +8,13 @@ ghost use Rattle.std.specs.Prelude.{◌<◌, Some, length};
 ghost use Rattle.time_values.specs.Calendar.{greatest_year};
 ghost use Rattle.time_record.specs.Resolution.{IsPlain};
 ghost use Rattle.pelzaune_ffi.specs.Columns.{CountsFirst};
-ghost use Rattle.pelzaune_ffi.specs.Handed as Formats;
-ghost use Rattle.pelzaune_ffi.specs.Handed.{Hands, HandsCount, HasPlain, IsCountHanded, IsHanded, IsHandedOver, of_moment, over_empty};
+ghost use Rattle.pelzaune_ffi.specs.Results as Formats;
+ghost use Rattle.pelzaune_ffi.specs.Results.{StoresValue, StoresCount, HasPlain, IsCountStored, IsStored, IsResultStored, of_moment, over_empty};
 ghost use Rattle.pelzaune_ffi.specs.declared.status.Format.TheVariants.{Iso8601 as iso8601, Rfc2822 as rfc2822, Rfc3339 as rfc3339};
 
-use crate::cuts::first_line;
-use crate::handing::{count, hand, hand_count};
+use crate::lines::first_line;
 use crate::parts::{LocalParts, Nanoseconds};
+use crate::results::{count, store_count, store_value};
 use crate::status::{Format, UNKNOWN_FORMAT, format_of, status_of};
 use time_parsing::{Iso8601, Parsable, Rfc2822, Rfc3339};
 use time_values::{OffsetDateTime, PlainDateTime};
@@ -22,7 +22,7 @@ use time_values::{OffsetDateTime, PlainDateTime};
 // Stores the parts of a moment of RFC 3339.
 #[inline(never)]
 fn moment_3339<P: From<OffsetDateTime> + Copy>(text: &[u8], out: &mut P) -> u32
-    ensures { Hands P.from_gives of_moment (Some rfc3339) text.now result out.old out.new }
+    ensures { StoresValue P.from_gives of_moment (Some rfc3339) text.now result out.old out.new }
 {
     match fast::moment(text) {
         Some(value) => {
@@ -36,7 +36,7 @@ fn moment_3339<P: From<OffsetDateTime> + Copy>(text: &[u8], out: &mut P) -> u32
 // Stores the parts of a mail date's moment.
 #[inline(never)]
 fn moment_2822<P: From<OffsetDateTime> + Copy>(text: &[u8], out: &mut P) -> u32
-    ensures { Hands P.from_gives of_moment (Some rfc2822) text.now result out.old out.new }
+    ensures { StoresValue P.from_gives of_moment (Some rfc2822) text.now result out.old out.new }
 {
     match fast::rfc2822::moment(text) {
         Some(value) => {
@@ -50,7 +50,7 @@ fn moment_2822<P: From<OffsetDateTime> + Copy>(text: &[u8], out: &mut P) -> u32
 // Stores the parts of a moment of ISO 8601.
 #[inline(never)]
 fn moment_8601<P: From<OffsetDateTime> + Copy>(text: &[u8], out: &mut P) -> u32
-    ensures { Hands P.from_gives of_moment (Some iso8601) text.now result out.old out.new }
+    ensures { StoresValue P.from_gives of_moment (Some iso8601) text.now result out.old out.new }
 {
     match fast::iso8601::moment(text) {
         Some(value) => {
@@ -68,7 +68,7 @@ fn parsed_moment<P: From<OffsetDateTime> + Copy, F: Parsable>(
     text: &[u8],
     out: &mut P,
 ) -> u32
-    ensures { IsHandedOver (IsHanded P.from_gives)
+    ensures { IsResultStored (IsStored P.from_gives)
         (of_moment (F.path format.now) (F.reads format.now) (F.refuses format.now) text.now) result out.old out.new }
 {
     match format.parse_offset_date_time(text, None) {
@@ -84,7 +84,7 @@ fn parsed_moment<P: From<OffsetDateTime> + Copy, F: Parsable>(
 /// and leaves `out` unchanged.
 #[inline(always)]
 pub fn moment_by<P: From<OffsetDateTime> + Copy>(format: u32, text: &[u8], out: &mut P) -> u32
-    ensures { Hands P.from_gives of_moment (Formats.format_of format) text.now result out.old out.new }
+    ensures { StoresValue P.from_gives of_moment (Formats.format_of format) text.now result out.old out.new }
 {
     match format_of(format) {
         Some(Format::Rfc3339) => moment_3339(text, out),
@@ -97,10 +97,10 @@ pub fn moment_by<P: From<OffsetDateTime> + Copy>(format: u32, text: &[u8], out: 
 // Stores the nanoseconds of a moment of RFC 3339.
 #[inline(never)]
 fn count_3339(text: &[u8], out: &mut Nanoseconds) -> u32
-    ensures { HandsCount (Some rfc3339) text.now result out.old out.new }
+    ensures { StoresCount (Some rfc3339) text.now result out.old out.new }
 {
     match fast::moment(text) {
-        Some(value) => hand_count(value, out),
+        Some(value) => store_count(value, out),
         None => parsed_count(&Rfc3339, text, out),
     }
 }
@@ -108,10 +108,10 @@ fn count_3339(text: &[u8], out: &mut Nanoseconds) -> u32
 // Stores the nanoseconds of a mail date's moment.
 #[inline(never)]
 fn count_2822(text: &[u8], out: &mut Nanoseconds) -> u32
-    ensures { HandsCount (Some rfc2822) text.now result out.old out.new }
+    ensures { StoresCount (Some rfc2822) text.now result out.old out.new }
 {
     match fast::rfc2822::moment(text) {
-        Some(value) => hand_count(value, out),
+        Some(value) => store_count(value, out),
         None => parsed_count(&Rfc2822, text, out),
     }
 }
@@ -119,10 +119,10 @@ fn count_2822(text: &[u8], out: &mut Nanoseconds) -> u32
 // Stores the nanoseconds of a moment of ISO 8601.
 #[inline(never)]
 fn count_8601(text: &[u8], out: &mut Nanoseconds) -> u32
-    ensures { HandsCount (Some iso8601) text.now result out.old out.new }
+    ensures { StoresCount (Some iso8601) text.now result out.old out.new }
 {
     match fast::iso8601::moment(text) {
-        Some(value) => hand_count(value, out),
+        Some(value) => store_count(value, out),
         None => parsed_count(&Iso8601, text, out),
     }
 }
@@ -130,7 +130,7 @@ fn count_8601(text: &[u8], out: &mut Nanoseconds) -> u32
 // Stores the nanoseconds of a text's moment.
 #[inline(never)]
 fn parsed_count<F: Parsable>(format: &F, text: &[u8], out: &mut Nanoseconds) -> u32
-    ensures { IsHandedOver IsCountHanded
+    ensures { IsResultStored IsCountStored
         (of_moment (F.path format.now) (F.reads format.now) (F.refuses format.now) text.now) result out.old out.new }
 {
     count(format, text, out)
@@ -140,7 +140,7 @@ fn parsed_count<F: Parsable>(format: &F, text: &[u8], out: &mut Nanoseconds) -> 
 /// status and leaves `out` unchanged.
 #[inline(always)]
 pub fn count_by(format: u32, text: &[u8], out: &mut Nanoseconds) -> u32
-    ensures { HandsCount (Formats.format_of format) text.now result out.old out.new }
+    ensures { StoresCount (Formats.format_of format) text.now result out.old out.new }
 {
     match format_of(format) {
         Some(Format::Rfc3339) => count_3339(text, out),
@@ -154,7 +154,7 @@ pub fn count_by(format: u32, text: &[u8], out: &mut Nanoseconds) -> u32
 #[inline(never)]
 fn count_cut_3339<'a>(text: &'a [u8], out: &mut Nanoseconds) -> (u32, &'a [u8])
     requires { 0 < length text.now }
-    ensures { CountsFirst (HandsCount (Some rfc3339)) text.now result.0 result.1.now out.old out.new }
+    ensures { CountsFirst (StoresCount (Some rfc3339)) text.now result.0 result.1.now out.old out.new }
 {
     let (line, after) = first_line(text);
     (parsed_count(&Rfc3339, line, out), after)
@@ -164,10 +164,10 @@ fn count_cut_3339<'a>(text: &'a [u8], out: &mut Nanoseconds) -> (u32, &'a [u8])
 #[inline(always)]
 fn count_first_3339<'a>(text: &'a [u8], out: &mut Nanoseconds) -> (u32, &'a [u8])
     requires { 0 < length text.now }
-    ensures { CountsFirst (HandsCount (Some rfc3339)) text.now result.0 result.1.now out.old out.new }
+    ensures { CountsFirst (StoresCount (Some rfc3339)) text.now result.0 result.1.now out.old out.new }
 {
     match fast::line(text) {
-        Some((value, after)) => (hand_count(value, out), after),
+        Some((value, after)) => (store_count(value, out), after),
         None => count_cut_3339(text, out),
     }
 }
@@ -181,7 +181,7 @@ pub(crate) fn count_first_by<'a>(
     out: &mut Nanoseconds,
 ) -> (u32, &'a [u8])
     requires { 0 < length text.now }
-    ensures { CountsFirst (HandsCount (Formats.format_of format)) text.now result.0 result.1.now out.old out.new }
+    ensures { CountsFirst (StoresCount (Formats.format_of format)) text.now result.0 result.1.now out.old out.new }
 {
     match format_of(format) {
         Some(Format::Rfc3339) => count_first_3339(text, out),
@@ -195,7 +195,7 @@ pub(crate) fn count_first_by<'a>(
 // Stores the parts of a date and time of ISO 8601.
 #[inline(never)]
 fn local_8601(text: &[u8], out: &mut LocalParts) -> u32
-    ensures { Hands HasPlain (over_empty (IsPlain greatest_year)) (Some iso8601) text.now result out.old out.new }
+    ensures { StoresValue HasPlain (over_empty (IsPlain greatest_year)) (Some iso8601) text.now result out.old out.new }
 {
     match fast::iso8601::local(text) {
         Some(value) => {
@@ -209,17 +209,17 @@ fn local_8601(text: &[u8], out: &mut LocalParts) -> u32
 // Stores the parts of a text's date and time.
 #[inline(never)]
 fn parsed_local<F: Parsable>(format: &F, text: &[u8], out: &mut LocalParts) -> u32
-    ensures { IsHandedOver (IsHanded HasPlain) (over_empty (IsPlain greatest_year) (F.path format.now)
+    ensures { IsResultStored (IsStored HasPlain) (over_empty (IsPlain greatest_year) (F.path format.now)
         (F.reads format.now) (F.refuses format.now) text.now) result out.old out.new }
 {
-    hand::<PlainDateTime, LocalParts, F>(format, text, out)
+    store_value::<PlainDateTime, LocalParts, F>(format, text, out)
 }
 
 /// Parses a text by the format with this number and stores the parts of its date and time. An offset is parsed and
 /// dropped.
 #[inline(always)]
 pub fn local_by(format: u32, text: &[u8], out: &mut LocalParts) -> u32
-    ensures { Hands HasPlain (over_empty (IsPlain greatest_year)) (Formats.format_of format) text.now
+    ensures { StoresValue HasPlain (over_empty (IsPlain greatest_year)) (Formats.format_of format) text.now
         result out.old out.new }
 {
     match format_of(format) {

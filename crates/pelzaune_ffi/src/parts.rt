@@ -2,7 +2,7 @@
 ghost use Rattle.std.specs.Prelude.{MatchOption};
 ghost use Rattle.time_values.specs.Moments.{offset_instant};
 ghost use Rattle.time_values.specs.Calendar.{greatest_year};
-ghost use Rattle.pelzaune_ffi.specs.Handed as Handed;
+ghost use Rattle.pelzaune_ffi.specs.Results as Results;
 
 use time_values::{Date, OffsetDateTime, PlainDateTime, Time, UtcDateTime, UtcOffset};
 
@@ -119,7 +119,7 @@ pub struct Parts {
 }
 
 impl From<Date> for DateParts {
-    ghost from_gives = { Handed.HasDate };
+    ghost from_gives = { Results.HasDate };
 
     #[inline]
     fn from(date: Date) -> DateParts {
@@ -132,7 +132,7 @@ impl From<Date> for DateParts {
 }
 
 impl From<Time> for TimeParts {
-    ghost from_gives = { Handed.HasTime };
+    ghost from_gives = { Results.HasTime };
 
     #[inline]
     fn from(time: Time) -> TimeParts {
@@ -146,7 +146,7 @@ impl From<Time> for TimeParts {
 }
 
 impl From<UtcOffset> for OffsetParts {
-    ghost from_gives = { Handed.HasOffset };
+    ghost from_gives = { Results.HasOffset };
 
     #[inline]
     fn from(offset: UtcOffset) -> OffsetParts {
@@ -159,7 +159,7 @@ impl From<UtcOffset> for OffsetParts {
 // The parts of a date and a time.
 #[inline]
 fn local_parts(date: Date, time: Time) -> LocalParts
-    ensures { Handed.HasLocal date time result }
+    ensures { Results.HasLocal date time result }
 {
     LocalParts {
         year: date.year(),
@@ -173,7 +173,7 @@ fn local_parts(date: Date, time: Time) -> LocalParts
 }
 
 impl From<PlainDateTime> for LocalParts {
-    ghost from_gives = { Handed.HasPlain };
+    ghost from_gives = { Results.HasPlain };
 
     #[inline]
     fn from(value: PlainDateTime) -> LocalParts {
@@ -182,7 +182,7 @@ impl From<PlainDateTime> for LocalParts {
 }
 
 impl From<UtcDateTime> for LocalParts {
-    ghost from_gives = { Handed.HasUtc };
+    ghost from_gives = { Results.HasUtc };
 
     #[inline]
     fn from(value: UtcDateTime) -> LocalParts {
@@ -191,7 +191,7 @@ impl From<UtcDateTime> for LocalParts {
 }
 
 impl From<OffsetDateTime> for MomentParts {
-    ghost from_gives = { Handed.HasMoment };
+    ghost from_gives = { Results.HasMoment };
 
     #[inline]
     fn from(value: OffsetDateTime) -> MomentParts {
@@ -210,7 +210,7 @@ impl From<OffsetDateTime> for MomentParts {
 }
 
 impl From<OffsetDateTime> for Instant {
-    ghost from_gives = { Handed.HasInstant };
+    ghost from_gives = { Results.HasInstant };
 
     // An offset has whole seconds, so the local time's nanosecond is the one after the rounded-down seconds.
     #[inline]
@@ -225,8 +225,8 @@ impl From<OffsetDateTime> for Instant {
 /// The nanoseconds from 1970-01-01T00:00:00Z to a moment's instant. `None`: 64 bits can't hold them.
 #[inline]
 pub fn nanoseconds_of(value: OffsetDateTime) -> Option<Nanoseconds>
-    ensures { MatchOption result (¬ (Handed.IsCounted (offset_instant greatest_year value)))
-        (λ n. Handed.HasCount value n) }
+    ensures { MatchOption result (¬ (Results.FitsI64 (offset_instant greatest_year value)))
+        (λ n. Results.HasCount value n) }
 {
     let instant = Instant::from(value);
     let nanos = instant.seconds as i128 * 1_000_000_000 + instant.nanoseconds as i128;

@@ -2,8 +2,8 @@
 ghost use Rattle.std.specs.Prelude.{◌≡◌};
 ghost use Rattle.time_values.specs.Refusal.{refusal_of, refusal_of_description, refusal_of_range};
 ghost use Rattle.pelzaune_ffi.specs.Status as Status;
-ghost use Rattle.pelzaune_ffi.specs.Handed as Formats;
-ghost use Rattle.pelzaune_ffi.specs.Status.{StatusesTell};
+ghost use Rattle.pelzaune_ffi.specs.Results as Formats;
+ghost use Rattle.pelzaune_ffi.specs.Status.{HaveErrorTexts};
 
 use time_values::error::{ComponentRange, Parse, ParseFromDescription, TryFromParsed};
 
@@ -113,5 +113,5 @@ pub fn format_of(number: u32) -> Option<Format>
 
 /// The status's text is the error's text, for each component of the table.
 pub fn law_status_texts()
-    ensures { StatusesTell }
+    ensures { HaveErrorTexts }
 {}

@@ -2,7 +2,7 @@
 ghost use Rattle.std.specs.Prelude.{◌≡◌};
 ghost use Rattle.time_components.specs.declared.inspect.Step.TheVariants as step;
 ghost use Rattle.time_descriptions.specs.Values.{ignored};
-ghost use Rattle.pelzaune_ffi.specs.Described as Held;
+ghost use Rattle.pelzaune_ffi.specs.Described as spec;
 
 use std::num::NonZero;
 use time_components::modifier::{self, SubsecondDigits, TrailingInput};
@@ -11,7 +11,7 @@ use time_components::{Component, Group, Padding, Step};
 /// A step of a description, in the layout of C.
 #[repr(C)]
 #[derive(Clone, Copy)]
-pub struct HeldStep {
+pub struct StoredStep {
     /// For a group: how many of the following steps are in it.
     pub len: usize,
     /// For skipped bytes: how many.
@@ -27,7 +27,7 @@ pub struct HeldStep {
 
 // The padding with this number. An unknown number is padding with zeros.
 fn padding_of(number: u8) -> Padding
-    ensures { result ≡ Held.padding_of number }
+    ensures { result ≡ spec.padding_of number }
 {
     match number {
         1 => Padding::Space,
@@ -38,7 +38,7 @@ fn padding_of(number: u8) -> Padding
 
 // The number of a padding.
 fn padding_number(padding: Padding) -> u8
-    ensures { result ≡ Held.padding_number padding }
+    ensures { result ≡ spec.padding_number padding }
 {
     match padding {
         Padding::Zero => 0,
@@ -49,7 +49,7 @@ fn padding_number(padding: Padding) -> u8
 
 // The digits with this number. An unknown number is one or more.
 fn digits_of(number: u8) -> SubsecondDigits
-    ensures { result ≡ Held.digits_of number }
+    ensures { result ≡ spec.digits_of number }
 {
     match number {
         1 => SubsecondDigits::One,
@@ -67,7 +67,7 @@ fn digits_of(number: u8) -> SubsecondDigits
 
 // The number of these digits.
 fn digits_number(digits: SubsecondDigits) -> u8
-    ensures { result ≡ Held.digits_number digits }
+    ensures { result ≡ spec.digits_number digits }
 {
     match digits {
         SubsecondDigits::OneOrMore => 0,
@@ -85,7 +85,7 @@ fn digits_number(digits: SubsecondDigits) -> u8
 
 // The treatment of trailing bytes with this number. An unknown number prohibits them.
 fn trailing_of(number: u8) -> TrailingInput
-    ensures { result ≡ Held.trailing_of number }
+    ensures { result ≡ spec.trailing_of number }
 {
     match number {
         1 => TrailingInput::Discard,
@@ -95,7 +95,7 @@ fn trailing_of(number: u8) -> TrailingInput
 
 // The number of this treatment.
 fn trailing_number(trailing: TrailingInput) -> u8
-    ensures { result ≡ Held.trailing_number trailing }
+    ensures { result ≡ spec.trailing_number trailing }
 {
     match trailing {
         TrailingInput::Prohibit => 0,
@@ -105,7 +105,7 @@ fn trailing_number(trailing: TrailingInput) -> u8
 
 // The step that skips this many bytes. Skipping none is the literal of byte 0, as is any unknown kind.
 fn skipping(count: u16) -> Step
-    ensures { result ≡ Held.skipping (ignored count) }
+    ensures { result ≡ spec.skipping (ignored count) }
 {
     match NonZero::<u16>::new(count) {
         Some(count) => Step::Component(Component::Ignore(modifier::Ignore { count })),
@@ -114,10 +114,10 @@ fn skipping(count: u16) -> Step
 }
 
 // The stored step of this kind, with a choice and a flag.
-fn chosen(kind: u8, choice: u8, flag: bool) -> HeldStep
-    ensures { result ≡ Held.chosen kind choice flag }
+fn chosen(kind: u8, choice: u8, flag: bool) -> StoredStep
+    ensures { result ≡ spec.chosen kind choice flag }
 {
-    HeldStep {
+    StoredStep {
         len: 0,
         count: 0,
         kind,
@@ -126,29 +126,29 @@ fn chosen(kind: u8, choice: u8, flag: bool) -> HeldStep
     }
 }
 
-// Each macro converts the components of one form: `step` from the stored step, and `held` to it.
+// Each macro converts the components of one form: `step` from the stored step, and `stored` to it.
 
 // A padding.
 macro_rules! padded {
-    (step $name:ident, $held:ident, $padding:ident, $flag:ident) => {
+    (step $name:ident, $stored:ident, $padding:ident, $flag:ident) => {
         Step::Component(Component::$name(modifier::$name {
             padding: $padding,
         }))
     };
-    (held $kind:literal, $modifiers:ident) => {
+    (stored $kind:literal, $modifiers:ident) => {
         chosen($kind, padding_number($modifiers.padding), false)
     };
 }
 
 // A padding and a sign.
 macro_rules! signed {
-    (step $name:ident, $held:ident, $padding:ident, $flag:ident) => {
+    (step $name:ident, $stored:ident, $padding:ident, $flag:ident) => {
         Step::Component(Component::$name(modifier::$name {
             padding: $padding,
             sign_is_mandatory: $flag,
         }))
     };
-    (held $kind:literal, $modifiers:ident) => {
+    (stored $kind:literal, $modifiers:ident) => {
         chosen(
             $kind,
             padding_number($modifiers.padding),
@@ -159,23 +159,23 @@ macro_rules! signed {
 
 // One modifier of yes or no: a mandatory sign, case sensitivity, or days that count from 1.
 macro_rules! flagged {
-    (step $name:ident, $held:ident, $padding:ident, $flag:ident, $asked:ident) => {
-        Step::Component(Component::$name(modifier::$name { $asked: $flag }))
+    (step $name:ident, $stored:ident, $padding:ident, $flag:ident, $field:ident) => {
+        Step::Component(Component::$name(modifier::$name { $field: $flag }))
     };
-    (held $kind:literal, $modifiers:ident, $asked:ident) => {
-        chosen($kind, 0, $modifiers.$asked)
+    (stored $kind:literal, $modifiers:ident, $field:ident) => {
+        chosen($kind, 0, $modifiers.$field)
     };
 }
 
 // `AM` or `PM`.
 macro_rules! halved {
-    (step $name:ident, $held:ident, $padding:ident, $flag:ident) => {
+    (step $name:ident, $stored:ident, $padding:ident, $flag:ident) => {
         Step::Component(Component::$name(modifier::$name {
-            is_uppercase: $held.choice != 0,
+            is_uppercase: $stored.choice != 0,
             case_sensitive: $flag,
         }))
     };
-    (held $kind:literal, $modifiers:ident) => {
+    (stored $kind:literal, $modifiers:ident) => {
         chosen(
             $kind,
             u8::from($modifiers.is_uppercase),
@@ -186,23 +186,23 @@ macro_rules! halved {
 
 // The digits of a fraction.
 macro_rules! fractional {
-    (step $name:ident, $held:ident, $padding:ident, $flag:ident) => {
+    (step $name:ident, $stored:ident, $padding:ident, $flag:ident) => {
         Step::Component(Component::$name(modifier::$name {
-            digits: digits_of($held.choice),
+            digits: digits_of($stored.choice),
         }))
     };
-    (held $kind:literal, $modifiers:ident) => {
+    (stored $kind:literal, $modifiers:ident) => {
         chosen($kind, digits_number($modifiers.digits), false)
     };
 }
 
 // How many bytes are skipped.
 macro_rules! skipped {
-    (step $name:ident, $held:ident, $padding:ident, $flag:ident) => {
-        skipping($held.count)
+    (step $name:ident, $stored:ident, $padding:ident, $flag:ident) => {
+        skipping($stored.count)
     };
-    (held $kind:literal, $modifiers:ident) => {
-        HeldStep {
+    (stored $kind:literal, $modifiers:ident) => {
+        StoredStep {
             count: $modifiers.count.get(),
             ..chosen($kind, 0, false)
         }
@@ -211,12 +211,12 @@ macro_rules! skipped {
 
 // The treatment of trailing bytes.
 macro_rules! ended {
-    (step $name:ident, $held:ident, $padding:ident, $flag:ident) => {
+    (step $name:ident, $stored:ident, $padding:ident, $flag:ident) => {
         Step::Component(Component::$name(modifier::$name {
-            trailing_input: trailing_of($held.choice),
+            trailing_input: trailing_of($stored.choice),
         }))
     };
-    (held $kind:literal, $modifiers:ident) => {
+    (stored $kind:literal, $modifiers:ident) => {
         chosen($kind, trailing_number($modifiers.trailing_input), false)
     };
 }
@@ -268,24 +268,24 @@ macro_rules! components {
 
 // Converts a stored step by its kind.
 macro_rules! step_of_each {
-    ($held:ident $padding:ident $flag:ident; $($kind:literal $name:ident $form:ident $(($asked:ident))?),+) => {
-        match $held.kind {
-            0 => Step::Literal($held.choice),
-            1 => Step::More($held.choice),
-            2 => Step::Group(Group::Optional, $held.len),
-            3 => Step::Group(Group::First, $held.len),
-            4 => Step::Group(Group::List, $held.len),
-            $($kind => $form!(step $name, $held, $padding, $flag $(, $asked)?),)+
+    ($stored:ident $padding:ident $flag:ident; $($kind:literal $name:ident $form:ident $(($field:ident))?),+) => {
+        match $stored.kind {
+            0 => Step::Literal($stored.choice),
+            1 => Step::More($stored.choice),
+            2 => Step::Group(Group::Optional, $stored.len),
+            3 => Step::Group(Group::First, $stored.len),
+            4 => Step::Group(Group::List, $stored.len),
+            $($kind => $form!(step $name, $stored, $padding, $flag $(, $field)?),)+
             _ => Step::Literal(0),
         }
     };
 }
 
 // Converts a component by its variant.
-macro_rules! held_of_each {
-    ($component:ident; $($kind:literal $name:ident $form:ident $(($asked:ident))?),+) => {
+macro_rules! stored_of_each {
+    ($component:ident; $($kind:literal $name:ident $form:ident $(($field:ident))?),+) => {
         match $component {
-            $(Component::$name(modifiers) => $form!(held $kind, modifiers $(, $asked)?),)+
+            $(Component::$name(modifiers) => $form!(stored $kind, modifiers $(, $field)?),)+
         }
     };
 }
@@ -293,33 +293,33 @@ macro_rules! held_of_each {
 /// The step that these numbers encode.
 #[inline]
 #[tactic(auto, unfolding(crate::specs::Described::step_of))]
-pub fn step_of(held: HeldStep) -> Step
-    ensures { result ≡ Held.step_of held }
+pub fn step_of(stored: StoredStep) -> Step
+    ensures { result ≡ spec.step_of stored }
 {
-    let padding = padding_of(held.choice);
-    let flag = held.flag != 0;
-    components!(step_of_each held padding flag)
+    let padding = padding_of(stored.choice);
+    let flag = stored.flag != 0;
+    components!(step_of_each stored padding flag)
 }
 
 // The stored step of a component.
-#[tactic(auto, using(crate::proofs::HeldRows::padding_back, crate::proofs::HeldRows::digits_back, crate::proofs::HeldRows::trailing_back, crate::proofs::HeldRows::flag_back, crate::proofs::HeldRows::skips), unfolding(crate::specs::Described::step_of))]
-fn held_component(component: Component) -> HeldStep
-    ensures { Held.step_of result ≡ step.Component component }
+#[tactic(auto, using(crate::proofs::StoredRows::padding_back, crate::proofs::StoredRows::digits_back, crate::proofs::StoredRows::trailing_back, crate::proofs::StoredRows::flag_back, crate::proofs::StoredRows::skips), unfolding(crate::specs::Described::step_of))]
+fn stored_component(component: Component) -> StoredStep
+    ensures { spec.step_of result ≡ step.Component component }
 {
-    components!(held_of_each component)
+    components!(stored_of_each component)
 }
 
 // The stored step of a group with this many steps in it.
 #[tactic(auto, unfolding(crate::specs::Described::step_of))]
-fn held_group(group: Group, len: usize) -> HeldStep
-    ensures { Held.step_of result ≡ step.Group group len }
+fn stored_group(group: Group, len: usize) -> StoredStep
+    ensures { spec.step_of result ≡ step.Group group len }
 {
     let kind = match group {
         Group::Optional => 2,
         Group::First => 3,
         Group::List => 4,
     };
-    HeldStep {
+    StoredStep {
         len,
         ..chosen(kind, 0, false)
     }
@@ -327,13 +327,13 @@ fn held_group(group: Group, len: usize) -> HeldStep
 
 /// The stored step that [`step_of`] converts back to this step.
 #[tactic(auto, unfolding(crate::specs::Described::step_of))]
-pub fn held_step(step: Step) -> HeldStep
-    ensures { Held.step_of result ≡ step }
+pub fn stored_step(step: Step) -> StoredStep
+    ensures { spec.step_of result ≡ step }
 {
     match step {
         Step::Literal(byte) => chosen(0, byte, false),
         Step::More(byte) => chosen(1, byte, false),
-        Step::Group(group, len) => held_group(group, len),
-        Step::Component(component) => held_component(component),
+        Step::Group(group, len) => stored_group(group, len),
+        Step::Component(component) => stored_component(component),
     }
 }

@@ -3,8 +3,8 @@ ghost use Rattle.std.specs.Prelude.{◌≡◌, length};
 ghost use Rattle.time_values.specs.Names.{month_number};
 ghost use Rattle.time_values.specs.Refusal.{Constructs};
 ghost use Rattle.time_writing.specs.Texts.{WritesSuch};
-ghost use Rattle.pelzaune_ffi.specs.Handed as Formats;
-ghost use Rattle.pelzaune_ffi.specs.Handed.{HasMoment, HandsMomentText, HandsText, HandsTextOf, IsDateOf, IsLocalOf, IsTextOf, date_refusal, local_refusal, month_refusal, moment_refusal, reason_of};
+ghost use Rattle.pelzaune_ffi.specs.Results as Formats;
+ghost use Rattle.pelzaune_ffi.specs.Results.{HasMoment, StoresMomentText, StoresText, StoresTextOf, IsDateOf, IsLocalOf, IsTextOf, date_refusal, local_refusal, month_refusal, moment_refusal, reason_of};
 
 use crate::parts::MomentParts;
 use crate::status::{Format, UNKNOWN_FORMAT, format_of, status_of_range};
@@ -77,7 +77,7 @@ fn unwritable_status(why: Unwritable) -> u32
 
 // Writes the text of a moment, or returns the status of the part that its format can't write.
 fn write_value(format: Format, value: OffsetDateTime, buffer: &mut [u8], count: &mut usize) -> u32
-    ensures { HandsTextOf format (reason_of format value) value result buffer.old buffer.new count.old count.new }
+    ensures { StoresTextOf format (reason_of format value) value result buffer.old buffer.new count.old count.new }
 {
     match text_of(format, value) {
         Ok(text) => {
@@ -91,7 +91,7 @@ fn write_value(format: Format, value: OffsetDateTime, buffer: &mut [u8], count: 
 
 // Writes the text of the moment with these parts, or returns the status of the first that is out of range.
 fn write_moment(format: Format, parts: &MomentParts, buffer: &mut [u8], count: &mut usize) -> u32
-    ensures { HandsMomentText format (moment_refusal parts.now) parts.now result
+    ensures { StoresMomentText format (moment_refusal parts.now) parts.now result
         buffer.old buffer.new count.old count.new }
 {
     match moment_of(parts) {
@@ -107,7 +107,7 @@ fn write_moment(format: Format, parts: &MomentParts, buffer: &mut [u8], count: &
 /// moment, or no format has this number.
 #[inline(always)]
 pub fn format_moment(format: u32, moment: &MomentParts, buffer: &mut [u8], count: &mut usize) -> u32
-    ensures { HandsText (Formats.format_of format) moment.now result buffer.old buffer.new count.old count.new }
+    ensures { StoresText (Formats.format_of format) moment.now result buffer.old buffer.new count.old count.new }
 {
     match format_of(format) {
         Some(format) => write_moment(format, moment, buffer, count),

@@ -34,7 +34,7 @@ use Rattle.programs_answers.specs.declared.formats.Format.{Format}
 use Rattle.programs_answers.specs.declared.formats.Format.TheVariants as format
 use Rattle.programs_answers.specs.declared.formats.Target.TheVariants as target
 
--- ---- Layouts, as they are written piece by piece
+-- ---- Values are written piece by piece
 
 -- four digits, two at a time
 fixed_four : (n : ℕ) → n < 10000 → fixed 4 n ≡ pair (n / 100) ++ pair (n % 100)
@@ -46,7 +46,7 @@ fixed_four n h =
     let d : n % 10 ≡ n % 100 % 10 = omega arith in
     rw (a, b, c, d) refl
 
--- the last four digits stand behind those before them
+-- the leading digits, and then the last four
 leading_digits-then : (n : ℕ) (b : Bool) → nat_lt n 10000 ≡ b → n < 2 ^ 64 → leading_digits n ++ fixed 4 (n % 10000) ≡ four_digits n
 leading_digits-then n true e fits =
     let small : n < 10000 = grind (arith, nat_tests) in
@@ -59,7 +59,7 @@ leading_digits-then n false e fits =
 five : (a b c d e f : List ℕ) → a ++ (b ++ c ++ d ++ e ++ f) ≡ a ++ b ++ c ++ d ++ e ++ f
 five a b c d e f = simp append_assoc
 
--- a date behind the front of its year
+-- a date, with the text before the last four digits of its year
 pub date_text-behind : (d : Date) (n m k : ℕ) (text : List ℕ)
     → n ≡ unsigned_abs d.year → n < 2 ^ 64 → m ≡ month_number d.month → k ≡ d.day
     → text ≡ fixed 4 (n % 10000) ++ codes "-" ++ fixed 2 m ++ codes "-" ++ fixed 2 k
@@ -77,7 +77,7 @@ date_text-behind d n m k text nz fits mm kk is =
     ∙ ap (λ t. year_text d.year ++ codes "-" ++ fixed 2 t ++ codes "-" ++ fixed 2 k) mm
     ∙ ap (λ t. year_text d.year ++ codes "-" ++ fixed 2 (month_number d.month) ++ codes "-" ++ fixed 2 t) kk
 
--- an array of spaces, in which two texts were put, each after the other and a space
+-- an array of spaces after two texts were written to it, with one space between them
 pub joined : (d t rest xs : List ℕ) (a k : ℕ) → xs ≡ d ++ 32 ∷ rest → a ≡ length d + 1 → length rest ≡ k
     → put_mid a k xs t ≡ d ++ codes " " ++ t
 joined d t rest xs a k e p q =
@@ -87,7 +87,7 @@ joined d t rest xs a k e p q =
     let none : drop k (drop a xs) ≡ [] = drop_all k _ (omega (arith, length-drop a xs, long)) in
     rw (front, none) (ap (λ l. d ++ codes " " ++ l) (append-nil t))
 
--- the sign before two texts is one before the first
+-- a sign before two texts is a sign before the first
 pub signed : (sign d t x y text : List ℕ) → text ≡ d ++ codes " " ++ t → sign ++ d ≡ x → t ≡ y
     → sign ++ text ≡ x ++ codes " " ++ y
 signed sign d t x y text e p q =
@@ -100,20 +100,20 @@ month_length-below y m = grind (arith, nat_tests)
 pub same_date_time : (d d' : Date) (t t' : Time) → d ≡ d' → t ≡ t' → date_time_text d t ≡ date_time_text d' t'
 same_date_time d d' t t' p q = ap (λ (x : Date). date_time_text x t) p ∙ ap (date_time_text d') q
 
--- ---- What was read and written
+-- ---- Reads and writes
 
--- what was read before the end is all that there was
+-- the bytes that were read before the end are all bytes of the source
 pub Consumes-end : (a b c : Option (List ℕ)) (xs : List ℕ) → Consumes a b xs → Consumes b c [] → IsAtEnd c → IfSome a (λ bytes. xs ≡ bytes)
 Consumes-end a b c xs p q e =
     Consumes-whole a c (xs ++ []) (λ (bytes : List ℕ). xs ≡ bytes) (Consumes-trans a b c xs [] p q) e (sym (append-nil xs))
 
--- one write more
+-- one more write
 pub Appends-then : {E : Type 0} (r : Result (Unit {0}) E) (a b c : Option (List ℕ)) (x y z : List ℕ)
     → Appends a b x → OnOk r (Appends b c y) → x ++ y ≡ z → OnOk r (Appends a c z)
 Appends-then (Ok u) a b c x y z p q e = subst (Appends a c) e (Appends-trans a b c x y p q)
 Appends-then (Err f) a b c x y z p q e = tt
 
--- an answered line more is written
+-- one more answer is written
 pub AreAnswers-more : (P : List ℕ → List ℕ → Type 0) (lines others all : List (List ℕ)) (line written more : List ℕ)
     → lines ≡ line ∷ others → WithLineFeed (P line) more
     → ((text : List ℕ) → AreAnswers P lines text → AreAnswers P all (written ++ text))
@@ -127,25 +127,25 @@ AreAnswers-more P lines others all line written more cut answered before text af
     subst (AreAnswers P all) joined
     (before (answer ++ 10 ∷ text) (subst (λ ls. AreAnswers P ls (answer ++ 10 ∷ text)) (sym cut) here))
 
--- LF is written behind a text
+-- LF is written after a text
 pub Writes_line_feed : {E : Type 0} (r : Result (Unit {0}) E) (P : List ℕ → Type 0) (a b c : Option (List ℕ))
     → Writes P a b → OnOk r (Appends b c (10 ∷ [])) → OnOk r (Writes (WithLineFeed P) a c)
 Writes_line_feed (Ok u) P a b c w more = (w.0 ++ 10 ∷ [], (w.0, w.1, refl), Appends-trans a b c w.0 (10 ∷ []) w.2 more)
 Writes_line_feed (Err e) P a b c w more = tt
 
--- the outcome of a text by a tree is the one by an equal tree; `Y` is the greatest year
+-- equal trees have equal outcomes; `Y` is the greatest year
 pub Writes-described : {E : Type 0} (r : Result (Unit {0}) E) (Y : ℕ) (tree same : Tree) (target : Target) (bytes : List ℕ)
     (a b : Option (List ℕ)) → tree ≡ same → OnOk r (Writes (IsDescribed Y tree target bytes) a b)
     → OnOk r (Writes (IsDescribed Y same target bytes) a b)
 Writes-described r Y tree same target bytes a b e h =
     subst (λ (t : Tree). OnOk r (Writes (IsDescribed Y t target bytes) a b)) e h
 
--- nothing is buffered behind what a writer holds
+-- an empty buffer adds nothing to a writer's contents
 pub append_known-none : (a : Option (List ℕ)) (buffered : List ℕ) → buffered ≡ [] → Appends a (append_known a buffered) []
 append_known-none None buffered e = tt
 append_known-none (Some s) buffered e = ap (λ t. s ++ t) e
 
--- the buffered bytes are written in the end
+-- the buffered bytes are written at the end
 pub Writes_flushed : {E : Type 0} (r : Result (Unit {0}) E) (P : List ℕ → Type 0) (a b c : Option (List ℕ))
     → Writes P a b → OnOk r (Keeps b c) → OnOk r (Writes P a c)
 Writes_flushed (Err e) P a b c w kept = tt
@@ -211,8 +211,8 @@ module _ (P : List ℕ → List ℕ → Type 0) (one : (line : List ℕ) → One
       ∙ ap (λ (t : List ℕ). k.0 ++ 10 ∷ t) (AreAnswers-one lines h.1 k.1 h.3 k.3)
       ∙ sym k.4
 
-  pub WritesAnswers-one : (input held new other : List ℕ)
-      → WritesAnswers P (Some held) (Some new) input → WritesAnswers P (Some held) (Some other) input
+  pub WritesAnswers-one : (input before new other : List ℕ)
+      → WritesAnswers P (Some before) (Some new) input → WritesAnswers P (Some before) (Some other) input
       → new ≡ other
-  WritesAnswers-one input held new other h k =
-      h.2 ∙ ap (λ (t : List ℕ). held ++ t) (AreAnswers-one (line_texts input) h.0 k.0 h.1 k.1) ∙ sym k.2
+  WritesAnswers-one input before new other h k =
+      h.2 ∙ ap (λ (t : List ℕ). before ++ t) (AreAnswers-one (line_texts input) h.0 k.0 h.1 k.1) ∙ sym k.2

@@ -1,5 +1,5 @@
--- Worked values of names and layouts, so that a wrong rule in the specs does not check. They follow from the
--- definitions, and no code lies between.
+-- Worked values of names and printed values, by the definitions alone. A wrong rule in the specs fails to check
+-- here.
 use Rattle.std.proofs.Common.{get_or, ◌≡◌, ℕ, List, [], ◌∷◌, ◌++◌, length, pos, neg_ℤ, true, false, Some, None, Err, codes, refl, sym, ap, ◌∙◌, arith}
 use Rattle.time_values.specs.Dates.{HasParts}
 use Rattle.time_values.specs.Offsets.{HasOffset}
@@ -32,7 +32,7 @@ no_format_of_a_target = refl
 pub no_target_of_nothing : target_named [] ≡ None
 no_target_of_nothing = refl
 
--- ---- Layouts
+-- ---- Printed values
 
 pub a_date : (d : Date) → HasParts (neg_ℤ (pos 5)) January 2 d → date_text d ≡ codes "-0005-01-02"
 unfolding fixed

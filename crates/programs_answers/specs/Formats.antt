@@ -12,7 +12,7 @@ use Rattle.programs_answers.specs.declared.formats.Format.TheVariants as format
 use Rattle.programs_answers.specs.declared.formats.Target.{Target}
 use Rattle.programs_answers.specs.declared.formats.Target.TheVariants as target
 
--- the format of that name, if there is one
+-- The format with this name, if there is one.
 abbrev pub format_named : List ℕ → Option Format
 format_named name =
     if bytes_eq name (codes "rfc3339") then Some format.Rfc3339 else
@@ -23,7 +23,7 @@ format_named name =
     if bytes_eq name (codes "unix") then Some format.Unix else
     if bytes_eq name (codes "local") then Some format.Local else None
 
--- the target of that name, if there is one
+-- The target with this name, if there is one.
 abbrev pub target_named : List ℕ → Option Target
 target_named name =
     if bytes_eq name (codes "date") then Some target.Date else
@@ -35,11 +35,11 @@ target_named name =
     if bytes_eq name (codes "staged") then Some target.Staged else
     if bytes_eq name (codes "timestamp") then Some target.Timestamp else None
 
--- a component, as a description before version 3 reads it
+-- A component, as in a description before version 3.
 abbrev pub part : Component → Tree
 part = component false
 
--- a year of four digits, with a sign or without
+-- A year of four digits, with an optional sign.
 abbrev pub year : Tree
 year = part (kind.CalendarYearFullStandardRange (record { padding = padding.Zero; sign_is_mandatory = false }))
 
@@ -49,7 +49,7 @@ minute = part (kind.Minute (record { padding = padding.Zero }))
 abbrev pub second : Tree
 second = part (kind.Second (record { padding = padding.Zero }))
 
--- `2021-03-04`
+-- `2021-03-04`.
 abbrev pub date_parts : List Tree
 date_parts =
     year
@@ -59,7 +59,7 @@ date_parts =
     ∷ part (kind.Day (record { padding = padding.Zero }))
     ∷ []
 
--- `03:04:05`
+-- `03:04:05`.
 abbrev pub time_parts : List Tree
 time_parts =
     part (kind.Hour24 (record { padding = padding.Zero }))
@@ -69,7 +69,7 @@ time_parts =
     ∷ second
     ∷ []
 
--- `-00:30`
+-- `-00:30`.
 abbrev pub offset_parts : List Tree
 offset_parts =
     part (kind.OffsetHour (record { padding = padding.Zero; sign_is_mandatory = true }))
@@ -77,23 +77,23 @@ offset_parts =
     ∷ part (kind.OffsetMinute (record { padding = padding.Zero }))
     ∷ []
 
--- `2021-01-02 03:04:05 -00:30`
+-- `2021-01-02 03:04:05 -00:30`.
 abbrev pub date_time_parts : List Tree
 date_time_parts = date_parts ++ literal (codes " ") ∷ time_parts ++ literal (codes " ") ∷ offset_parts
 
--- a year and the day of it, as `2020-366`
+-- A year and its day, as `2020-366`.
 abbrev pub ordinal_parts : List Tree
 ordinal_parts = year ∷ literal (codes "-") ∷ part (kind.Ordinal (record { padding = padding.Zero })) ∷ []
 
--- `.25`
+-- `.25`.
 abbrev pub fraction_parts : List Tree
 fraction_parts = literal (codes ".") ∷ part (kind.Subsecond (record { digits = OneOrMore })) ∷ []
 
--- `:09`, and a fraction that may be missing
+-- `:09`, with an optional fraction.
 abbrev pub second_parts : Tree → List Tree
 second_parts fraction = literal (codes ":") ∷ second ∷ optional fraction ∷ []
 
--- `1:05 PM`, and before the space a second that may be missing
+-- `1:05 PM`, with optional seconds before the space.
 abbrev pub clock_parts : Tree → List Tree
 clock_parts seconds =
     part (kind.Hour12 (record { padding = padding.None }))
@@ -104,29 +104,29 @@ clock_parts seconds =
     ∷ part (kind.Period (record { is_uppercase = true; case_sensitive = false }))
     ∷ []
 
--- a date
+-- A date.
 abbrev pub ymd : Tree
 ymd = sequence (trees date_parts)
 
--- a time on a clock of 12 hours
+-- A time on a clock of 12 hours.
 abbrev pub clock : Tree
 clock = sequence (trees (clock_parts (sequence (trees (second_parts (sequence (trees fraction_parts)))))))
 
--- seconds since 1970-01-01T00:00:00Z, in a description of version 3
+-- Seconds since 1970-01-01T00:00:00Z, in a description of version 3.
 abbrev pub unix : Tree
 unix = component true (kind.UnixTimestampSecond (record { sign_is_mandatory = false }))
 
--- a date, time and offset, or a year and its day
+-- A date, time and offset, or a year and its day.
 abbrev pub local : Tree
 local = first_of (trees (sequence (trees date_time_parts) ∷ sequence (trees ordinal_parts) ∷ []))
 
--- the steps of prepared descriptions
+-- The steps of prepared descriptions.
 pub record Descriptions : Type 0 where
   pub ymd : List Step
   pub clock : List Step
   pub local : List Step
 
--- They have the trees of the formats.
+-- The steps have the trees of the formats.
 abbrev pub AreOfFormats : Descriptions → Type 0
 AreOfFormats d =
     (steps_shape d.ymd ≡ ymd) × (steps_shape d.clock ≡ clock) × (steps_shape d.local ≡ sequence (trees (local ∷ [])))

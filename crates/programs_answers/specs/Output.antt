@@ -1,4 +1,4 @@
--- What is written for a text, and for an input of several lines. `Y` is the greatest year.
+-- The output for a text, and for an input of several lines. `Y` is the greatest year.
 use Rattle.std.specs.Prelude.{ℕ, List, [], ◌++◌, codes, ℤ, pos, Bool, if◌then◌else◌, int_lt, nat_lt, unsigned_abs, ◌∷◌, ◌||◌, Result, Ok, Err, ◌==◌, ◌≡◌, Option, None, ◌⊎◌, ◌^◌, ◌≤◌, MatchResult}
 use Rattle.std.specs.Fmt.{decimal, signed_decimal}
 use Rattle.std.specs.Io.KnownBytes.{Appends}
@@ -35,21 +35,21 @@ use Rattle.programs_answers.specs.declared.formats.Target.TheVariants as target
 use Rattle.programs_answers.specs.declared.serving.Stop.{Stop}
 use Rattle.programs_answers.specs.declared.serving.Stop.TheVariants.{Unread, Memory, Unwritten}
 
--- ---- How numbers and values are laid out
+-- ---- Numbers as text
 
--- a minus, or nothing
+-- A minus, or nothing.
 abbrev pub minus_if : Bool → List ℕ
 minus_if is_negative = if is_negative then codes "-" else []
 
--- four digits, or all digits of a number that has more
+-- Four digits, or all digits of a number that has more.
 abbrev pub four_digits : ℕ → List ℕ
 four_digits n = if nat_lt n 10000 then fixed 4 n else decimal n
 
--- a year, with four digits at least
+-- A year, with at least four digits.
 abbrev pub year_text : ℤ → List ℕ
 year_text y = minus_if (int_lt y (pos 0)) ++ four_digits (unsigned_abs y)
 
--- ---- How a value, or a refusal, is printed
+-- ---- Values and errors as text
 
 -- `YYYY-MM-DD`
 abbrev pub date_text : Date → List ℕ
@@ -66,11 +66,11 @@ time_text t =
     ++ codes ":" ++ fixed 2 (Times.second t)
     ++ codes "." ++ fixed 9 (Times.nanosecond t)
 
--- a number below 0
+-- Whether a number is below 0.
 abbrev pub is_negative : ℤ → Bool
 is_negative z = int_lt z (pos 0)
 
--- the byte `-` where a part is negative, and else `+`
+-- The byte `-` if a part is negative, else `+`.
 abbrev pub sign_of : UtcOffset → ℕ
 sign_of o =
     if is_negative (Offsets.hours o) || is_negative (Offsets.minutes o) || is_negative (Offsets.seconds o)
@@ -83,46 +83,47 @@ offset_text o =
     ++ codes ":" ++ fixed 2 (unsigned_abs (Offsets.minutes o))
     ++ codes ":" ++ fixed 2 (unsigned_abs (Offsets.seconds o))
 
--- date, space, time
+-- Date, space, time.
 abbrev pub date_time_text : Date → Time → List ℕ
 date_time_text d t = date_text d ++ codes " " ++ time_text t
 
 abbrev pub plain_text : PlainDateTime → List ℕ
 plain_text p = date_time_text (plain_date p) (plain_time p)
 
--- date, space, time, space, and the offset of UTC
+-- Date, space, time, space, and the offset of UTC.
 abbrev pub utc_text : UtcDateTime → List ℕ
 utc_text u = date_time_text (utc_date u) (utc_time u) ++ codes " +00:00:00"
 
--- date, space, time, space, offset
+-- Date, space, time, space, offset.
 abbrev pub offset_date_time_text : OffsetDateTime → List ℕ
 offset_date_time_text v = date_time_text (offset_date v) (offset_time v) ++ codes " " ++ offset_text (offset_of v)
 
--- nanoseconds since 1970-01-01T00:00:00Z
+-- Nanoseconds since 1970-01-01T00:00:00Z.
 abbrev pub timestamp_text : Timestamp → List ℕ
 timestamp_text t = signed_decimal (nanoseconds t)
 
--- what a parse answers, printed
+-- The result of a parse, printed.
 abbrev pub printed : {V : Type 0} → (V → List ℕ) → Result V Refusal → List ℕ
 printed value_text (Ok v) = value_text v
 printed value_text (Err e) = codes "error: " ++ refusal_text e
 
 -- ---- The answers to the lines of an input
 
--- The answer is an outcome of which P holds, printed.
-abbrev pub PrintsSuch : {V : Type 0} → (Result V Refusal → Type 0) → (V → List ℕ) → List ℕ → Type 0
-PrintsSuch {V} P value_text answer = (outcome : Result V Refusal) × P outcome × (answer ≡ printed value_text outcome)
+-- The answer is a printed outcome that has the property P.
+abbrev pub PrintsOutcome : {V : Type 0} → (Result V Refusal → Type 0) → (V → List ℕ) → List ℕ → Type 0
+PrintsOutcome {V} P value_text answer = (outcome : Result V Refusal) × P outcome × (answer ≡ printed value_text outcome)
 
--- The answer is the outcome of the text, printed. The format of these two relations reads it over an empty record.
+-- The answer is the printed outcome of the text, which the format parses over an empty record.
 abbrev pub IsPrinted : {V : Type 0} → Resolving V → (V → List ℕ) → Reading → Refusing → List ℕ → List ℕ → Type 0
-IsPrinted resolves value_text reads refuses text = PrintsSuch (IsOutcome resolves reads refuses text empty) value_text
+IsPrinted resolves value_text reads refuses text =
+    PrintsOutcome (IsOutcome resolves reads refuses text empty) value_text
 
--- The same of a moment, which a format may read on a direct path.
+-- The answer is the printed outcome of a moment, which a format may parse on a direct path.
 abbrev pub IsPrintedMoment : ℕ → Path → Reading → Refusing → List ℕ → List ℕ → Type 0
 IsPrintedMoment Y path reads refuses text =
-    PrintsSuch (IsMomentOutcome Y path reads refuses text None) offset_date_time_text
+    PrintsOutcome (IsMomentOutcome Y path reads refuses text None) offset_date_time_text
 
--- the outcome of the text for the target, printed: `staged` is a moment that is always read over a record
+-- The answer is the printed outcome of the text for the target. `staged` is a moment, always parsed over a record.
 abbrev pub IsAnswerFor : ℕ → Target → Path → Reading → Refusing → List ℕ → List ℕ → Type 0
 IsAnswerFor Y target.Date path = IsPrinted (IsDated Y) date_text
 IsAnswerFor Y target.Time path = IsPrinted IsTimed time_text
@@ -133,11 +134,11 @@ IsAnswerFor Y target.DateTime path = IsPrintedMoment Y path
 IsAnswerFor Y target.Staged path = IsPrinted (IsMoment Y) offset_date_time_text
 IsAnswerFor Y target.Timestamp path = IsPrinted (IsTimestamp Y) timestamp_text
 
--- the same, where the format is a description
+-- The answer by the format that a description has.
 abbrev pub IsDescribed : ℕ → Tree → Target → List ℕ → List ℕ → Type 0
 IsDescribed Y tree target = IsAnswerFor Y target over_record (Description.Reads Y tree) (Description.Refuses Y tree)
 
--- the same, where the format is one that a line may name
+-- The answer by a format with a name.
 abbrev pub IsParsed : ℕ → Format → Target → List ℕ → List ℕ → Type 0
 IsParsed Y format.Rfc3339 target =
     IsAnswerFor Y target (direct (RefusesRfc3339 Y)) (Rfc3339.Reads Y) (Rfc3339.Refuses Y)
@@ -149,44 +150,44 @@ IsParsed Y format.Clock target = IsDescribed Y clock target
 IsParsed Y format.Unix target = IsDescribed Y unix target
 IsParsed Y format.Local target = IsDescribed Y local target
 
--- the answers to the lines, each followed by LF; P says what the answer to a line is
+-- The answers to the lines, each followed by LF. P relates a line to its answer.
 abbrev pub AreAnswers : (List ℕ → List ℕ → Type 0) → List (List ℕ) → List ℕ → Type 0
 AreAnswers P [] text = text ≡ []
 AreAnswers P (line ∷ lines) text =
     (answer : List ℕ) × (others : List ℕ)
     × P line answer × AreAnswers P lines others × (text ≡ answer ++ 10 ∷ others)
 
--- A writer holds what it held, and then a text of which P holds.
+-- The writer's contents are followed by a text that has the property P.
 abbrev pub Writes : (List ℕ → Type 0) → Option (List ℕ) → Option (List ℕ) → Type 0
 Writes P old new = (text : List ℕ) × P text × Appends old new text
 
--- A writer holds what it held, and then the answers to the lines of the input.
+-- The writer's contents are followed by the answers to the lines of the input.
 abbrev pub WritesAnswers : (List ℕ → List ℕ → Type 0) → Option (List ℕ) → Option (List ℕ) → List ℕ → Type 0
 WritesAnswers P old new input = Writes (AreAnswers P (line_texts input)) old new
 
--- ---- Why the work stopped
+-- ---- Why a call returned early
 
--- A count of failed reads rose, or 4294967296 reads gave a byte each at least.
+-- The count of failed reads rose, or 4294967296 reads returned at least a byte each.
 abbrev pub IsUnread : ℕ → ℕ → ℕ → ℕ → Type 0
 IsUnread faults faults' given given' = Rises faults faults' ⊎ (count_more given (2 ^ 32) ≤ given')
 
--- That is so where the work stopped by a read, and the count is as it was where it stopped otherwise.
+-- `IsUnread`, if a read stopped the call. The count of failed reads is unchanged if anything else did.
 abbrev pub IsReadCounted : Stop → ℕ → ℕ → ℕ → ℕ → Type 0
 IsReadCounted Unread faults faults' given given' = IsUnread faults faults' given given'
 IsReadCounted Memory faults faults' given given' = faults' ≡ faults
 IsReadCounted Unwritten faults faults' given given' = faults' ≡ faults
 
--- The same, and it is as it was where the work came to its end.
+-- As `IsReadCounted` after an early return. The count of failed reads is unchanged after `Ok`.
 abbrev pub HasReadCause : {V : Type 0} → Result V Stop → ℕ → ℕ → ℕ → ℕ → Type 0
 HasReadCause result faults faults' given given' =
     MatchResult result (λ _. faults' ≡ faults) (λ stop. IsReadCounted stop faults faults' given given')
 
--- A count of failed writes rose where the work stopped by a write, and is as it was where it stopped otherwise.
-abbrev pub IsCounted : Stop → ℕ → ℕ → Type 0
-IsCounted Unread before now = now ≡ before
-IsCounted Memory before now = now ≡ before
-IsCounted Unwritten before now = Rises before now
+-- The count of failed writes rose if a write stopped the call, and is unchanged if anything else did.
+abbrev pub IsWriteCounted : Stop → ℕ → ℕ → Type 0
+IsWriteCounted Unread before now = now ≡ before
+IsWriteCounted Memory before now = now ≡ before
+IsWriteCounted Unwritten before now = Rises before now
 
--- The same, and it is as it was where the work came to its end.
+-- As `IsWriteCounted` after an early return. The count of failed writes is unchanged after `Ok`.
 abbrev pub HasWriteCause : {V : Type 0} → Result V Stop → ℕ → ℕ → Type 0
-HasWriteCause result before now = MatchResult result (λ _. now ≡ before) (λ stop. IsCounted stop before now)
+HasWriteCause result before now = MatchResult result (λ _. now ≡ before) (λ stop. IsWriteCounted stop before now)

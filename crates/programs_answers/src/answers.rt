@@ -16,7 +16,7 @@ use time_parsing::Parsable;
 use time_record::Parsed;
 use time_values::error::Parse;
 
-// Writes the error of a parse for want of the component of that name.
+// Writes the error of a component that couldn't be parsed.
 #[inline(always)]
 fn write_missing<W: Sink>(name: &str, out: &mut W) -> Result<(), Unwritten>
     ensures bytes { OnOk result (Appends (W.contents out.old) (W.contents out.new)
@@ -40,13 +40,13 @@ fn write_error<W: Sink>(error: Parse, out: &mut W) -> Result<(), Unwritten>
     if let Some(name) = fast::missing_component(error) {
         return write_missing(name, out);
     }
-    if let Some(line) = fast::lack(error) {
+    if let Some(line) = fast::insufficient_information(error) {
         return out.write_all(line.as_bytes());
     }
     write!(out, "error: {error}")
 }
 
-/// Writes a value, or `error: ` and why there is none.
+/// Writes a value, or `error: ` and the error's text.
 #[inline(always)]
 pub fn write_outcome<V: Layout, W: Sink>(
     outcome: Result<V, Parse>,
@@ -63,7 +63,7 @@ pub fn write_outcome<V: Layout, W: Sink>(
     value.write_to(out)
 }
 
-/// Writes the outcome of the text by the format for the target: the value, or `error: ` and why there is none.
+/// Parses the text by the format for the target, and writes the value, or `error: ` and the error's text.
 #[inline(always)]
 pub fn write_value<F: Parsable, W: Sink>(
     format: &F,

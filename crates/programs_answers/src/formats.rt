@@ -19,7 +19,7 @@ pub enum Format {
     Iso8601,
     /// A date, as `2021-03-04`.
     Ymd,
-    /// A time on a clock of 12 hours, as `1:05:09.25 PM`; the second and its fraction may be missing.
+    /// A time on a clock of 12 hours, as `1:05:09.25 PM`; the second and its fraction are optional.
     Clock,
     /// Seconds since 1970-01-01T00:00:00Z.
     Unix,
@@ -42,20 +42,20 @@ pub enum Target {
     Utc,
     /// A date, time and offset.
     DateTime,
-    /// A date, time and offset, read over an empty record.
+    /// A date, time and offset, always parsed over a record.
     Staged,
     /// An instant.
     Timestamp,
 }
 
-// The value beside the first of these names that the bytes are, if there is one.
+// The value of the first of these names that equals the bytes, if one does.
 macro_rules! value_named {
     ($bytes:expr, $($name:literal => $value:expr),+) => {
         $(if $bytes == $name.as_slice() { Some($value) } else)+ { None }
     };
 }
 
-/// The format of that name, if there is one.
+/// The format with this name, if there is one.
 pub fn find_format(name: &[u8]) -> Option<Format>
     ensures { result ≡ formats.format_named name.now }
 {
@@ -71,7 +71,7 @@ pub fn find_format(name: &[u8]) -> Option<Format>
     )
 }
 
-/// The target of that name, if there is one.
+/// The target with this name, if there is one.
 pub fn find_target(name: &[u8]) -> Option<Target>
     ensures { result ≡ formats.target_named name.now }
 {
@@ -88,21 +88,21 @@ pub fn find_target(name: &[u8]) -> Option<Target>
     )
 }
 
-// A component that a description reads.
+// A component of a description.
 macro_rules! item {
     ($name:ident, $($field:ident: $value:expr),*) => {
         BorrowedFormatItem::Component(Component::$name(modifier::$name { $($field: $value),* }))
     };
 }
 
-/// The items in turn.
+/// An item that parses these items one after another.
 pub fn compound<'a>(items: &'a [BorrowedFormatItem<'a>]) -> BorrowedFormatItem<'a>
     ensures { borrowed_shape result ≡ sequence (trees (map borrowed_shape items.now)) }
 {
     BorrowedFormatItem::Compound(items)
 }
 
-/// The first item that reads.
+/// An item that parses by the first of these items that accepts the text.
 pub fn first<'a>(items: &'a [BorrowedFormatItem<'a>]) -> BorrowedFormatItem<'a>
     ensures { borrowed_shape result ≡ first_of (trees (map borrowed_shape items.now)) }
 {
@@ -167,7 +167,7 @@ pub fn fraction_items() -> [BorrowedFormatItem<'static>; 2]
     ]
 }
 
-/// `:09`, and a fraction that may be missing.
+/// `:09`, with an optional fraction.
 pub fn second_items<'a>(fraction: &'a BorrowedFormatItem<'a>) -> [BorrowedFormatItem<'a>; 3]
     ensures { map borrowed_shape result ≡ formats.second_parts (borrowed_shape fraction.now) }
 {
@@ -178,7 +178,7 @@ pub fn second_items<'a>(fraction: &'a BorrowedFormatItem<'a>) -> [BorrowedFormat
     ]
 }
 
-/// `1:05 PM`, and before the space a second that may be missing.
+/// `1:05 PM`, with optional seconds before the space.
 pub fn clock_items<'a>(seconds: &'a BorrowedFormatItem<'a>) -> [BorrowedFormatItem<'a>; 6]
     ensures { map borrowed_shape result ≡ formats.clock_parts (borrowed_shape seconds.now) }
 {

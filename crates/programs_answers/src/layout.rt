@@ -1,4 +1,4 @@
-//! Lays values out as text.
+//! Writes values as text.
 ghost use Rattle.std.specs.Prelude.{◌≡◌, ℕ, ◌<◌, List, ◌++◌, ◌∷◌, codes, OnOk};
 ghost use Rattle.std.specs.Io.KnownBytes.{Appends};
 ghost use Rattle.byte_streams.specs.Faults.{HasCause};
@@ -45,7 +45,7 @@ fn time_bytes(hour: u8, minute: u8, second: u8, nanosecond: u32) -> [u8; 18]
     ]
 }
 
-// `HH:MM:SS`, after the sign that it is handed.
+// `HH:MM:SS`, after the given sign.
 #[inline]
 fn offset_bytes(sign: u8, hours: u8, minutes: u8, seconds: u8) -> [u8; 9]
     requires hours_in { hours < 100 }
@@ -79,7 +79,7 @@ fn lay_time(time: Time) -> [u8; 18]
     time_bytes(time.hour(), time.minute(), time.second(), time.nanosecond())
 }
 
-// `+HH:MM:SS`, with `-` where a part is negative.
+// `+HH:MM:SS`, or with `-` if a part is negative.
 #[inline(always)]
 fn lay_offset(offset: UtcOffset) -> [u8; 9]
     ensures { result ≡ offset_text offset }
@@ -146,7 +146,7 @@ fn write_leading_digits<W: Sink>(year: u32, out: &mut W) -> Result<(), Unwritten
     out.write_all(buffer.format(year / 10_000).as_bytes())
 }
 
-// Writes what stands before the last four digits of a date's year: of most years nothing.
+// Writes the text before the last four digits of a date's year: nothing for most years.
 #[inline(always)]
 fn write_year_front<W: Sink>(date: Date, out: &mut W) -> Result<(), Unwritten>
     ensures bytes { OnOk result (Appends (W.contents out.old) (W.contents out.new) (year_front (Dates.year date))) }
@@ -172,7 +172,7 @@ pub trait Layout {
         ensures through { W.through out.new ≡ W.through out.old };
 }
 
-/// `YYYY-MM-DD`, after a minus where the year is negative, and with all digits of a year past 9999.
+/// `YYYY-MM-DD`, after a minus if the year is negative, and with all digits of a year past 9999.
 impl Layout for Date {
     ghost text = { date_text };
 
@@ -193,7 +193,7 @@ impl Layout for Time {
     }
 }
 
-/// `+HH:MM:SS`, with `-` where a part is negative.
+/// `+HH:MM:SS`, or with `-` if a part is negative.
 impl Layout for UtcOffset {
     ghost text = { offset_text };
 

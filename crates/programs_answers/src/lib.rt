@@ -1,4 +1,4 @@
-//! Answers to texts: formats and targets by name, values laid out, and whole inputs answered line by line.
+//! Answers to texts: finds formats and targets by name, prints values, and answers whole inputs line by line.
 #![tactic(auto)]
 
 mod answers;
@@ -12,4 +12,4 @@ pub use answers::{write_outcome, write_value};
 pub use laws::law_done;
 pub use layout::Layout;
 pub use named::Named;
-pub use serving::{Answering, Stop, run, serve};
+pub use serving::{LineHandler, Stop, run, serve};

@@ -63,7 +63,7 @@ fn clock() -> Prepared<11>
     }
 }
 
-// The first of these lists that reads.
+// A description that parses by the first of these lists that accepts the text.
 fn choice(lists: &[BorrowedFormatItem<'_>]) -> Result<Prepared<21>, Unprepared>
     ensures { Prepares 21 (trees (first_of (trees (map borrowed_shape lists.now)) ∷ [])) result }
 {
@@ -83,7 +83,7 @@ fn local() -> Prepared<21>
 }
 
 impl Named {
-    /// The formats, prepared. Nothing is allocated.
+    /// Prepares the formats, and allocates nothing.
     pub fn new() -> Named
         ensures { formats.AreOfFormats result }
     {
@@ -94,7 +94,7 @@ impl Named {
         }
     }
 
-    // Writes the outcome of the text by a description of a date, time and offset, or of a year and its day.
+    // Parses the text as a date, time and offset, or as a year and its day, and writes the outcome.
     #[inline(always)]
     fn write_local<W: Sink>(
         &self,
@@ -110,8 +110,8 @@ impl Named {
         write_value(&self.local, target, text, out)
     }
 
-    /// Writes the outcome of the text by a format that has a name for the target: the value, or `error: ` and why there is
-    /// none.
+    /// Parses the text by a format with a name for the target, and writes the value, or `error: ` and the error's
+    /// text.
     #[inline(always)]
     pub fn write_parsed<W: Sink>(
         &self,

@@ -1,4 +1,4 @@
-//! Cuts an input into lines, and answers whole inputs.
+//! Splits an input into lines, and answers whole inputs.
 ghost use Rattle.std.specs.Io.KnownBytes.{append_known};
 ghost use Rattle.std.specs.Prelude.{◌≡◌, ◌≢◌, ℕ, List, [], OnOk, IfErr, IfOk, IfSome, Err, ◌∷◌, ◌<◌, length};
 ghost use Rattle.byte_streams.specs.Faults.{HasCause};
@@ -8,19 +8,19 @@ ghost use Rattle.programs_answers.specs.Pieces.{WithLineFeed};
 use byte_streams::{BufferedSink, Sink, Source, Unwritten, first_line};
 use std::alloc::Allocator;
 
-/// Why the program stopped before its end.
+/// Why the program exits early.
 #[derive(Clone, Copy, Debug, PartialEq, Eq)]
 pub enum Stop {
     /// A read failed, or the input didn't end within the reads that [`serve`] makes.
     Unread,
-    /// The input buffer's growth was refused.
+    /// There is no memory for the input.
     Memory,
     /// A write failed.
     Unwritten,
 }
 
 impl Stop {
-    /// The exit status: 1 after a failed write, and else 2.
+    /// The exit status: 1 after a failed write, else 2.
     pub fn status(&self) -> u8
         ensures unwritten { self.now ≡ Stop.Unwritten → result ≡ 1 }
         ensures unread { self.now ≡ Stop.Unread → result ≡ 2 }
@@ -33,9 +33,9 @@ impl Stop {
     }
 }
 
-/// What answers lines.
-pub trait Answering {
-    // A text is the answer to a line.
+/// Writes the answers to lines.
+pub trait LineHandler {
+    // Whether a text is the answer to a line.
     ghost is_answer: { Self → List ℕ → List ℕ → Type 0 };
 
     /// Writes the answer to a line.
@@ -47,29 +47,29 @@ pub trait Answering {
 
 // Writes the answer to a line, and LF.
 #[inline(always)]
-fn add_line<A: Answering, W: Sink>(
-    answering: &A,
+fn add_line<A: LineHandler, W: Sink>(
+    handler: &A,
     line: &[u8],
     out: &mut BufferedSink<W>,
 ) -> Result<(), Unwritten>
-    ensures bytes { OnOk result (Writes (WithLineFeed (A.is_answer answering.now line.now))
+    ensures bytes { OnOk result (Writes (WithLineFeed (A.is_answer handler.now line.now))
         (append_known (W.contents out.old.sink) out.old.buffer.items) (append_known (W.contents out.new.sink) out.new.buffer.items)) }
     ensures cause { HasCause result (W.faults out.old.sink) (W.faults out.new.sink) }
     ensures through { W.through out.new.sink ≡ W.through out.old.sink }
 {
-    answering.write_answer(line, out)?;
+    handler.write_answer(line, out)?;
     out.write_all(b"\n")
 }
 
 // Answers all lines. The last answers may still be buffered.
 #[inline(always)]
-fn answer_lines<A: Answering, W: Sink>(
-    answering: &A,
+fn answer_lines<A: LineHandler, W: Sink>(
+    handler: &A,
     input: &[u8],
     out: &mut BufferedSink<W>,
 ) -> Result<(), Unwritten>
     requires { out.old.buffer.items ≡ [] }
-    ensures answers { OnOk result (WritesAnswers (A.is_answer answering.now) (W.contents out.old.sink)
+    ensures answers { OnOk result (WritesAnswers (A.is_answer handler.now) (W.contents out.old.sink)
         (append_known (W.contents out.new.sink) out.new.buffer.items) input.now) }
     ensures cause { HasCause result (W.faults out.old.sink) (W.faults out.new.sink) }
     ensures through { W.through out.new.sink ≡ W.through out.old.sink }
@@ -77,37 +77,37 @@ fn answer_lines<A: Answering, W: Sink>(
     let mut rest = input;
     while !rest.is_empty() {
         let (line, after) = first_line(rest);
-        add_line(answering, line, out)?;
+        add_line(handler, line, out)?;
         rest = after;
     }
     Ok(())
 }
 
-/// Writes the answer to each line of the input, and allocates nothing. What was buffered before is dropped.
+/// Writes the answer to each line of the input, and allocates nothing. Earlier contents of the buffer are dropped.
 ///
-/// Each line ends with LF, which the last one may lack. After an `Err`, which only a write of the sink gives, nothing is
-/// known of how much was written.
+/// Each line ends with LF, which is optional after the last one. `Err` is the error of a write, after which it is
+/// unspecified how much was written.
 #[inline(always)]
 #[tactic(auto, using(crate::proofs::OutputLemmas::Writes_flushed))]
-pub fn run<A: Answering, W: Sink>(
-    answering: &A,
+pub fn run<A: LineHandler, W: Sink>(
+    handler: &A,
     input: &[u8],
     out: &mut BufferedSink<W>,
 ) -> Result<(), Unwritten>
     ensures answers { OnOk result
-        (WritesAnswers (A.is_answer answering.now) (W.contents out.old.sink) (W.contents out.new.sink) input.now) }
+        (WritesAnswers (A.is_answer handler.now) (W.contents out.old.sink) (W.contents out.new.sink) input.now) }
     ensures cause { HasCause result (W.faults out.old.sink) (W.faults out.new.sink) }
     ensures through { W.through out.new.sink ≡ W.through out.old.sink }
 {
     out.clear_buffer();
-    answer_lines(answering, input, out)?;
+    answer_lines(handler, input, out)?;
     out.flush_buffer()
 }
 
-// After so many reads an input counts as one without an end.
+// After this many reads the input counts as endless.
 const MOST_READS: u64 = 4294967296;
 
-// Reads all that the source has left. A failed read is not tried again.
+// Reads the rest of the source. A failed read isn't retried.
 fn read_all<R: Source, G: Allocator>(alloc: G, input: &mut R) -> Result<Vec<u8, G>, Stop>
     ensures all { IfOk result (λ text. IfSome (R.remaining input.old) (λ bytes. text.items ≡ bytes)) }
     ensures unwritten { IfErr result (λ stop. stop ≢ Stop.Unwritten) }
@@ -127,20 +127,20 @@ fn read_all<R: Source, G: Allocator>(alloc: G, input: &mut R) -> Result<Vec<u8, 
     Err(Stop::Unread)
 }
 
-/// Reads the input to its end, with 4294967296 reads at most, and writes the answer to each of its
+/// Reads the input to its end, with at most 4294967296 reads, and writes the answer to each of its
 /// lines.
 ///
-/// A failed read is not tried again, not even an interrupted one. After [`Stop::Unread`] or
+/// A failed read isn't retried, not even an interrupted one. After [`Stop::Unread`] or
 /// [`Stop::Memory`] nothing was written.
 #[inline(always)]
-pub fn serve<A: Answering, R: Source, W: Sink, G: Allocator>(
-    answering: &A,
+pub fn serve<A: LineHandler, R: Source, W: Sink, G: Allocator>(
+    handler: &A,
     alloc: G,
     input: &mut R,
     out: &mut BufferedSink<W>,
 ) -> Result<(), Stop>
     ensures ok { OnOk result (IfSome (R.remaining input.old)
-        (λ bytes. WritesAnswers (A.is_answer answering.now) (W.contents out.old.sink) (W.contents out.new.sink) bytes)) }
+        (λ bytes. WritesAnswers (A.is_answer handler.now) (W.contents out.old.sink) (W.contents out.new.sink) bytes)) }
     ensures unread { result ≡ Err Stop.Unread → out.new ≡ out.old }
     ensures memory { result ≡ Err Stop.Memory → out.new ≡ out.old }
     ensures read { HasReadCause result (R.faults input.old) (R.faults input.new) (R.given input.old) (R.given input.new) }
@@ -148,7 +148,7 @@ pub fn serve<A: Answering, R: Source, W: Sink, G: Allocator>(
     ensures through { W.through out.new.sink ≡ W.through out.old.sink }
 {
     let text = read_all(alloc, input)?;
-    match run(answering, text.as_slice(), out) {
+    match run(handler, text.as_slice(), out) {
         Ok(()) => Ok(()),
         Err(_) => Err(Stop::Unwritten),
     }

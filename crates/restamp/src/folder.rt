@@ -1,4 +1,4 @@
-//! The folders of a disk.
+//! Folders on a disk.
 use crate::opening::Metered;
 use crate::progress::{Meter, Progress};
 use byte_streams::Counted;
@@ -11,20 +11,20 @@ use std::rt::Files;
 use std::time::Clock;
 use std::{fs, io};
 
-// The bits of a mode that say who may read, write and run a file.
+// The permission bits of a mode.
 const MODE: u32 = 0o7777;
 
-/// A folder of the system.
+/// A folder of the file system.
 #[derive(Drop)]
 pub(crate) struct DiskFolder<'a, R> {
     rt: &'a R,
     progress: &'a Progress<'a, R>,
     path: PathBuf,
-    // The path of the file, as it was given.
+    // The path of the file, as given.
     shown: &'a str,
 }
 
-// Why a file of that kind isn't replaced.
+// Why a file of that kind can't be replaced; `None` if it can.
 fn refusal_of(metadata: &Metadata) -> Option<&'static str> {
     let kind = metadata.file_type();
     if kind.is_file() {
@@ -41,7 +41,7 @@ fn refusal_of(metadata: &Metadata) -> Option<&'static str> {
     })
 }
 
-// What a file was when it was looked at, where it is one that may be replaced.
+// The state of a file when its metadata was read, or an error if it can't be replaced.
 fn original_of(metadata: &Metadata) -> io::Result<Original> {
     if let Some(why) = refusal_of(metadata) {
         return Err(io::Error::new(ErrorKind::InvalidInput, why));
@@ -57,7 +57,7 @@ fn original_of(metadata: &Metadata) -> io::Result<Original> {
     })
 }
 
-/// The folder in which the file of a path stands, and its name there. A symbolic link is followed.
+/// The folder that contains the file of a path, and the file's name there. A symbolic link is followed.
 pub(crate) fn find<'a, R: Files + AllocGlobal>(
     rt: &'a R,
     progress: &'a Progress<'a, R>,
@@ -84,7 +84,7 @@ impl<'a, R: Files + Clock + Eprint + AllocGlobal> DiskFolder<'a, R> {
         Ok(self.path.join(self.rt.alloc(), name)?)
     }
 
-    // The meter of a file of that size, where its progress is to be told.
+    // The meter of a file of that size, if progress is reported.
     fn meter(&self, size: u64) -> Option<Meter> {
         if !self.progress.is_wanted() {
             return None;
@@ -94,7 +94,7 @@ impl<'a, R: Files + Clock + Eprint + AllocGlobal> DiskFolder<'a, R> {
             .begin(self.rt.alloc(), self.shown.as_bytes(), size)
     }
 
-    // Gives a file the owner and the group of another, where that may be set.
+    // Sets the owner and the group of a file to those of the original, if that is permitted.
     fn keep_owner(&self, name: &str, original: &Original) -> io::Result<()> {
         let path = self.path_of(name)?;
         let made = fs::symlink_metadata(self.rt, path.as_path())?;

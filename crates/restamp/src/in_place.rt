@@ -1,7 +1,7 @@
-//! Replaces files by what their lines become.
+//! Replaces files by their processed lines.
 use crate::folder::find;
 use crate::output::Erasing;
-use crate::progress::{Progress, Telling};
+use crate::progress::{Progress, Reporter};
 use byte_streams::{Counted, Sink};
 use restamp_command::{Request, replace};
 use restamp_in_place::{Made, Step, Target, Unreplaced, backup_name, write_unreplaced};
@@ -10,7 +10,7 @@ use std::alloc::Global;
 use std::io;
 use std::io::{BufWriter, ErrorKind};
 
-// The name of a file's backup, where one is asked for.
+// The name of a file's backup; `None` if none is requested.
 fn backup_of(alloc: Global, name: &str, suffix: &str) -> io::Result<Option<String>> {
     if suffix.is_empty() {
         return Ok(None);
@@ -27,7 +27,7 @@ fn target_of<'a>(name: &'a str, backup: Option<&'a str>, shown: &'a [u8]) -> Tar
     }
 }
 
-// Replaces a file, where it is one that may be.
+// Replaces a file, or returns why it can't be replaced.
 fn try_to_replace<'a, L: Sink + Drop>(
     rt: &'a HostRuntime,
     request: &Request<'_>,
@@ -61,7 +61,8 @@ fn try_to_replace<'a, L: Sink + Drop>(
     replace(request, target, &mut folder, rt.alloc(), log, block)
 }
 
-// The same, and tells why it wasn't replaced. A file of which a read failed, or that wasn't replaced, stops nothing.
+// Replaces a file, and logs why if that fails. Returns a stop only for a rejected line at which processing stops, or a
+// failed write to the log: after any other failure the next file is replaced.
 fn replace_next<'a, L: Sink + Drop>(
     rt: &'a HostRuntime,
     request: &Request<'_>,
@@ -77,29 +78,29 @@ fn replace_next<'a, L: Sink + Drop>(
         Err(why) => why,
     };
     tally.count_unread();
-    let told = match write_unreplaced(rt.alloc(), shown, &why, &mut log) {
+    let reported = match write_unreplaced(rt.alloc(), shown, &why, &mut log) {
         Ok(()) => log.flush(),
         Err(unwritten) => Err(unwritten),
     };
-    let stop = told.is_err().then_some(Stop::Unwritten);
+    let stop = reported.is_err().then_some(Stop::Unwritten);
     (log, tally, stop)
 }
 
-// Adds what was counted of a file.
+// Adds a file's counts to the total.
 fn add(total: &mut Tally, file: &Tally) {
     total.rewritten = total.rewritten.saturating_add(file.rewritten);
     total.refused = total.refused.saturating_add(file.refused);
     total.unread = total.unread.saturating_add(file.unread);
 }
 
-/// Replaces the files, one after the other, and gives the exit status.
+/// Replaces the files, one after the other, and returns the exit status.
 pub(crate) fn replace_all(
     rt: &HostRuntime,
     request: &Request<'_>,
     names: &[&[u8]],
-    telling: Telling,
+    reporter: Reporter,
 ) -> io::Result<u8> {
-    let progress = Progress::new(rt, telling);
+    let progress = Progress::new(rt, reporter);
     let mut log = Counted::new(BufWriter::new(rt.alloc(), Erasing::new(rt.stderr(), &progress))?);
     let mut block = Block::new();
     let mut total = Tally::new();

@@ -1,4 +1,4 @@
-//! `restamp` rewrites the time in each line of files, or of standard input, and leaves every other byte as it is.
+//! `restamp` rewrites the timestamp in each line of files, or of standard input, and leaves every other byte unchanged.
 #![tactic(auto)]
 
 mod completions;
@@ -15,7 +15,7 @@ use completions::completions_of;
 use in_place::replace_all;
 use opening::Disk;
 use output::Erasing;
-use progress::{Progress, Telling};
+use progress::{Progress, Reporter};
 use restamp_command::{Fault, Options, Request, make_command, serve};
 use restamp_stream::{Block, Stop, Stream, status};
 use std::alloc::AllocError;
@@ -27,7 +27,7 @@ use std::{env, io};
 use time_values::UtcDateTime;
 use words::words_of;
 
-// The names of the files, or that of standard input where none is given.
+// The names of the files, or that of standard input if none is given.
 fn names_of<'m>(
     rt: &HostRuntime,
     matches: &'m ArgMatches<'_>,
@@ -44,8 +44,8 @@ fn names_of<'m>(
     Ok(names)
 }
 
-// Tells what is wrong with an option.
-fn tell(rt: &HostRuntime, fault: Fault<'_>) -> io::Result<u8> {
+// Prints the error of an option.
+fn report(rt: &HostRuntime, fault: Fault<'_>) -> io::Result<u8> {
     match fault.place() {
         Some((option, value)) => {
             eprint!(rt; "error: invalid value '{value}' for '{option}': {fault}")?;
@@ -56,8 +56,8 @@ fn tell(rt: &HostRuntime, fault: Fault<'_>) -> io::Result<u8> {
     Ok(2)
 }
 
-// Tells why the output wasn't written, unless its reader has gone.
-fn tell_unwritten(rt: &HostRuntime, failure: Option<ErrorKind>) -> io::Result<()> {
+// Prints why the output wasn't written, unless its reader has closed the pipe.
+fn report_unwritten(rt: &HostRuntime, failure: Option<ErrorKind>) -> io::Result<()> {
     match failure {
         Some(ErrorKind::BrokenPipe) => Ok(()),
         Some(kind) => eprintln!(rt; "restamp: the output was not written: {kind}"),
@@ -65,16 +65,16 @@ fn tell_unwritten(rt: &HostRuntime, failure: Option<ErrorKind>) -> io::Result<()
     }
 }
 
-// Answers the files, and gives the exit status. It stands in line, so that the loop over lines has what the options ask for
+// Processes the files, and returns the exit status. Inlined, so that the loop over lines has the request of the options
 // in its own frame.
 #[inline(always)]
 fn answer(
     rt: &HostRuntime,
     request: &Request<'_>,
     names: &[&[u8]],
-    telling: Telling,
+    reporter: Reporter,
 ) -> io::Result<u8> {
-    let progress = Progress::new(rt, telling);
+    let progress = Progress::new(rt, reporter);
     let out = Counted::new(io::writer(rt));
     let log = BufWriter::new(rt.alloc(), Erasing::new(rt.stderr(), &progress))?;
     let mut stream = Stream::new(out, Counted::new(log));
@@ -88,7 +88,7 @@ fn answer(
     progress.erase();
     if let Some(Stop::Unwritten) = stop {
         let (_, error) = out.into_parts();
-        tell_unwritten(rt, error.map(|error| error.kind()))?;
+        report_unwritten(rt, error.map(|error| error.kind()))?;
     }
     Ok(status(&tally, stop, request.strict))
 }
@@ -109,7 +109,7 @@ fn complete(rt: &HostRuntime, shell: &str) -> io::Result<u8> {
     }
 }
 
-// The moment that the clock shows, where there is a date for it.
+// The clock's moment; `None` if there is no date for it.
 fn now_of(rt: &HostRuntime) -> Option<UtcDateTime> {
     let time = SystemTime::now(rt).ok()?;
     UtcDateTime::try_from(time).ok()
@@ -129,51 +129,53 @@ fn shows_colors(rt: &HostRuntime) -> bool {
     has_terminal(rt) && env::var(rt, "NO_COLOR").is_err()
 }
 
-// How it is told how far a file was read. Where standard output is a terminal, too, no line is written over another's end.
-fn telling_of(rt: &HostRuntime, matches: &ArgMatches<'_>) -> Telling {
+// How progress is reported. If standard output is a terminal too, each report is a line of its own, so that none
+// overwrites the end of another line.
+fn reporter_of(rt: &HostRuntime, matches: &ArgMatches<'_>) -> Reporter {
     if !matches.get_flag("progress") {
-        Telling::Nothing
+        Reporter::Nothing
     } else if has_terminal(rt) && !rt.stdout().is_terminal() {
-        Telling::OneLine
+        Reporter::OneLine
     } else {
-        Telling::Lines
+        Reporter::Lines
     }
 }
 
-// Tells that standard input can't be replaced.
-fn tell_input(rt: &HostRuntime) -> io::Result<u8> {
+// Prints that standard input can't be replaced.
+fn report_input(rt: &HostRuntime) -> io::Result<u8> {
     eprintln!(rt;
         "error: --in-place takes files, and not standard input\n\nFor more information, try '--help'."
     )?;
     Ok(2)
 }
 
-// Replaces the files, where none of them is standard input.
+// Replaces the files, or prints an error if one of them is standard input.
 #[inline(never)]
 fn follow_in_place(rt: &HostRuntime, matches: &ArgMatches<'_>) -> io::Result<u8> {
     let names = names_of(rt, matches)?;
     for name in names.as_slice() {
         if *name == b"-".as_slice() {
-            return tell_input(rt);
+            return report_input(rt);
         }
     }
     match Request::new(rt, &Options::of(matches), shows_colors(rt), now_of(rt)) {
-        Ok(request) => replace_all(rt, &request, names.as_slice(), telling_of(rt, matches)),
-        Err(fault) => tell(rt, fault),
+        Ok(request) => replace_all(rt, &request, names.as_slice(), reporter_of(rt, matches)),
+        Err(fault) => report(rt, fault),
     }
 }
 
-// Answers the files, or standard input.
+// Processes the files, or standard input.
 #[inline(never)]
 fn follow_lines(rt: &HostRuntime, matches: &ArgMatches<'_>) -> io::Result<u8> {
     let names = names_of(rt, matches)?;
     match Request::new(rt, &Options::of(matches), shows_colors(rt), now_of(rt)) {
-        Ok(request) => answer(rt, &request, names.as_slice(), telling_of(rt, matches)),
-        Err(fault) => tell(rt, fault),
+        Ok(request) => answer(rt, &request, names.as_slice(), reporter_of(rt, matches)),
+        Err(fault) => report(rt, fault),
     }
 }
 
-// Does what the options ask for. Each way has a frame of its own, since it holds the bytes that it reads.
+// Does what the options request. Each way of rewriting is a function with its own frame, since that holds the bytes
+// that it reads.
 fn follow(rt: &HostRuntime, matches: &ArgMatches<'_>) -> io::Result<u8> {
     if let Some(shell) = matches.get_str("completions") {
         return complete(rt, shell);
@@ -185,7 +187,7 @@ fn follow(rt: &HostRuntime, matches: &ArgMatches<'_>) -> io::Result<u8> {
     }
 }
 
-// Does what the words of the command line ask for, and gives the exit status.
+// Does what the command line requests, and returns the exit status.
 fn run(rt: &HostRuntime) -> io::Result<u8> {
     let Some(words) = words_of(rt)? else {
         return Ok(2);
@@ -200,9 +202,9 @@ fn run(rt: &HostRuntime) -> io::Result<u8> {
     }
 }
 
-// Tells why the program couldn't go on, unless the reader of its output has gone. Where standard error is what failed,
-// nothing is told.
-fn tell_failed(rt: &HostRuntime, error: io::Error) {
+// Prints the error that ended the program, unless the reader of its output has closed the pipe. Nothing is printed if
+// standard error is what failed.
+fn report_failed(rt: &HostRuntime, error: io::Error) {
     if error.kind() != ErrorKind::BrokenPipe {
         eprintln!(rt; "restamp: {error}").unwrap_or(());
     }
@@ -212,7 +214,7 @@ fn main(rt: HostRuntime) -> ExitCode {
     match run(&rt) {
         Ok(status) => ExitCode::from(status),
         Err(error) => {
-            tell_failed(&rt, error);
+            report_failed(&rt, error);
             ExitCode::from(2)
         }
     }

@@ -11,17 +11,17 @@ use std::rt::Files;
 use std::time::Clock;
 use std::{fs, io};
 
-/// The files of a system. The name `-` is standard input.
+/// The files of the system. The name `-` is standard input.
 #[derive(Drop)]
 pub(crate) struct Disk<'a, R> {
     rt: &'a R,
     opener: Opener<'a, R>,
     progress: &'a Progress<'a, R>,
-    // How many of the files that were closed had been cut off.
+    // How many of the closed files had been cut off.
     cut_off: u64,
 }
 
-/// What is read.
+/// An input.
 #[derive(Drop)]
 pub(crate) enum Origin<F: Drop, I: Drop> {
     /// A file.
@@ -48,7 +48,7 @@ impl<F: Source + Drop, I: Source + Drop> Source for Origin<F, I> {
 }
 
 impl<F: Drop, I: Drop> Origin<Counted<F>, Counted<I>> {
-    // A count of what was cut off, and this one, where it was.
+    // The count of inputs that were cut off, with this one added if it was.
     fn count_cut_off(&self, count: u64) -> u64
         ensures cut_off { IsCutOff 0 (faults_of self.now) (given_of self.now) → Rises count result }
         ensures whole { ¬ IsCutOff 0 (faults_of self.now) (given_of self.now) → result ≡ count }
@@ -61,7 +61,7 @@ impl<F: Drop, I: Drop> Origin<Counted<F>, Counted<I>> {
     }
 }
 
-/// A source that tells how far it has come.
+/// A source that reports its progress.
 #[derive(Drop)]
 pub(crate) struct Metered<'a, R, S: Drop> {
     source: S,
@@ -92,21 +92,21 @@ impl<R: Clock + Eprint, S: Source + Drop> Source for Metered<'_, R, S> {
 
     ghost given = { λ metered. S.given metered.source };
 
-    // Before a read all that was read is answered and every report is written to its end. It is left on its own, as the
-    // loop that calls it is compiled by its size.
+    // Progress is reported before a read, since then all earlier bytes are processed and all earlier reports are
+    // complete. Not inlined, since the compiler decides by size how to compile the loop that calls it.
     #[inline(never)]
     fn read(&mut self, buffer: &mut [u8]) -> io::Result<usize> {
         let Some(meter) = &mut self.meter else {
             return self.source.read(buffer);
         };
-        self.progress.tell(meter);
+        self.progress.report(meter);
         let n = self.source.read(buffer)?;
         meter.count(n);
         Ok(n)
     }
 }
 
-// The size of a file, where it has one.
+// The size of a file, if it is known and not 0.
 fn size_of(metadata: io::Result<Metadata>) -> Option<u64> {
     match metadata.ok()?.len() {
         0 => None,
@@ -124,7 +124,7 @@ impl<'a, R: Files + Input + Clock + Eprint + AllocGlobal> Disk<'a, R> {
         }
     }
 
-    // The source, of that size if it is known, whose progress is told where that is wanted.
+    // The source, which reports its progress if that is requested. `size` is its size, if known.
     fn metered<S: Drop>(&self, name: &[u8], source: S, size: Option<u64>) -> Metered<'a, R, S>
         ensures { result.source ≡ source }
     {
@@ -142,7 +142,7 @@ impl<'a, R: Files + Input + Clock + Eprint + AllocGlobal> Opening for Disk<'a, R
 
     ghost use Rattle.std.specs.Prelude.{None, ◌+◌};
 
-    // Nothing is known of what files hold.
+    // No contract describes the bytes of files.
     ghost bytes_of = { λ _ _. None };
 
     ghost faults = { λ disk. disk.opener.faults + disk.cut_off };

@@ -1,4 +1,4 @@
-//! Standard error, beside what tells how far a file was read.
+//! Standard error, with the progress line erased before each write.
 ghost use Rattle.std.specs.Prelude.{◌≡◌};
 
 use crate::progress::Progress;
@@ -6,7 +6,7 @@ use std::io;
 use std::io::Write;
 use std::time::Clock;
 
-/// A writer that first erases the line of the terminal that tells how far a file was read.
+/// A writer that first erases the progress line of the terminal.
 #[derive(Drop)]
 pub(crate) struct Erasing<'a, R, W: Drop> {
     out: W,

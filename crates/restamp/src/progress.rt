@@ -1,4 +1,4 @@
-//! How far a long file was read, on standard error.
+//! Reports on standard error how far a long file was read.
 ghost use Rattle.std.specs.Prelude.{◌≡◌, ◌≤◌, ◌+◌, ◌-◌, ◌^◌, ◌↔◌, min, length, IsTrue, IfSome, Some, string_bytes};
 ghost use Rattle.std.specs.Time.{instant_nanos};
 ghost use Rattle.restamp_stream.specs.Reports.{displayed_name};
@@ -11,26 +11,26 @@ use std::cell::Cell;
 use std::fmt;
 use std::time::{Clock, Duration, Instant};
 
-/// How many milliseconds old a line is at least when the next is told.
+/// The least number of milliseconds from one report to the next.
 const INTERVAL: u64 = 500;
 
 const MEBIBYTE: u64 = 1048576;
 
-/// How many bytes may show a name in the line of a terminal, which has 80 columns.
+/// The most bytes of a name in a line of the terminal, which has 80 columns.
 const MOST: usize = 40;
 
-/// How it is told.
+/// How progress is reported.
 #[derive(Clone, Copy)]
-pub(crate) enum Telling {
-    /// It isn't.
+pub(crate) enum Reporter {
+    /// It isn't reported.
     Nothing,
-    /// Each time by a line.
+    /// Each report is a new line.
     Lines,
-    /// By a line of the terminal, which is written over.
+    /// Each report overwrites one line of the terminal.
     OneLine,
 }
 
-// A text, or of one that is longer the end, of at most 40 bytes.
+// A text, or the end of a longer one, at most 40 bytes.
 fn end_of(text: &str) -> &str
     ensures end { spec.IsEnd text.now result.now }
     ensures bound { length result.now ≤ 40 }
@@ -38,7 +38,8 @@ fn end_of(text: &str) -> &str
     &text[text.ceil_char_boundary(text.len().saturating_sub(MOST))..]
 }
 
-// A name with its control bytes as `\x` and two digits; `None` where there is no memory, and no second way of reading.
+// A name with its control bytes as `\x` and two digits; `None` if memory is short or the name isn't UTF-8. There is
+// no second way of reading.
 fn displayed_name(alloc: Global, name: &[u8]) -> Option<String>
     ensures { IfSome result (λ shown. string_bytes shown ≡ displayed_name name.now) }
 {
@@ -48,25 +49,25 @@ fn displayed_name(alloc: Global, name: &[u8]) -> Option<String>
     String::from_utf8(shown).ok()
 }
 
-// What is told of a name; `None` where there is no memory, and no second way of reading.
-fn told_name(alloc: Global, telling: Telling, name: &[u8]) -> Option<String>
-    ensures { IfSome result (λ told. spec.IsTold telling name.now (string_bytes told)) }
+// The name of a file in reports; `None` if memory is short or the name isn't UTF-8: no second way of reading.
+fn reported_name(alloc: Global, reporter: Reporter, name: &[u8]) -> Option<String>
+    ensures { IfSome result (λ reported. spec.IsReported reporter name.now (string_bytes reported)) }
 {
     let shown = displayed_name(alloc, name)?;
-    match telling {
-        Telling::OneLine => String::from_str(alloc, end_of(shown.as_str())).ok(),
-        Telling::Nothing | Telling::Lines => Some(shown),
+    match reporter {
+        Reporter::OneLine => String::from_str(alloc, end_of(shown.as_str())).ok(),
+        Reporter::Nothing | Reporter::Lines => Some(shown),
     }
 }
 
-/// How far a file was read, and when that was told.
+/// How far a file was read, and when that was last reported.
 #[derive(Drop)]
 pub(crate) struct Meter {
-    // What is told of the file's name.
+    // The file's name in reports.
     name: String,
     size: Option<u64>,
     read: u64,
-    told: u64,
+    reported: u64,
     since: Instant,
 }
 
@@ -74,33 +75,33 @@ impl Meter {
     /// Counts bytes that were read.
     pub(crate) fn count(&mut self, n: usize)
         ensures read { self.new.read ≡ min (self.old.read + n) (2 ^ 64 - 1) }
-        ensures told { self.new.told ≡ self.old.told }
+        ensures reported { self.new.reported ≡ self.old.reported }
         ensures since { self.new.since ≡ self.old.since }
     {
         self.read = self.read.saturating_add(n as u64);
     }
 
-    // Whether a MiB more was read than was told.
+    // Whether at least 1 MiB was read since the last report.
     fn has_more(&self) -> bool
-        ensures { IsTrue result ↔ 2 ^ 20 ≤ self.now.read - self.now.told }
+        ensures { IsTrue result ↔ 2 ^ 20 ≤ self.now.read - self.now.reported }
     {
-        MEBIBYTE <= self.read.saturating_sub(self.told)
+        MEBIBYTE <= self.read.saturating_sub(self.reported)
     }
 
-    // Whether half a second has passed since it was told.
+    // Whether half a second has passed since the last report.
     fn is_old(&self, now: Instant) -> bool
         ensures { IsTrue result ↔ 500000000 ≤ instant_nanos now - instant_nanos self.now.since }
     {
         Duration::from_millis(INTERVAL) <= now.duration_since(self.since)
     }
 
-    // It is told now.
+    // Records a report at that time.
     fn renew(&mut self, now: Instant)
         ensures read { self.new.read ≡ self.old.read }
-        ensures told { self.new.told ≡ self.old.read }
+        ensures reported { self.new.reported ≡ self.old.read }
         ensures since { self.new.since ≡ now }
     {
-        self.told = self.read;
+        self.reported = self.read;
         self.since = now;
     }
 }
@@ -122,45 +123,46 @@ impl fmt::Display for Meter {
     }
 }
 
-/// What tells how far files were read. What it can't write is left out.
+/// Reports how far files were read. It ignores failed writes.
 #[derive(Drop)]
 pub(crate) struct Progress<'a, R> {
     rt: &'a R,
-    telling: Telling,
-    // Whether a line stands on the terminal.
+    reporter: Reporter,
+    // Whether a progress line is on the terminal.
     stands: Cell<bool>,
 }
 
 impl<'a, R: Clock + Eprint> Progress<'a, R> {
-    pub(crate) fn new(rt: &'a R, telling: Telling) -> Progress<'a, R> {
+    pub(crate) fn new(rt: &'a R, reporter: Reporter) -> Progress<'a, R> {
         Progress {
             rt,
-            telling,
+            reporter,
             stands: Cell::new(false),
         }
     }
 
-    /// Whether anything is told.
+    /// Whether progress is reported.
     pub(crate) fn is_wanted(&self) -> bool {
-        !matches!(self.telling, Telling::Nothing)
+        !matches!(self.reporter, Reporter::Nothing)
     }
 
-    /// The meter of a file that begins, or `None` where there is no memory or no clock: it is no second way of reading.
+    /// The meter of a file before its first read; `None` if memory is short, the name isn't UTF-8, or there is no
+    /// clock. The file is then read without reports: this is no second way of reading.
     pub(crate) fn begin(&self, alloc: Global, name: &[u8], size: Option<u64>) -> Option<Meter>
-        ensures { IfSome result (λ meter. spec.IsTold self.now.telling name.now (string_bytes meter.name)) }
+        ensures { IfSome result (λ meter. spec.IsReported self.now.reporter name.now (string_bytes meter.name)) }
     {
         Some(Meter {
-            name: told_name(alloc, self.telling, name)?,
+            name: reported_name(alloc, self.reporter, name)?,
             size,
             read: 0,
-            told: 0,
+            reported: 0,
             since: Instant::now(self.rt).ok()?,
         })
     }
 
-    /// Tells how far a file was read, where a MiB more was and the last line is half a second old.
+    /// Reports how far a file was read, if since the last report at least 1 MiB was read and half a second has passed.
     #[inline(never)]
-    pub(crate) fn tell(&self, meter: &mut Meter) {
+    pub(crate) fn report(&self, meter: &mut Meter) {
         if !meter.has_more() {
             return;
         }
@@ -173,19 +175,19 @@ impl<'a, R: Clock + Eprint> Progress<'a, R> {
         }
     }
 
-    // Writes a line.
+    // Writes a report.
     fn write(&self, meter: &Meter) {
-        let _ = match self.telling {
-            Telling::Nothing => Ok(()),
-            Telling::Lines => eprintln!(self.rt; "{meter}"),
-            Telling::OneLine => {
+        let _ = match self.reporter {
+            Reporter::Nothing => Ok(()),
+            Reporter::Lines => eprintln!(self.rt; "{meter}"),
+            Reporter::OneLine => {
                 self.stands.set(true);
                 eprint!(self.rt; "\r\x1b[K{meter}")
             }
         };
     }
 
-    /// Erases the line that stands on the terminal, if there is one.
+    /// Erases the progress line, if one is on the terminal.
     #[inline(never)]
     pub(crate) fn erase(&self) {
         if self.stands.replace(false) {

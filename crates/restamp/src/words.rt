@@ -5,15 +5,15 @@ ghost use Rattle.byte_streams.specs.Faults.{HasCause};
 ghost use Rattle.restamp.specs.Words.{unread_text};
 
 use byte_streams::{Counted, Sink, Unwritten};
-use restamp_stream::write_shown;
+use restamp_stream::write_escaped;
 use std::env::{Env, FillError};
 use std::io::{ErrorKind, Write};
 use std::{env, io};
 
-// How many bytes of a word there is room for, at first and then. Linux takes no word of more.
+// The sizes of the buffer for a word: the second is tried if the first is too small. Linux allows no longer word.
 static ROOM: [usize; 2] = [4096, 131072];
 
-// The bytes of the word of that number; `None` after the last, where there is no memory, and of a longer one.
+// The bytes of the word of that number; `None` after the last word, if memory is short, or for a longer word.
 fn bytes_of(rt: &HostRuntime, number: usize) -> Option<Vec<u8>> {
     let mut bytes = Vec::new(rt.alloc());
     for room in &ROOM {
@@ -30,18 +30,18 @@ fn bytes_of(rt: &HostRuntime, number: usize) -> Option<Vec<u8>> {
     None
 }
 
-// Tells that the word of that number isn't UTF-8.
+// Writes that the word of that number isn't UTF-8.
 fn write_unread<L: Sink>(number: usize, word: &[u8], log: &mut L) -> Result<(), Unwritten>
     ensures written { OnOk result (Appends (L.contents log.old) (L.contents log.new) (unread_text number word.now)) }
     ensures cause { HasCause result (L.faults log.old) (L.faults log.new) }
 {
     write!(log, "restamp: argument {number} is not UTF-8: '")?;
-    write_shown(true, word, log)?;
+    write_escaped(true, word, log)?;
     log.write_all(b"'\n")
 }
 
-// Tells which of the words isn't UTF-8: the first. Nothing is told where it can't be read again.
-fn tell_unread(rt: &HostRuntime) -> io::Result<()> {
+// Reports the first word that isn't UTF-8, or nothing if that word can't be read again.
+fn report_unread(rt: &HostRuntime) -> io::Result<()> {
     for number in 0..usize::MAX {
         let Some(word) = bytes_of(rt, number) else {
             return Ok(());
@@ -58,12 +58,12 @@ fn tell_unread(rt: &HostRuntime) -> io::Result<()> {
     Ok(())
 }
 
-/// The words, the name of the program first; `None` where one isn't UTF-8, which is told then.
+/// The words, the name of the program first; `None` if one isn't UTF-8, which is then reported.
 pub(crate) fn words_of(rt: &HostRuntime) -> io::Result<Option<Vec<String>>> {
     match env::args(rt) {
         Ok(words) => Ok(Some(words.collect(rt.alloc())?)),
         Err(error) if error.kind() == ErrorKind::InvalidData => {
-            tell_unread(rt)?;
+            report_unread(rt)?;
             Ok(None)
         }
         Err(error) => Err(error),

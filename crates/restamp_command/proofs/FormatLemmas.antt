@@ -100,7 +100,7 @@ suffix_fault Y o zone f is h = absurd h
 
 -- ---- The part of a line that is printed, and several writes to a log
 
--- a range is a place and a number of bytes from there on
+-- a range is a start and a number of bytes from there on
 pub part_is : (line : List ℕ) (most left_out from n : ℕ) → from ≡ min left_out (length line)
     → n ≡ min most (length (take (length line - from) (drop from line)))
     → take n (take (length line - from) (drop from line)) ≡ take most (drop left_out line)
@@ -124,11 +124,11 @@ told_joined : (number mark red_on reason expected red_off line : List ℕ)
 told_joined number mark red_on reason expected red_off line = simp append_assoc
 
 -- a reason in red, with what was expected, and a line below it
-pub Appends-told : (a b c d e : Option (List ℕ)) (line reason expected : List ℕ) (column : ℕ)
+pub Appends-location : (a b c d e : Option (List ℕ)) (line reason expected : List ℕ) (column : ℕ)
     → Appends a b (decimal column ++ ((codes ": " ++ (27 ∷ codes "[31m")) ++ reason)) → Appends b c expected
     → Appends c d (27 ∷ codes "[0m") → Appends d e (pointer line column)
     → Appends a e (reason_text column (reason_report true line column (reason ++ expected)))
-Appends-told a b c d e line reason expected column p q r s =
+Appends-location a b c d e line reason expected column p q r s =
     let red_off : List ℕ = 27 ∷ codes "[0m" in
     subst (Appends a e)
     (told_joined (decimal column) (codes ": ") (27 ∷ codes "[31m") reason expected red_off (pointer line column))

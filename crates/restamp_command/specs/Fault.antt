@@ -55,31 +55,31 @@ pub data Fault : Type 0 where
   in_place : List ℕ → Fault
 
 -- the error without the addresses of its texts
-abbrev pub told : declared.Fault → Fault
-told fault.Memory = memory
-told (fault.Field value) = field value.now
-told (fault.Delimiter value) = delimiter value.now
-told (fault.From value why) = from value.now (naming.fault_of why)
-told (fault.Zones value why) = zones value.now why
-told (fault.IncompleteFormat value missing_field) = incomplete_format value.now missing_field
-told (fault.To value why) = to value.now (naming.fault_of why)
-told (fault.Unnamed value) = unnamed value.now
-told (fault.Year value) = year value.now
-told (fault.Offset value) = offset value.now
-told (fault.In value why) = local value.now why
-told (fault.Fold value) = fold value.now
-told (fault.UnusedYear value) = unused_year value.now
-told (fault.UnusedLatest value) = unused_latest value.now
-told (fault.UnusedOffset value) = unused_offset value.now
-told (fault.UnusedIn value) = unused_local value.now
-told (fault.Zone value why) = zone value.now why
-told (fault.Digits value) = digits value.now
-told (fault.Errors value) = errors value.now
-told (fault.Color value) = color value.now
-told (fault.Latest value why) = latest value.now (erased_time_error why)
-told (fault.Since value why) = since value.now (erased_time_error why)
-told (fault.Until value why) = until value.now (erased_time_error why)
-told (fault.InPlace value) = in_place value.now
+abbrev pub erased_fault : declared.Fault → Fault
+erased_fault fault.Memory = memory
+erased_fault (fault.Field value) = field value.now
+erased_fault (fault.Delimiter value) = delimiter value.now
+erased_fault (fault.From value why) = from value.now (naming.fault_of why)
+erased_fault (fault.Zones value why) = zones value.now why
+erased_fault (fault.IncompleteFormat value missing_field) = incomplete_format value.now missing_field
+erased_fault (fault.To value why) = to value.now (naming.fault_of why)
+erased_fault (fault.Unnamed value) = unnamed value.now
+erased_fault (fault.Year value) = year value.now
+erased_fault (fault.Offset value) = offset value.now
+erased_fault (fault.In value why) = local value.now why
+erased_fault (fault.Fold value) = fold value.now
+erased_fault (fault.UnusedYear value) = unused_year value.now
+erased_fault (fault.UnusedLatest value) = unused_latest value.now
+erased_fault (fault.UnusedOffset value) = unused_offset value.now
+erased_fault (fault.UnusedIn value) = unused_local value.now
+erased_fault (fault.Zone value why) = zone value.now why
+erased_fault (fault.Digits value) = digits value.now
+erased_fault (fault.Errors value) = errors value.now
+erased_fault (fault.Color value) = color value.now
+erased_fault (fault.Latest value why) = latest value.now (erased_time_error why)
+erased_fault (fault.Since value why) = since value.now (erased_time_error why)
+erased_fault (fault.Until value why) = until value.now (erased_time_error why)
+erased_fault (fault.InPlace value) = in_place value.now
 
 -- the option, and the rejected value
 abbrev pub place_of : Fault → Option (List ℕ × List ℕ)

@@ -81,7 +81,7 @@ abbrev pub IsBetweenPlace : Options → Option (Bor (List ℕ) × Bor (List ℕ)
 IsBetweenPlace o None w = IsFieldPlace o (text_behind o.field) w
 IsBetweenPlace o (Some texts) w = w ≡ between texts.0.now texts.1.now
 
--- The place after a text, or else one of these.
+-- The place after a text, or else the place between two texts or that of the field.
 abbrev pub IsAfterPlace : Options → Option (Bor (List ℕ)) → Where → Type 0
 IsAfterPlace o None w = IsBetweenPlace o o.between w
 IsAfterPlace o (Some key) w = w ≡ after key.now
@@ -234,7 +234,7 @@ abbrev pub erased_bound : Result (Option OffsetDateTime) (Bor (List ℕ) × decl
 erased_bound (Ok bound) = Ok bound
 erased_bound (Err e) = Err (e.0.now, erased_time_error e.1)
 
--- A bound is the moment of a text, if there is one; or an error, as the text is none. `now` is the clock's
+-- A bound is the moment of a text, if there is a text, or an error if the text is no moment. `now` is the clock's
 -- moment.
 abbrev pub IsBound : ℕ → Option UtcDateTime → Reading → List Reading → Defaults → Option (List ℕ)
     → Result (Option OffsetDateTime) (List ℕ × TimeArgError) → Type 0

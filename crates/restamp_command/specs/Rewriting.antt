@@ -1,11 +1,11 @@
--- The fate of a line by a job's verdict. `Y` is the greatest year.
+-- The action of a line by a job's verdict. `Y` is the greatest year.
 use Rattle.std.specs.Prelude.{ℕ, ◌-◌, Bool, true, false, ◌&&◌, nat_le, min, List, ◌∷◌, ◌++◌, codes, map, take, drop, replicate, if◌then◌else◌, [], flat_map, Option, None, Some, ◌≡◌, ◌+◌}
 use Rattle.std.specs.Char.Escape.{escape_ascii}
 use Rattle.std.proofs.Common.{ap, subst, sym, ◌∙◌}
 use Rattle.time_values.specs.Calendar.{greatest_year}
 use Rattle.time_locating.specs.Misses.{Wanted, these_bytes, named, the_end}
-use Rattle.restamp_stream.specs.declared.fate.Fate.{Fate}
-use Rattle.restamp_stream.specs.declared.fate.Fate.TheVariants.{Without, Rewritten, Dropped, Refused}
+use Rattle.restamp_stream.specs.declared.action.LineAction.{LineAction}
+use Rattle.restamp_stream.specs.declared.action.LineAction.TheVariants.{Without, Rewritten, Dropped, Refused}
 use Rattle.restamp_verdict.specs.Job.{Verdict, without, rewritten, dropped, refused, IsJudged}
 use Rattle.restamp_verdict.specs.ErrorLocation.{IsMissingField, why_text, IsErrorLocation, ErrorLocation}
 use Rattle.restamp_verdict.specs.Reason.{Reason}
@@ -55,16 +55,16 @@ abbrev pub expected_text : Option Wanted → List ℕ
 expected_text None = []
 expected_text (Some wanted) = codes ": expected " ++ wanted_text wanted
 
--- the fate of a line with that verdict
-abbrev pub fate_of : Verdict → Fate
-fate_of without = Without
-fate_of (rewritten start n text) = Rewritten start (start + n) (record { items = text })
-fate_of dropped = Dropped
-fate_of (refused column reason) = Refused
+-- the action of a line with that verdict
+abbrev pub action_of : Verdict → LineAction
+action_of without = Without
+action_of (rewritten start n text) = Rewritten start (start + n) (record { items = text })
+action_of dropped = Dropped
+action_of (refused column reason) = Refused
 
--- A line of that front has that fate.
-abbrev pub IsFate : ℕ → Job → List ℕ → Fate → Type 0
-IsFate Y job front fate = (verdict : Verdict) × IsJudged Y job front verdict × (fate ≡ fate_of verdict)
+-- A line of that front has that action.
+abbrev pub IsAction : ℕ → Job → List ℕ → LineAction → Type 0
+IsAction Y job front action = (verdict : Verdict) × IsJudged Y job front verdict × (action ≡ action_of verdict)
 
 -- the text of an error in a front, for a reason or a missing part, with the name of the zone that it may be about, with
 -- what was expected, and with the line below it if it is to be printed
@@ -72,8 +72,8 @@ abbrev pub error_report : Bool → List ℕ → List ℕ → Reason → Option M
 error_report shows_lines front zone reason missing_field w =
     reason_report shows_lines front w.column (why_text zone reason missing_field ++ expected_text w.wanted)
 
--- A front is rejected at `column` for a reason, its error is at another column, and that text reports it, with the name
--- of the zone.
+-- A front is rejected at `begin` for a reason, its error is at `column`, and that text reports it, with the name of the
+-- zone.
 abbrev pub ReportsError : ℕ → Job → List ℕ → Bool → List ℕ → ℕ → Reason → ℕ → List ℕ → Type 0
 ReportsError Y job zone shows_lines front begin reason column text =
     (w : ErrorLocation) × (missing_field : Option MissingField) × IsErrorLocation Y job front begin reason w
@@ -86,12 +86,12 @@ IsReason Y job zone shows_lines front column text =
     (begin : ℕ) × (reason : Reason) × IsJudged Y job front (refused begin reason)
     × ReportsError Y job zone shows_lines front begin reason column text
 
--- A front has exactly one fate.
-pub one_fate : (job : Job) (front : List ℕ) (a b : Fate)
-    → IsFate greatest_year job front a → IsFate greatest_year job front b → a ≡ b
-one_fate job front a b p q = p.2 ∙ ap fate_of (one_verdict job front p.0 q.0 p.1 q.1) ∙ sym q.2
+-- A front has exactly one action.
+pub one_action : (job : Job) (front : List ℕ) (a b : LineAction)
+    → IsAction greatest_year job front a → IsAction greatest_year job front b → a ≡ b
+one_action job front a b p q = p.2 ∙ ap action_of (one_verdict job front p.0 q.0 p.1 q.1) ∙ sym q.2
 
--- A front of that verdict has its error there, and that text reports it.
+-- A front with that verdict has its error at that column, and that text reports it.
 Tells : Job → List ℕ → Bool → List ℕ → ℕ → List ℕ → Verdict → Type 0
 Tells job zone shows_lines front column text without = ⊥
 Tells job zone shows_lines front column text (rewritten start n bytes) = ⊥
@@ -107,13 +107,13 @@ pub one_reason : (job : Job) (zone : List ℕ) (shows_lines : Bool) (front : Lis
     → (column ≡ other) × (reason ≡ why)
 unfolding Tells
 one_reason job zone shows_lines front column other reason why
-    (begin, e, judged, told) (start, f, same_judged, same_told) =
+    (begin, e, judged, reported) (start, f, same_judged, same_reported) =
     let verdict = one_verdict job front (refused begin e) (refused start f) judged same_judged in
     let there : ReportsError greatest_year job zone shows_lines front start f column reason =
-    subst (λ (v : Verdict). Tells job zone shows_lines front column reason v) verdict told in
-    let one = one_error_location job front start f there.0 same_told.0 there.2 same_told.2 in
-    let missing_field = one_missing_field job front f there.1 same_told.1 there.3 same_told.3 in (
-      there.4 ∙ ap (λ (w : ErrorLocation). w.column) one ∙ sym same_told.4,
+    subst (λ (v : Verdict). Tells job zone shows_lines front column reason v) verdict reported in
+    let one = one_error_location job front start f there.0 same_reported.0 there.2 same_reported.2 in
+    let missing_field = one_missing_field job front f there.1 same_reported.1 there.3 same_reported.3 in (
+      there.4 ∙ ap (λ (w : ErrorLocation). w.column) one ∙ sym same_reported.4,
       there.5 ∙ ap (λ (l : Option MissingField). error_report shows_lines front zone f l there.0) missing_field
-          ∙ ap (error_report shows_lines front zone f same_told.1) one ∙ sym same_told.5,
+          ∙ ap (error_report shows_lines front zone f same_reported.1) one ∙ sym same_reported.5,
     )

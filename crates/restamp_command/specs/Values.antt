@@ -99,7 +99,7 @@ nanos_of now offset (word.Later number u) = now +ℤ number *ℤ pos (seconds_of
 nanos_of now offset (word.Day back) =
     (local_day now offset -ℤ pos back) *ℤ pos nanos_per_day -ℤ offset_seconds offset *ℤ pos 1_000_000_000
 
--- The moment of that many nanoseconds since 1970, in UTC, where it has a date there.
+-- The moment of that many nanoseconds since 1970, in UTC, or an error if it has no date there.
 abbrev pub IsMomentAt : ℕ → ℤ → Result OffsetDateTime TimeArgError → Type 0
 IsMomentAt Y n (Ok v) = (offset_instant Y v ≡ n) × IsUtc (offset_of v)
 IsMomentAt Y n (Err why) = (why ≡ out_of_range) × ¬ IsInstant Y n

@@ -47,7 +47,7 @@ IsZone Y text zone =
     ((offset : Option UtcOffset) × IsOffsetText Y text offset
     × MatchOption offset (IsNamedBy text zone) (λ o. zone ≡ kind.Fixed o)))
 
--- A text is none of these, and no zone has that name.
+-- A text is not `keep`, `utc` or an offset, and no zone has that name.
 abbrev pub IsNoZone : ℕ → List ℕ → ZoneFault → Type 0
 IsNoZone Y text why =
     (bytes_eq text (codes "keep") ≡ false) × (bytes_eq text (codes "utc") ≡ false)

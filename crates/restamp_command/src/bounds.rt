@@ -1,4 +1,4 @@
-//! The bounds of the moments of lines that are kept, and the words that name moments by the clock.
+//! The bounds of the moments of lines that are kept, and words for moments relative to the clock.
 ghost use Rattle.std.specs.Prelude.{◌≡◌, pos, neg_ℤ, ◌+ℤ◌, ◌-ℤ◌, ◌*ℤ◌, FitsSigned};
 ghost use Rattle.std.specs.Int.{w128, int_div_euclid};
 ghost use Rattle.time_values.specs.Calendar.{IsBetween, greatest_year};
@@ -277,7 +277,7 @@ fn moment_of(
     }
 }
 
-// The moment of a text as a word, or that reason if it is none.
+// The moment of a text as a word, or an error with that reason if it is no word.
 fn find_named(
     now: Option<UtcDateTime>,
     text: &str,

@@ -43,7 +43,7 @@ pub enum Fault<'a> {
     From(&'a str, FormatFault<'a>),
     /// `--from rfc9557` needs the zones of the system, which can't be read.
     Zones(&'a str, ZoneFault),
-    /// `--from` expects a format with texts that are moments.
+    /// `--from` expects a format that isn't missing a part of a moment.
     IncompleteFormat(&'a str, MissingField),
     /// `--to` expects the name of an output format, or a description.
     To(&'a str, FormatFault<'a>),
@@ -59,11 +59,11 @@ pub enum Fault<'a> {
     Fold(&'a str),
     /// `--year` is of no use: each text of each format has a part of a year.
     UnusedYear(&'a str),
-    /// `--latest` is of no use, for that reason.
+    /// `--latest` is of no use: each text of each format has a part of a year.
     UnusedLatest(&'a str),
     /// `--offset` is of no use: each text of each format has the hour of an offset.
     UnusedOffset(&'a str),
-    /// `--in` is of no use, for that reason.
+    /// `--in` is of no use: each text of each format has the hour of an offset.
     UnusedIn(&'a str),
     /// `--zone` expects `keep`, `utc`, an offset or the name of a zone.
     Zone(&'a str, ZoneFault),
@@ -86,7 +86,7 @@ pub enum Fault<'a> {
 impl<'a> Fault<'a> {
     /// The option, as help prints it, and the rejected value; `None` if the error has neither.
     pub fn place(&self) -> Option<(&'static str, &'a str)>
-        ensures { option_map (λ place. (place.0.now, place.1.now)) result ≡ spec.place_of (spec.told self.now) }
+        ensures { option_map (λ place. (place.0.now, place.1.now)) result ≡ spec.place_of (spec.erased_fault self.now) }
     {
         match self {
             Fault::Memory => None,
@@ -118,7 +118,7 @@ impl<'a> Fault<'a> {
 }
 
 impl fmt::Display for Fault<'_> {
-    ghost output = { λ fault. spec.why_text (spec.told fault) };
+    ghost output = { λ fault. spec.why_text (spec.erased_fault fault) };
 
     fn fmt<W: fmt::Write>(&self, f: &mut fmt::Formatter<W>) -> fmt::Result {
         match self {

@@ -2,7 +2,7 @@
 ghost use Rattle.std.specs.Prelude.{◌≡◌, [], ◌∷◌, IfErr, MatchResult, OnOk, map};
 ghost use Rattle.time_values.specs.Calendar.{greatest_year};
 ghost use Rattle.restamp_command.specs.Options as options_;
-ghost use Rattle.restamp_command.specs.Fault.{told};
+ghost use Rattle.restamp_command.specs.Fault.{erased_fault};
 ghost use Rattle.restamp_command.specs.Request as spec;
 
 use crate::fault::Fault;
@@ -25,14 +25,14 @@ pub(crate) fn is_zoned(name: &str) -> bool
     name == "rfc9557"
 }
 
-// The format of that name, which has no missing part. RFC 9557 gets the zones of the system.
+// The format of that name, or an error if it has a missing part. RFC 9557 uses the zones of the system.
 fn find_format<'a, R: Env + Files + AllocGlobal + Clone + Drop>(
     rt: &R,
     name: &'a str,
     has_year: bool,
 ) -> Result<Reading, Fault<'a>>
     ensures { MatchResult result (λ format. spec.IsFormat has_year name.now format)
-        (λ fault. spec.IsFormatFault has_year (name.now ∷ []) (told fault)) }
+        (λ fault. spec.IsFormatFault has_year (name.now ∷ []) (erased_fault fault)) }
 {
     if is_zoned(name) {
         return match find_zones(rt) {
@@ -66,7 +66,7 @@ pub(crate) fn find_first<'a, R: Env + Files + AllocGlobal + Clone + Drop>(
     options: &Options<'_, 'a>,
 ) -> Result<Reading, Fault<'a>>
     ensures { MatchResult result (λ first. spec.IsFormat (spec.has_default_year options.now) options.now.from.now first)
-        (λ fault. spec.IsFault greatest_year options.now (told fault)) }
+        (λ fault. spec.IsFault greatest_year options.now (erased_fault fault)) }
 {
     find_format(rt, options.from, has_default_year(options))
 }
@@ -81,7 +81,7 @@ pub(crate) fn add_formats<'a, R: Env + Files + AllocGlobal + Clone + Drop>(
     ensures ok { OnOk result
         (spec.AddsFormats has_year (map (λ name. name.now) names.now) formats.old.items formats.new.items) }
     ensures err { IfErr result
-        (λ fault. spec.IsFormatFault has_year (map (λ name. name.now) names.now) (told fault)) }
+        (λ fault. spec.IsFormatFault has_year (map (λ name. name.now) names.now) (erased_fault fault)) }
 {
     for name in names {
         let format = find_format(rt, name, has_year)?;

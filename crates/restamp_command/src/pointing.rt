@@ -53,7 +53,7 @@ fn write_wanted<L: Sink>(expected: Expected<'_>, log: &mut L) -> Result<(), Unwr
     }
 }
 
-/// Writes what was expected at an error, after its reason; nothing if nothing is reported as expected.
+/// Writes what was expected at an error, after its reason; nothing for `None`.
 pub fn write_expected<L: Sink>(expected: Option<Expected<'_>>, log: &mut L) -> Result<(), Unwritten>
     ensures written { OnOk result (Appends (L.contents log.old) (L.contents log.new)
         (spec.expected_text (option_map wants expected.entry))) }

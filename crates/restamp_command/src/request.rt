@@ -2,7 +2,7 @@
 ghost use Rattle.std.specs.Prelude.{◌≡◌, MatchResult, Some};
 ghost use Rattle.time_values.specs.Calendar.{greatest_year};
 ghost use Rattle.restamp_command.specs.Options.{text_behind};
-ghost use Rattle.restamp_command.specs.Fault.{told};
+ghost use Rattle.restamp_command.specs.Fault.{erased_fault};
 ghost use Rattle.restamp_command.specs.Request as spec;
 
 use crate::bounds::find_moment;
@@ -56,7 +56,7 @@ pub struct Request<'a> {
 // How a line is split into fields.
 fn find_fields<'a>(options: &Options<'_, 'a>) -> Result<Fields, Fault<'a>>
     ensures { MatchResult result (λ fields. spec.fields_of options.now ≡ Some fields)
-        (λ fault. spec.IsFault greatest_year options.now (told fault)) }
+        (λ fault. spec.IsFault greatest_year options.now (erased_fault fault)) }
 {
     if options.blanks {
         return Ok(Fields::Blank);
@@ -74,7 +74,7 @@ fn find_fields<'a>(options: &Options<'_, 'a>) -> Result<Fields, Fault<'a>>
 // The place of the field of that number.
 fn find_field<'a>(options: &Options<'_, 'a>, number: &'a str) -> Result<Place<'a>, Fault<'a>>
     ensures { MatchResult result (λ place. spec.IsFieldPlace options.now (Some number.now) (spec.seen_place (Some place)))
-        (λ fault. text_behind options.now.field ≡ Some number.now → spec.IsFault greatest_year options.now (told fault)) }
+        (λ fault. text_behind options.now.field ≡ Some number.now → spec.IsFault greatest_year options.now (erased_fault fault)) }
 {
     let fields = find_fields(options)?;
     match find_positive(number) {
@@ -86,7 +86,7 @@ fn find_field<'a>(options: &Options<'_, 'a>, number: &'a str) -> Result<Place<'a
 // The place of a line's timestamp.
 fn find_place<'a>(options: &Options<'_, 'a>) -> Result<Option<Place<'a>>, Fault<'a>>
     ensures { MatchResult result (λ place. spec.IsPlace options.now (spec.seen_place place))
-        (λ fault. spec.IsFault greatest_year options.now (told fault)) }
+        (λ fault. spec.IsFault greatest_year options.now (erased_fault fault)) }
 {
     if options.front {
         return Ok(Some(Place::Front));
@@ -109,7 +109,7 @@ fn find_place<'a>(options: &Options<'_, 'a>) -> Result<Option<Place<'a>>, Fault<
 // The default year, if there is one.
 fn find_given_year<'a>(options: &Options<'_, 'a>) -> Result<Option<i32>, Fault<'a>>
     ensures { MatchResult result (λ year. spec.IsYearGiven greatest_year (text_behind options.now.year) year)
-        (λ fault. spec.IsFault greatest_year options.now (told fault)) }
+        (λ fault. spec.IsFault greatest_year options.now (erased_fault fault)) }
 {
     let Some(text) = options.year else {
         return Ok(None);
@@ -123,7 +123,7 @@ fn find_given_year<'a>(options: &Options<'_, 'a>) -> Result<Option<i32>, Fault<'
 // The default offset, UTC unless given.
 fn find_given_offset<'a>(options: &Options<'_, 'a>) -> Result<UtcOffset, Fault<'a>>
     ensures { MatchResult result (λ offset. spec.IsOffsetGiven greatest_year (text_behind options.now.offset) offset)
-        (λ fault. spec.IsFault greatest_year options.now (told fault)) }
+        (λ fault. spec.IsFault greatest_year options.now (erased_fault fault)) }
 {
     let Some(text) = options.offset else {
         return Ok(UtcOffset::UTC);
@@ -137,7 +137,7 @@ fn find_given_offset<'a>(options: &Options<'_, 'a>) -> Result<UtcOffset, Fault<'
 // The moment that an ambiguous local time means; none by default.
 fn find_given_fold<'a>(options: &Options<'_, 'a>) -> Result<Fold, Fault<'a>>
     ensures { MatchResult result (λ fold. spec.IsFoldGiven (text_behind options.now.fold) fold)
-        (λ fault. spec.IsFault greatest_year options.now (told fault)) }
+        (λ fault. spec.IsFault greatest_year options.now (erased_fault fault)) }
 {
     let Some(text) = options.fold else {
         return Ok(Fold::Refuse);
@@ -165,7 +165,7 @@ fn find_local<'a, R: Env + Files + AllocGlobal>(
     options: &Options<'_, 'a>,
 ) -> Result<Local<'a>, Fault<'a>>
     ensures { MatchResult result (λ local. spec.IsLocalGiven greatest_year options.now (text_behind options.now.local) local)
-        (λ fault. spec.IsFault greatest_year options.now (told fault)) }
+        (λ fault. spec.IsFault greatest_year options.now (erased_fault fault)) }
 {
     let Some(name) = options.local else {
         return Ok(Local::Offset(find_given_offset(options)?));
@@ -183,7 +183,7 @@ fn find_parts<'a, R: Env + Files + AllocGlobal>(
     options: &Options<'_, 'a>,
 ) -> Result<OwnedDefaults<'a>, Fault<'a>>
     ensures { MatchResult result (λ parts. spec.AreParts greatest_year options.now parts)
-        (λ fault. spec.IsFault greatest_year options.now (told fault)) }
+        (λ fault. spec.IsFault greatest_year options.now (erased_fault fault)) }
 {
     let year = find_given_year(options)?;
     let local = find_local(rt, options)?;
@@ -224,7 +224,7 @@ fn find_given<'a, R: Env + Files + AllocGlobal>(
 ) -> Result<OwnedDefaults<'a>, Fault<'a>>
     requires { spec.AreFormats options.now first.now others.now }
     ensures { MatchResult result (λ given. spec.IsGiven greatest_year now options.now first.now others.now given)
-        (λ fault. spec.IsFaultAt greatest_year now options.now (told fault)) }
+        (λ fault. spec.IsFaultAt greatest_year now options.now (erased_fault fault)) }
 {
     let parts = match find_parts(rt, options) {
         Ok(parts) => parts,
@@ -263,7 +263,7 @@ fn stops(options: &Options<'_, '_>) -> bool
 // Which rejected lines are reported.
 fn find_reports<'a>(options: &Options<'_, 'a>) -> Result<Reports, Fault<'a>>
     ensures { MatchResult result (λ reports. spec.AreReports options.now reports)
-        (λ fault. spec.IsFault greatest_year options.now (told fault)) }
+        (λ fault. spec.IsFault greatest_year options.now (erased_fault fault)) }
 {
     let Some(errors) = find_number(options.errors) else {
         return Err(Fault::Errors(options.errors));
@@ -277,7 +277,7 @@ fn find_reports<'a>(options: &Options<'_, 'a>) -> Result<Reports, Fault<'a>>
 // The suffix of the backups of files that are replaced.
 fn find_in_place<'a>(options: &Options<'_, 'a>) -> Result<Option<&'a str>, Fault<'a>>
     ensures { MatchResult result (λ suffix. spec.IsSuffix options.now (text_behind suffix))
-        (λ fault. spec.IsFault greatest_year options.now (told fault)) }
+        (λ fault. spec.IsFault greatest_year options.now (erased_fault fault)) }
 {
     let Some(suffix) = options.in_place else {
         return Ok(None);
@@ -291,7 +291,7 @@ fn find_in_place<'a>(options: &Options<'_, 'a>) -> Result<Option<&'a str>, Fault
 // Whether reports have colours.
 fn find_colors<'a>(options: &Options<'_, 'a>, is_terminal: bool) -> Result<bool, Fault<'a>>
     ensures { MatchResult result (λ shows. spec.AreColors options.now is_terminal shows)
-        (λ fault. spec.IsFault greatest_year options.now (told fault)) }
+        (λ fault. spec.IsFault greatest_year options.now (erased_fault fault)) }
 {
     match find_shows(options.color, is_terminal) {
         Some(shows) => Ok(shows),
@@ -310,7 +310,7 @@ fn find_bounds<'a>(
     requires formats { spec.AreFormats options.now first.now others.now }
     requires given { spec.IsGiven greatest_year now options.now first.now others.now given.now }
     ensures { MatchResult result (λ bounds. spec.AreBounds greatest_year now options.now first.now others.now given.now bounds)
-        (λ fault. spec.IsFaultAt greatest_year now options.now (told fault)) }
+        (λ fault. spec.IsFaultAt greatest_year now options.now (erased_fault fault)) }
 {
     let defaults = given.defaults();
     let since = match find_bound(now, first, others, &defaults, options.since) {
@@ -324,9 +324,9 @@ fn find_bounds<'a>(
 }
 
 impl<'a> Request<'a> {
-    /// The request of the options. If `--color` is `auto`, reports have colours where they go to a terminal. It loads a
+    /// The request of the options. If `--color` is `auto`, reports have colours if they go to a terminal. It loads a
     /// named zone from its file, and all zones of the system for the format `rfc9557`. `now` is the clock's time, or
-    /// `None` if it is out of range, which matters only where a bound is a word.
+    /// `None` if it is out of range, which matters only if a bound is a word.
     ///
     /// # Errors
     ///
@@ -339,7 +339,7 @@ impl<'a> Request<'a> {
         now: Option<UtcDateTime>,
     ) -> Result<Request<'a>, Fault<'a>>
         ensures { MatchResult result (spec.IsRequestOf greatest_year now options.now is_terminal)
-            (λ fault. spec.IsFaultAt greatest_year now options.now (told fault)) }
+            (λ fault. spec.IsFaultAt greatest_year now options.now (erased_fault fault)) }
     {
         let place = find_place(options)?;
         let reports = find_reports(options)?;

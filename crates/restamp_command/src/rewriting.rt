@@ -11,19 +11,19 @@ ghost use Rattle.restamp_stream.specs.declared.settings.Settings.{Settings as Se
 ghost use Rattle.restamp_verdict.specs.Reason.{seen};
 ghost use Rattle.restamp_verdict.specs.declared.job.Job.{Job as Job_};
 ghost use Rattle.restamp_command.specs.Request.{AreSettingsOf, IsJobOf};
-ghost use Rattle.restamp_command.specs.Rewriting.{IsFate, IsReason, ReportsError};
+ghost use Rattle.restamp_command.specs.Rewriting.{IsAction, IsReason, ReportsError};
 ghost use Rattle.restamp_command.specs.Zones.{zone_name};
 
 use crate::pointing::{write_expected, write_pointer};
 use crate::request::Request;
 use byte_streams::{Sink, Unwritten};
 use restamp_in_place::{Folder, Made, Target, Unreplaced, replace_file};
-use restamp_stream::{Block, Fate, Opening, Rewriting, Stop, Stream, Tally};
+use restamp_stream::{Block, LineAction, Opening, Rewriting, Stop, Stream, Tally};
 use restamp_verdict::{Brief, ErrorLocation, Job, Reason, Verdict, Why};
 use std::alloc::Global;
 use time_values::text::Text;
 
-/// A job, which decides the fate of each line, and how a rejected line is reported.
+/// A job, which decides the action of each line, and how a rejected line is reported.
 #[derive(Clone, Copy)]
 pub struct Restamping<'a> {
     /// What is done with each line.
@@ -38,28 +38,28 @@ impl Rewriting for Restamping<'_> {
     ghost use Rattle.time_values.specs.Calendar.{greatest_year};
     ghost use Rattle.restamp_command.specs.Rewriting as spec;
 
-    ghost is_fate = { λ restamping front fate. spec.IsFate greatest_year restamping.job front fate };
+    ghost is_action = { λ restamping front action. spec.IsAction greatest_year restamping.job front action };
 
     ghost is_reason = { λ restamping front column reason.
         spec.IsReason greatest_year restamping.job restamping.zone.now restamping.shows_lines front column reason };
 
-    ghost one_fate = { λ restamping front a b p q. spec.one_fate restamping.job front a b p q };
+    ghost one_action = { λ restamping front a b p q. spec.one_action restamping.job front a b p q };
 
     ghost one_reason = { λ restamping front column other reason why p q.
         spec.one_reason restamping.job restamping.zone.now restamping.shows_lines front column other reason why p q };
 
     #[inline(always)]
-    fn fate(&self, front: &[u8]) -> Fate {
+    fn action(&self, front: &[u8]) -> LineAction {
         let mut text = Text::new();
         match self.job.judge::<Brief>(front, &mut text) {
-            Verdict::Without => Fate::Without,
-            Verdict::Rewritten { start, length } => Fate::Rewritten {
+            Verdict::Without => LineAction::Without,
+            Verdict::Rewritten { start, length } => LineAction::Rewritten {
                 begin: start,
                 end: start + length,
                 text,
             },
-            Verdict::Dropped => Fate::Dropped,
-            Verdict::Refused { .. } => Fate::Refused,
+            Verdict::Dropped => LineAction::Dropped,
+            Verdict::Refused { .. } => LineAction::Refused,
         }
     }
 
@@ -76,7 +76,7 @@ impl Rewriting for Restamping<'_> {
 
 impl Restamping<'_> {
     // Writes the column of the error in a rejected front, the reason or the missing part, and what was expected there.
-    // Not inlined, so that reports need no stack beside lines that are rewritten.
+    // Not inlined, so that reports need no stack while lines are rewritten.
     #[inline(never)]
     fn write_location<L: Sink>(
         &self,
@@ -85,7 +85,7 @@ impl Restamping<'_> {
         reason: Reason,
         log: &mut L,
     ) -> Result<(), Unwritten>
-        ensures told { OnOk result (WritesReason (ReportsError greatest_year self.now.job self.now.zone.now self.now.shows_lines front.now column (seen reason))
+        ensures reported { OnOk result (WritesReason (ReportsError greatest_year self.now.job self.now.zone.now self.now.shows_lines front.now column (seen reason))
             (L.contents log.old) (L.contents log.new)) }
         ensures cause { HasCause result (L.faults log.old) (L.faults log.new) }
     {
@@ -121,7 +121,7 @@ pub fn serve<W: Sink, L: Sink, O: Opening>(
     block: &mut Block,
 ) -> Result<(), Stop>
     ensures ok { (job : Job_) × (settings : Settings_) × IsJobOf request.now job × AreSettingsOf request.now settings
-        × OnOk result (ProcessedFiles (IsFate greatest_year job) (IsReason greatest_year job (zone_name request.now.given.local) request.now.shows_lines)
+        × OnOk result (ProcessedFiles (IsAction greatest_year job) (IsReason greatest_year job (zone_name request.now.given.local) request.now.shows_lines)
         settings
         (O.bytes_of opening.old) (O.faults opening.old) (O.faults opening.new)
         (state_of W.contents L.contents stream.old) (state_of W.contents L.contents stream.new)
@@ -129,7 +129,7 @@ pub fn serve<W: Sink, L: Sink, O: Opening>(
     ensures unread { IfErr result (λ stop. stop ≢ Stop.Unread) }
     ensures refused { (job : Job_) × (settings : Settings_) × IsJobOf request.now job × AreSettingsOf request.now settings
         × IfErr result (λ stop. stop ≡ Stop.Refused →
-        StoppedIn (IsFate greatest_year job) (IsReason greatest_year job (zone_name request.now.given.local) request.now.shows_lines) settings
+        StoppedIn (IsAction greatest_year job) (IsReason greatest_year job (zone_name request.now.given.local) request.now.shows_lines) settings
         (O.bytes_of opening.old) (O.faults opening.old) (O.faults opening.new)
         (state_of W.contents L.contents stream.old) (state_of W.contents L.contents stream.new)
         (map (λ name. name.now) names.now)) }
@@ -144,9 +144,10 @@ pub fn serve<W: Sink, L: Sink, O: Opening>(
 }
 
 /// Replaces a file by its processed lines, unless none of its timestamps is rewritten. Returns the log and the counts
-/// of the file's lines by their fates.
+/// of the file's lines by their actions.
 ///
-/// A crash at any moment leaves what it might have left before under the file's name, or the whole new file.
+/// A crash at any moment leaves the whole new file under the file's name, or what a crash before the call might have
+/// left there.
 pub fn replace<F: Folder, L: Sink + Drop>(
     request: &Request<'_>,
     target: Target<'_>,
@@ -157,7 +158,7 @@ pub fn replace<F: Folder, L: Sink + Drop>(
 ) -> (L, Tally, Result<Made, Unreplaced<Stop>>)
     ensures { (job : Job_) × (settings : Settings_) × IsJobOf request.now job × AreSettingsOf request.now settings
         × IfSome (F.events folder.old) (λ before. Replaces
-        (Makes (job_of (IsFate greatest_year job) (IsReason greatest_year job (zone_name request.now.given.local) request.now.shows_lines)
+        (Makes (job_of (IsAction greatest_year job) (IsReason greatest_year job (zone_name request.now.given.local) request.now.shows_lines)
         target.entry.shown.now settings) (L.contents log) (L.contents result.0) result.1)
         before (F.events folder.new) target.entry.name.now (option_map (λ second. second.now) target.entry.backup) result.2) }
 {

@@ -2,7 +2,7 @@
 ghost use Rattle.std.specs.Prelude.{◌≡◌, MatchResult, false};
 ghost use Rattle.time_values.specs.Calendar.{greatest_year};
 ghost use Rattle.restamp_verdict.specs.Naming.{IsWritingFault, fault_of};
-ghost use Rattle.restamp_command.specs.Fault.{told};
+ghost use Rattle.restamp_command.specs.Fault.{erased_fault};
 ghost use Rattle.restamp_command.specs.Request as spec;
 
 use crate::fault::Fault;
@@ -50,7 +50,7 @@ fn find_format<'a>(name: &'a str) -> Result<Writing, FormatFault<'a>>
 // The suffix of timestamps in the zone by the format of that name.
 fn find_suffix<'a>(alloc: Global, name: &'a str, zone: &Zone) -> Result<Vec<u8>, Fault<'a>>
     ensures { MatchResult result (λ suffix. spec.IsSuffixBy name.now zone.now suffix.items)
-        (λ fault. spec.IsSuffixFault name.now zone.now (told fault)) }
+        (λ fault. spec.IsSuffixFault name.now zone.now (erased_fault fault)) }
 {
     if !is_zoned(name) {
         return Ok(Vec::new(alloc));
@@ -71,7 +71,7 @@ pub(crate) fn find_style<'a, R: Env + Files + AllocGlobal>(
     options: &Options<'_, 'a>,
 ) -> Result<Style, Fault<'a>>
     ensures { MatchResult result (λ style. spec.IsStyle greatest_year options.now style)
-        (λ fault. spec.IsFault greatest_year options.now (told fault)) }
+        (λ fault. spec.IsFault greatest_year options.now (erased_fault fault)) }
 {
     let writing = match find_format(options.to) {
         Ok(writing) => writing,

@@ -4,7 +4,7 @@ ghost use Rattle.std.specs.List.{list_any};
 ghost use Rattle.time_values.specs.Calendar.{greatest_year};
 ghost use Rattle.restamp_verdict.specs.MissingField.{can_default};
 ghost use Rattle.restamp_verdict.specs.declared.missing_field.Part.TheVariants as part;
-ghost use Rattle.restamp_command.specs.Fault.{told};
+ghost use Rattle.restamp_command.specs.Fault.{erased_fault};
 ghost use Rattle.restamp_command.specs.Request as spec;
 
 use crate::fault::Fault;
@@ -21,7 +21,7 @@ fn one_can_default(formats: &[Reading], part: Part) -> bool
     }
 }
 
-// The error of an option for the year, if it is given, and no text omits the year.
+// The error of an option for the year, if it is given though no text may omit the year.
 fn find_unused_year<'a>(
     options: &Options<'_, 'a>,
     first: &Reading,
@@ -30,7 +30,7 @@ fn find_unused_year<'a>(
     requires { spec.AreFormats options.now first.now others.now }
     ensures { MatchOption result
         (spec.has_default_year options.now ≡ true → spec.one_can_default part.Year first.now others.now ≡ true)
-        (λ fault. spec.IsFault greatest_year options.now (told fault)) }
+        (λ fault. spec.IsFault greatest_year options.now (erased_fault fault)) }
 {
     if first.can_default(Part::Year) || one_can_default(others, Part::Year) {
         return None;
@@ -44,7 +44,7 @@ fn find_unused_year<'a>(
     }
 }
 
-// The error of an option for the offset or its zone, if it is given, and no text omits the offset.
+// The error of an option for the offset or its zone, if it is given though no text may omit the offset.
 fn find_unused_offset<'a>(
     options: &Options<'_, 'a>,
     first: &Reading,
@@ -53,7 +53,7 @@ fn find_unused_offset<'a>(
     requires { spec.AreFormats options.now first.now others.now }
     ensures { MatchOption result
         (spec.has_default_offset options.now ≡ true → spec.one_can_default part.Offset first.now others.now ≡ true)
-        (λ fault. spec.IsFault greatest_year options.now (told fault)) }
+        (λ fault. spec.IsFault greatest_year options.now (erased_fault fault)) }
 {
     if first.can_default(Part::Offset) || one_can_default(others, Part::Offset) {
         return None;
@@ -75,7 +75,7 @@ pub(crate) fn find_unused<'a>(
 ) -> Option<Fault<'a>>
     requires { spec.AreFormats options.now first.now others.now }
     ensures { MatchOption result (spec.AreUsed options.now first.now others.now)
-        (λ fault. spec.IsFault greatest_year options.now (told fault)) }
+        (λ fault. spec.IsFault greatest_year options.now (erased_fault fault)) }
 {
     match find_unused_year(options, first, others) {
         Some(fault) => Some(fault),

@@ -11,11 +11,11 @@ not_true : (b : Bool) (P : Type 0) → Decides b P → ¬ P → b ≡ false
 not_true true P d never = absurd (never (d.0 refl))
 not_true false P d never = refl
 
--- a name is that of the file that it was last given to
+-- a name points to the file that it was last given to
 pub leads-at : (name : List ℕ) (file : Option ℕ) (done : List Event) → leads (Leads name file ∷ done) name ≡ file
 leads-at name file done = rw ((bytes_eq-Decides name name).1 refl) refl
 
--- other names are those of the same files as before
+-- other names point where they did
 pub leads-past : (other name : List ℕ) (file : Option ℕ) (done : List Event) → ¬ (other ≡ name) → leads (Leads other file ∷ done) name ≡ leads done name
 leads-past other name file done apart = rw (not_true (bytes_eq other name) (other ≡ name) (bytes_eq-Decides other name) apart) refl
 
@@ -24,7 +24,7 @@ may_now-step : (b : Bool) (other name : List ℕ) (led : Option ℕ) (done : Lis
 may_now-step true other name led done d may = inl (d.0 refl, refl)
 may_now-step false other name led done d may = inr may
 
--- a crash may leave a name as it is
+-- a crash may leave a name pointing to its current file
 pub may_now : (done : List Event) (name : List ℕ) → MayLead done name (leads done name)
 may_now [] name = refl
 may_now (Leads other led ∷ done) name = may_now-step (bytes_eq other name) other name led done (bytes_eq-Decides other name) (may_now done name)
@@ -35,7 +35,7 @@ may_now (Synced ∷ done) name = refl
 pub stored-at : (number : ℕ) (bytes : List ℕ) (done : List Event) → stored (Stored number bytes ∷ done) number ≡ Some bytes
 stored-at number bytes done = let same : nat_eq number number ≡ true = search rules in rw same refl
 
--- another file has the same bytes as before
+-- another file has the bytes that it had before
 pub stored-past : (number other : ℕ) (bytes : List ℕ) (done : List Event) → ¬ (other ≡ number) → stored (Stored number bytes ∷ done) other ≡ stored done other
 stored-past number other bytes done apart = let differ : nat_eq number other ≡ false = grind arith in rw differ refl
 

@@ -45,7 +45,7 @@ module _ (aim : Replacement) where
     bytes = λ number differs. refl;
   }
 
-  -- a name other than the file's is that of another file
+  -- a name other than the file's points elsewhere
   pub same-leads : (name : List ℕ) (led : Option ℕ) (done : List Event) → ¬ (name ≡ aim.name) → Same aim done → Same aim (Leads name led ∷ done)
   same-leads name led done differs s =
       let still : (file : Option ℕ) → MayLead (Leads name led ∷ done) aim.name file → MayLead aim.before aim.name file = λ file may. ⊎_elim
@@ -93,7 +93,7 @@ module _ (aim : Replacement) where
     others = λ other differs _ _. leads-past aim.temporary other (Some aim.number) aim.before (λ is. differs (sym is));
   }
 
-  -- and stored on the disk
+  -- the new file was stored on the disk
   pub kept-stored : (bytes : List ℕ) (done : List Event) → Kept aim done → Kept aim (Stored aim.number bytes ∷ done)
   kept-stored bytes done k = record {
     untouched = same-stored bytes done k.untouched;
@@ -284,7 +284,7 @@ module _ (aim : Replacement) where
         others = λ other old backup. others-renamed done b.ready.kept other old backup (bytes_eq other aim.temporary) (bytes_eq-Decides other aim.temporary);
       }
 
-  -- it may have, though the call failed
+  -- the new file may have replaced the old one, though the call failed
   pub removable-renamed : (done : List Event) → Backed aim done → BackupRemovable aim (Leads aim.temporary None ∷ Leads aim.name (Some aim.number) ∷ done)
   removable-renamed done b =
       let both = placed-temporary (Leads aim.name (Some aim.number) ∷ done) (placed done b) in
@@ -333,7 +333,7 @@ module _ (aim : Replacement) where
         (subst (λ (b : Option (List ℕ)). IfSome b (λ second. ¬ (second ≡ aim.name))) (sym l.is) l.beside);
   }
 
-  -- and the names are on the disk
+  -- the new file replaced the old one, and the names are on the disk
   pub done-synced : (done : List Event) → Put aim done → Installed aim (Synced ∷ done)
   done-synced done p =
       let new : (file : Option ℕ) → MayLead (Synced ∷ done) aim.name file → IsNew aim.before (Synced ∷ done) aim.name aim.backup aim.new file =

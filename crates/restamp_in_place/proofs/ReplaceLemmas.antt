@@ -35,7 +35,7 @@ replaces-nothing makes (Some before) name backup error = record {
   same = tt;
 }
 
--- the making ends as known
+-- the new file was made, and then kept or removed
 module _ (aim : Replacement) where
   pub is_made-kept : (done : List Event) → IsMade aim done → Kept aim done
   is_made-kept done is = subst (Kept aim) (sym is) (made aim)

@@ -128,7 +128,7 @@ module _ (aim : Replacement) where
   unbacked backup second done is all = subst
       (λ (b : Option (List ℕ)). IfSome b (λ second. leads done aim.name ≡ Some aim.original → TempRemovable aim (Leads second None ∷ done))) is all
 
-  -- the backup was removed, while the name is the old file's
+  -- the backup was removed, while the name points to the old file
   pub remove-backup : (before after : Option (List Event)) (P : Type 0) (second : List ℕ) → aim.backup ≡ Some second
       → IfSome before (λ done. leads done aim.name ≡ Some aim.original) → Performs before after
       (λ done more. Removes second done more ⊎ (P × (more ≡ []))) → Runs before after (BackupRemovable aim) (TempRemovable aim)
@@ -141,7 +141,7 @@ module _ (aim : Replacement) where
             (λ failed. subst (λ (m : List Event). TempRemovable aim (m ++ done)) (sym failed.1) l.removable) tries.2,
       )
 
-  -- the name is the old file's, if a look found it so
+  -- the name points to the old file, if a check found that
   pub known-there : (events : Option (List Event)) (name : List ℕ) (number : ℕ) (is : Bool) → is ≡ true → name ≡ aim.name → number ≡ aim.original
       → IfSome events (λ done. is ≡ true → leads done name ≡ Some number) → IfSome events (λ done. leads done aim.name ≡ Some aim.original)
   known-there None name number is seen same file there = tt

@@ -54,7 +54,7 @@ pub record Ready (aim : Replacement) (done : List Event) : Type 0 where
   pub new : aim.new ≡ Some bytes
   pub whole : stored done aim.number ≡ Some bytes
 
--- The file is untouched, the new one is on the disk, and the backup's name is the old file's.
+-- The file is untouched, the new one is on the disk, and the backup's name points to the old file.
 pub record Linked (aim : Replacement) (done : List Event) : Type 0 where
   pub ready : Ready aim done
   pub second : List ℕ
@@ -79,7 +79,7 @@ pub record TempRemovable (aim : Replacement) (done : List Event) : Type 0 where
   pub reached : Reached aim done
   pub safe : Safe aim (Leads aim.temporary None ∷ done)
 
--- The backup's name may be removed, too, while the name is the old file's.
+-- The backup's name may be removed, too, while the name points to the old file.
 pub record BackupRemovable (aim : Replacement) (done : List Event) : Type 0 where
   pub removable : TempRemovable aim done
   pub unbacked : IfSome aim.backup (λ second.

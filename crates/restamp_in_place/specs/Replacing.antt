@@ -12,7 +12,7 @@ use Rattle.restamp_in_place.specs.declared.lines.Made.TheVariants.{Changed, Same
 
 -- an event
 pub data Event : Type 0 where
-  -- a name is that of the file of that number, or of none
+  -- a name points to the file of that number, or to no file
   Leads : (name : List ℕ) (file : Option ℕ) → Event
   -- the file of that number has those bytes, on the disk
   Stored : (file : ℕ) (bytes : List ℕ) → Event
@@ -33,7 +33,7 @@ stored (Leads name other ∷ done) file = stored done file
 stored (Stored other bytes ∷ done) file = if nat_eq other file then Some bytes else stored done file
 stored (Synced ∷ done) file = stored done file
 
--- The files that a crash may leave under a name: that of now, and those since the names were last on the disk.
+-- The files that a crash may leave under a name: the current one, and those since the names were last on the disk.
 abbrev pub MayLead : List Event → List ℕ → Option ℕ → Type 0
 MayLead [] name file = file ≡ None
 MayLead (Leads other led ∷ done) name file = ((other ≡ name) × (file ≡ led)) ⊎ MayLead done name file
@@ -44,7 +44,7 @@ MayLead (Synced ∷ done) name file = file ≡ leads done name
 abbrev pub bytes_at : List Event → List ℕ → Option (List ℕ)
 bytes_at done name = option_and_then (stored done) (leads done name)
 
--- no name is or may be that of a file with that number, and the file has no bytes
+-- a crash leaves no name pointing to the file of that number, and the file has no bytes
 pub record IsFresh (done : List Event) (number : ℕ) : Type 0 where
   pub led : (name : List ℕ) (file : Option ℕ) → MayLead done name file → file ≢ Some number
   pub empty : stored done number ≡ None
@@ -71,13 +71,13 @@ Stores name known done more =
     (number : ℕ) × (bytes : List ℕ) × (leads done name ≡ Some number) × IfSome known (λ written. bytes ≡ written)
     × (more ≡ Stored number bytes ∷ [])
 
--- A second name, which was unused, is that of the first name's file.
+-- A second name, which was unused, points to the first name's file.
 abbrev pub Links : List ℕ → List ℕ → List Event → List Event → Type 0
 Links name second done more =
     (number : ℕ) × (leads done name ≡ Some number) × (leads done second ≡ None)
     × (more ≡ Leads second (Some number) ∷ [])
 
--- A name is that of another name's file, and the other name is unused.
+-- A name points to the file of another name, and the other name is unused.
 abbrev pub Renames : List ℕ → List ℕ → List Event → List Event → Type 0
 Renames name onto done more =
     (number : ℕ) × (leads done name ≡ Some number)
@@ -131,12 +131,12 @@ abbrev pub IsAlwaysSafe : List Event → Option (List Event) → List ℕ → Op
 IsAlwaysSafe before after name backup new =
     (more : List Event) × (after ≡ Some (more ++ before)) × Throughout before more (IsSafe before name backup new)
 
--- A crash leaves the new file under the name, and each name but the backup's is that of the same file as before.
+-- A crash leaves the new file under the name, and each other name but the backup's points where it did.
 pub record IsReplaced (before after : List Event) (name : List ℕ) (backup new : Option (List ℕ)) : Type 0 where
   pub new_file : (file : Option ℕ) → MayLead after name file → IsNew before after name backup new file
   pub others : (other : List ℕ) → ¬ (other ≡ name) → ¬ (backup ≡ Some other) → leads after other ≡ leads before other
 
--- Each name is that of the same file as before.
+-- Each name points to the file that it pointed to before.
 abbrev pub IsUntouched : List Event → List Event → Type 0
 IsUntouched before after = (other : List ℕ) → leads after other ≡ leads before other
 
@@ -168,12 +168,12 @@ abbrev pub has_star : List ℕ → Bool
 has_star [] = false
 has_star (b ∷ text) = if b == 42 then true else has_star text
 
--- a text with the name for each `*`
+-- a text with the name in place of each `*`
 abbrev pub with_name : List ℕ → List ℕ → List ℕ
 with_name name [] = []
 with_name name (b ∷ text) = (if b == 42 then name else b ∷ []) ++ with_name name text
 
--- a suffix with the name for each `*`; without a `*`, the name followed by the suffix
+-- a suffix with the name in place of each `*`; without a `*`, the name followed by the suffix
 abbrev pub backup_of : List ℕ → List ℕ → List ℕ
 backup_of name suffix = if has_star suffix then with_name name suffix else name ++ suffix
 
@@ -184,7 +184,7 @@ abbrev pub made_of : Tally → Made
 made_of tally = if tally.rewritten == 0 then Same else Changed
 
 -- All lines of the old bytes were processed, and the output is a text. It is the new bytes if a timestamp was
--- rewritten; otherwise there are none. The two logs are those before and after, and the tally counts the lines.
+-- rewritten; otherwise no bytes are made. The two logs are those before and after, and the tally counts the lines.
 abbrev pub Makes : Job → Option (List ℕ) → Option (List ℕ) → Tally → List ℕ → Option (List ℕ) → Type 0
 Makes job log log' tally old made =
     (text : List ℕ) × ProcessedAll job (state (Some []) log nothing_counted) (state (Some text) log' tally) old
@@ -192,16 +192,16 @@ Makes job log log' tally old made =
 
 -- ---- Laws of what a crash leaves of a file
 
--- A crash may leave a name as it is.
+-- A crash may leave a name pointing to its current file.
 abbrev pub NowMayBe : Type 0
 NowMayBe = (done : List Event) (name : List ℕ) → MayLead done name (leads done name)
 
--- a crash leaves the name as that of the file, which has those bytes on the disk
+-- a crash leaves the name pointing to the file, which has those bytes on the disk
 pub record IsOnDisk (done : List Event) (name : List ℕ) (number : ℕ) (bytes : List ℕ) : Type 0 where
   pub led : (file : Option ℕ) → MayLead done name file → file ≡ Some number
   pub whole : stored done number ≡ Some bytes
 
--- If the old file was on the disk, a safe name is that of a file with the old bytes or exactly the new ones.
+-- If the old file was on the disk, a safe name points to a file with the old bytes or exactly the new ones.
 abbrev pub SafeIsOldOrNew : Type 0
 SafeIsOldOrNew =
     (before after : List Event) (name old : List ℕ) (number : ℕ) (backup new : Option (List ℕ))

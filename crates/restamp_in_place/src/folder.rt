@@ -46,7 +46,7 @@ impl<W: Drop> Failing for Counted<W> {
     }
 }
 
-/// A folder. Each call does one thing in it; a call that fails has done it or nothing.
+/// A folder. Each call makes one change in it. A failed call has made its change, or none.
 ///
 /// `events` lists what was done in the folder, the last event first; it is `None` for files on a disk, where the
 /// contracts state what is assumed of them.
@@ -67,7 +67,7 @@ pub trait Folder {
             × ((read : List ℕ) × (Self.Old.remaining opened.0 ≡ Some read)
             × IfSome (stored done opened.1.number) (λ bytes. bytes ≡ read)))) };
 
-    /// Whether the name is still that file's, and the file hasn't changed since it was opened.
+    /// Whether the name still points to that file, and the file hasn't changed since it was opened.
     fn is_at(&self, name: &str, original: &Original) -> io::Result<bool>
         ensures { IfOk result (λ is. IfSome (events self.now) (λ done.
             is ≡ true → leads done name.now ≡ Some original.now.number)) };

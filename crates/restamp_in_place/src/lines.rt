@@ -24,11 +24,11 @@ pub trait FileTransform: Drop {
     /// Why no new bytes were made.
     type Stop: Drop;
 
-    // The new bytes that it made from the old ones, or none, by its states before and after.
+    // Relates its states before and after to the old bytes, and to the new ones if it made any.
     ghost makes: { Self → Self → List ℕ → Option (List ℕ) → Type 0 };
 
-    /// Reads the old bytes to their end, and writes the new ones, or anything if there are none. Returns the
-    /// writer.
+    /// Reads the old bytes to their end, and writes the new ones. If the file needs no change, it may write anything.
+    /// Returns the writer.
     fn make<R: Source, W: Sink>(self, input: &mut R, out: W) -> (Self, W, Result<Made, Self::Stop>)
         ensures { IfOk result.2 (λ made. IfSome (R.remaining input.old) (λ old.
             (text : List ℕ) × Appends (W.contents out) (W.contents result.1) text × makes self result.0 old (bytes_made made text))) };
@@ -63,7 +63,7 @@ impl<T: Rewriting, L: Sink + Drop> Lines<'_, T, L> {
     // Processes all lines of the old bytes, and writes the output.
     fn answer<R: Source, W: Sink>(self, input: &mut R, out: W) -> (Self, W, Result<(), Stop>)
         ensures { OnOk result.2 (IfSome (R.remaining input.old)
-            (ProcessedAll (job_of (T.is_fate self.entry.rewriting.now) (T.is_reason self.entry.rewriting.now) self.entry.name.now self.entry.settings)
+            (ProcessedAll (job_of (T.is_action self.entry.rewriting.now) (T.is_reason self.entry.rewriting.now) self.entry.name.now self.entry.settings)
             (state (W.contents out) (L.contents self.entry.log) nothing_counted)
             (state (W.contents result.1) (L.contents result.0.log) result.0.tally))) }
     {
@@ -97,7 +97,7 @@ impl<T: Rewriting, L: Sink + Drop> FileTransform for Lines<'_, T, L> {
     type Stop = Stop;
 
     ghost makes = { λ before after old made. Makes
-        (job_of (T.is_fate before.rewriting.now) (T.is_reason before.rewriting.now) before.name.now before.settings)
+        (job_of (T.is_action before.rewriting.now) (T.is_reason before.rewriting.now) before.name.now before.settings)
         (L.contents before.log) (L.contents after.log) after.tally old made };
 
     fn make<R: Source, W: Sink>(self, input: &mut R, out: W) -> (Self, W, Result<Made, Stop>) {

@@ -20,7 +20,7 @@ fn has_star(text: &[u8]) -> bool
     false
 }
 
-// The text with the name for each `*`.
+// The text with the name in place of each `*`.
 fn with_name(alloc: Global, name: &[u8], text: &[u8]) -> io::Result<Vec<u8>>
     ensures { IfOk result (λ bytes. bytes.items ≡ spec.with_name name.now text.now) }
 {
@@ -37,7 +37,7 @@ fn with_name(alloc: Global, name: &[u8], text: &[u8]) -> io::Result<Vec<u8>>
     Ok(bytes)
 }
 
-/// The name of the backup of a file: the suffix with the name for each `*`; without a `*`, the name followed by the
+/// The name of a file's backup: the suffix with the name in place of each `*`; without a `*`, the name followed by the
 /// suffix.
 ///
 /// # Errors

@@ -12,7 +12,7 @@ use std::{fmt, io};
 
 // Writes the name of a file and why it wasn't replaced.
 fn write_why<L: Sink>(name: &[u8], why: &[u8], log: &mut L) -> Result<(), Unwritten>
-    ensures told { OnOk result (Appends (L.contents log.old) (L.contents log.new) (unread_text name.now why.now)) }
+    ensures reported { OnOk result (Appends (L.contents log.old) (L.contents log.new) (unread_text name.now why.now)) }
     ensures cause { HasCause result (L.faults log.old) (L.faults log.new) }
 {
     write_name(name, log)?;
@@ -28,7 +28,7 @@ fn write_failed<L: Sink>(
     error: &[u8],
     log: &mut L,
 ) -> Result<(), Unwritten>
-    ensures told { OnOk result (Appends (L.contents log.old) (L.contents log.new)
+    ensures reported { OnOk result (Appends (L.contents log.old) (L.contents log.new)
         (unread_text name.now (step_text step ++ (codes ": " ++ error.now)))) }
     ensures cause { HasCause result (L.faults log.old) (L.faults log.new) }
 {
@@ -46,7 +46,7 @@ pub fn write_unreplaced<L: Sink>(
     why: &Unreplaced<Stop>,
     log: &mut L,
 ) -> Result<(), Unwritten>
-    ensures told { OnOk result ((text : List ℕ) × IsWhy why.now text
+    ensures reported { OnOk result ((text : List ℕ) × IsWhy why.now text
         × Appends (L.contents log.old) (L.contents log.new) (unread_text name.now text)) }
     ensures cause { HasCause result (L.faults log.old) (L.faults log.new) }
 {

@@ -91,7 +91,7 @@ fn rename_linked<F: Folder>(folder: &mut F, plan: &Plan<'_>) -> Result<(), Insta
     rename(folder, plan)
 }
 
-// Removes the backup again, if the name is still the old file's.
+// Removes the backup again, if the name still points to the old file.
 fn remove_backup<F: Folder>(folder: &mut F, plan: &Plan<'_>, backup: &str)
     ensures { (aim : Replacement) → IsPlanOf aim plan.now → aim.backup ≡ Some backup.now
         → IfSome (F.events folder.old) (λ done. BackupRemovable aim done → (now : List Event) × (F.events folder.new ≡ Some now) × TempRemovable aim now) }

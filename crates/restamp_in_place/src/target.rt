@@ -24,7 +24,7 @@ pub struct Target<'a> {
 }
 
 /// Replaces a file by its processed lines, unless none of its timestamps is rewritten. Returns the log and the counts
-/// of the file's lines by their fates.
+/// of the file's lines by their actions.
 ///
 /// The file is unchanged if the work stops at a rejected line, and if anything fails but the last write of the folder
 /// to the disk.
@@ -38,7 +38,7 @@ pub fn replace_file<T: Rewriting, F: Folder, L: Sink + Drop>(
     block: &mut Block,
 ) -> (L, Tally, Result<Made, Unreplaced<Stop>>)
     ensures { IfSome (F.events folder.old) (λ before. Replaces
-        (Makes (job_of (T.is_fate rewriting.now) (T.is_reason rewriting.now) target.entry.shown.now settings.entry)
+        (Makes (job_of (T.is_action rewriting.now) (T.is_reason rewriting.now) target.entry.shown.now settings.entry)
         (L.contents log) (L.contents result.0) result.1)
         before (F.events folder.new) target.entry.name.now (option_map (λ second. second.now) target.entry.backup) result.2) }
 {

@@ -210,7 +210,7 @@ module _ (hit : ℕ → ℕ → ℕ) (same : (x : ℕ) → hit x x ≡ 255) (byt
     pub first-nowhere : 0 < mask → Nowhere (OccursAt bytes text) at (at + count_trailing_zeros 64 mask)
     first-nowhere set k low below = before_clear k low (omega (arith, first_is set))
 
--- the first of places, if it is at none before them
+-- the first of some places, if the text occurs at no place before them
 pub first_further : (text bytes : List ℕ) (i m j l : ℕ) (r : Option ℕ) → Nowhere (OccursAt bytes text) i m → IsFirst (OccursAt bytes text) m j r
     → i ≤ m → j ≤ l → length bytes < j + length text → IsFirst (OccursAt bytes text) i l r
 first_further text bytes i m j l None none nowhere low high room =

@@ -109,7 +109,7 @@ edge-within line =
       length-drop start line,
     ))
 
--- the word after m others, behind a word that ends there
+-- the word after m others, in the bytes after a word that ends there
 abbrev after_edge : ℕ → List ℕ → Option ℕ → Option Span
 after_edge m line None = None
 after_edge m line (Some e) = further_on e (nth_field Blank m (drop e line))
@@ -135,7 +135,7 @@ run-next x line n =
     let e : 1 + n ≡ suc n = omega arith in
     rw (e, same_test n (length line)) (run-where (n == length line) n (position_or_len is_blank (drop n line)))
 
--- behind a blank each word ends one byte further on
+-- after a blank each word ends one byte further on
 edge-blank : (x : ℕ) (line : List ℕ) → is_blank x ≡ true → edge_of (x ∷ line) ≡ option_map (λ e. 1 + e) (edge_of line)
 edge-blank x line h =
     let s : blanks (x ∷ line) ≡ 1 + blanks line = rw h refl in
@@ -196,7 +196,7 @@ passes (suc k) (suc m) (x ∷ y ∷ rest) inside fewer =
     ∙ ap (λ j. further_on j (nth_field Blank (suc m - e - word_ends k line) (drop k line))) next
     ∙ ap (λ j. further_on (suc k) (nth_field Blank j (drop k line))) both
 
--- a block behind the skipped bytes is skipped
+-- a block after the skipped bytes is skipped
 pub passes-further : (n : ℕ) (line : List ℕ) (start left block ends : ℕ) → block < length (drop start line) → ends ≡ word_ends block (drop start line)
     → ends < left → IsPassed n line (record { start = start; left = left }) → IsPassed n line (record { start = start + block; left = left - ends })
 passes-further n line start left block ends inside e fewer h =
@@ -216,7 +216,7 @@ passed-one (suc m) (x ∷ y ∷ rest) some inside =
     let one : suc m - e ≡ suc m - (e + 0) = omega arith in
     passed-byte (is_blank x) (is_blank y) m x y rest refl refl ∙ ap (λ k. further_on 1 (nth_field Blank k (y ∷ rest))) one
 
--- one more byte behind the skipped ones is skipped, also if it ends the last word that has to be skipped
+-- one more byte after the skipped ones is skipped, also if it ends the last word that has to be skipped
 pub passes-byte : (n : ℕ) (line : List ℕ) (start left ends : ℕ) → 0 < left → 1 < length (drop start line) → ends ≡ word_ends 1 (drop start line)
     → IsPassed n line (record { start = start; left = left }) → IsPassed n line (record { start = start + 1; left = left - ends })
 passes-byte n line start left ends some inside e h =

@@ -22,7 +22,7 @@ pub record Cut : Type 0 where
   pub time : List ℕ
   pub after : List ℕ
 
--- the cut without its addresses
+-- the cut, with bytes in place of references
 abbrev pub seen : declared.Cut → Cut
 seen c = record { before = c.before.now; time = c.time.now; after = c.after.now }
 
@@ -38,14 +38,14 @@ body_length line = if slice_index line (length line - 1) == 13 then length line 
 abbrev pub body_of : List ℕ → List ℕ
 body_of line = take (body_length line) line
 
--- from after the first `begin` up to the next `close`
+-- the part from after the first `begin` up to the next `close`
 abbrev pub between_of : List ℕ → List ℕ → List ℕ → Option Span
 between_of begin close line =
     option_and_then
     (λ n. let start = n + length begin in option_map (λ k. span start (start + k)) (place_of close (drop start line)))
     (place_of begin line)
 
--- from after the first `key` to the end
+-- the part from after the first `key` to the end
 abbrev pub after_of : List ℕ → List ℕ → Option Span
 after_of key line = option_map (λ n. span (n + length key) (length line)) (place_of key line)
 

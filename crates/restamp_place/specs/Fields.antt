@@ -24,12 +24,12 @@ pub record IsWithin (n : ℕ) (f : Field) : Type 0 where
   pub closed : f.said.stop ≤ f.edge
   pub within : f.edge ≤ n
 
--- a part of n bytes
+-- a part that lies within n bytes
 pub record IsPart (n : ℕ) (s : Span) : Type 0 where
   pub ordered : s.start ≤ s.stop
   pub within : s.stop ≤ n
 
--- up to the delimiter, or to the end
+-- the field up to the delimiter, or to the end
 abbrev pub first_delimited : ℕ → List ℕ → Field
 first_delimited d line = let stop = position_or_len (λ x. x == d) line in field 0 stop stop
 
@@ -66,13 +66,13 @@ first_field (Delimited d) line = Some (first_delimited d line)
 first_field Blank line = first_word line
 first_field (Quoted d) line = first_quoted d line
 
--- how many bytes are between the end of a field and the rest in which the next one is searched
+-- how many bytes come between the end of a field and the bytes in which the next one is searched
 abbrev pub gap : Fields → ℕ
 gap (Delimited d) = 1
 gap Blank = 0
 gap (Quoted d) = 1
 
--- n bytes further on
+-- a part that is n bytes further on
 abbrev pub moved : ℕ → Span → Span
 moved n s = span (n + s.start) (n + s.stop)
 

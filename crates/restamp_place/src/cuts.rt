@@ -69,7 +69,7 @@ pub fn body_of(line: &[u8]) -> &[u8]
     &line[..body_length(line)]
 }
 
-// From after the first `begin` up to the next `close`.
+// The part from after the first `begin` up to the next `close`.
 fn find_between(begin: &[u8], close: &[u8], line: &[u8]) -> Option<Span>
     ensures value { result ≡ span_of (Place.Between begin.entry close.entry) line.now }
     ensures within { IfSome result (IsPart (length line.now)) }
@@ -82,7 +82,7 @@ fn find_between(begin: &[u8], close: &[u8], line: &[u8]) -> Option<Span>
     })
 }
 
-// From after the first `key` to the end.
+// The part from after the first `key` to the end.
 fn find_after(key: &[u8], line: &[u8]) -> Option<Span>
     ensures value { result ≡ after_of key.now line.now }
     ensures within { IfSome result (IsPart (length line.now)) }

@@ -94,7 +94,7 @@ fn first_field(kind: Fields, line: &[u8]) -> Option<Field>
 }
 
 impl Fields {
-    // How many bytes are between the end of a field and the rest in which the next one is searched.
+    // How many bytes come between the end of a field and the bytes in which the next one is searched.
     fn gap(self) -> usize
         ensures value { result ≡ fields.gap self }
         ensures least { result ≤ 1 }

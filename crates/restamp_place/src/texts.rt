@@ -136,8 +136,8 @@ fn begins_with(text: &[u8], bytes: &[u8]) -> bool
     text.len() <= bytes.len() && &bytes[..text.len()] == text
 }
 
-// How many of sixteen places come before the first at which the text may be, judged by its first byte, one in its
-// middle and its last; 16 if it is at none.
+// How many of sixteen places come before the first at which the text may occur, judged by its first byte, one in its
+// middle and its last; 16 if there is no such place.
 #[inline(always)]
 fn first_in_block(text: &[u8], bytes: &[u8], at: usize) -> usize
     requires some { 0 < length text.now }
@@ -158,7 +158,7 @@ fn first_in_block(text: &[u8], bytes: &[u8], at: usize) -> usize
     }
 }
 
-// The first of these places at which the text is.
+// The first place from `from` to before `to` at which the text occurs.
 #[inline(always)]
 fn find_within(text: &[u8], bytes: &[u8], from: usize, to: usize) -> Option<usize>
     requires some { 0 < length text.now }
@@ -173,7 +173,7 @@ fn find_within(text: &[u8], bytes: &[u8], from: usize, to: usize) -> Option<usiz
     None
 }
 
-// The first of the last places, at most sixteen, at which the text is.
+// The first place from `from` to before `end` at which the text occurs. These are the last places, at most sixteen.
 #[inline(always)]
 fn find_last(text: &[u8], bytes: &[u8], from: usize, end: usize) -> Option<usize>
     requires some { 0 < length text.now }

@@ -6,22 +6,22 @@ use Rattle.restamp_stream.specs.declared.ending.Stop.TheVariants.{Unread, Unwrit
 use Rattle.restamp_stream.specs.declared.stream.Stream.{Stream}
 use Rattle.restamp_stream.specs.declared.tally.Tally.{Tally}
 
--- how often a call of a stream's writer or of its log has failed
+-- how many calls of a stream's writer and of its log have failed
 abbrev pub faults_of : {W L : Type 0} → (W → ℕ) → (L → ℕ) → Stream W L → ℕ
 faults_of faults log_faults s = faults s.out.sink + log_faults s.log
 
--- That count rose where the work stopped by a write, and is as it was where it stopped otherwise.
+-- That count rose if a failed write stopped the work, and is unchanged if the work stopped otherwise.
 abbrev pub IsCounted : Stop → ℕ → ℕ → Type 0
 IsCounted Unread before now = now ≡ before
 IsCounted Unwritten before now = Rises before now
 IsCounted Refused before now = now ≡ before
 
--- The same, and it is as it was where the work came to its end.
+-- That count rose if a failed write stopped the work, and otherwise is unchanged.
 abbrev pub HasWriteCause : {V : Type 0} → Result V Stop → ℕ → ℕ → Type 0
 HasWriteCause result before now = MatchResult result (λ _. now ≡ before) (λ stop. IsCounted stop before now)
 
--- ---- What the exit status tells of
+-- ---- What the exit status reports
 
--- The work stopped, a file was not read to its end, or a line was refused where none may be.
+-- The work stopped, a file wasn't read to its end, or a line was rejected and `strict` is set.
 abbrev pub HasFailed : Tally → Option Stop → Bool → Type 0
 HasFailed tally stop strict = IsSome stop ⊎ ((0 < tally.unread) ⊎ (IsTrue strict × (0 < tally.refused)))

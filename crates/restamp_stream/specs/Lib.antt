@@ -1,4 +1,4 @@
 pub mod Reports
 pub mod Streams
-pub mod Held
+pub mod Buffered
 pub mod Causes

@@ -1,78 +1,80 @@
--- What a stream of lines is at, also where it stopped.
+-- The progress of a stream of lines, also if the work stopped.
 use Rattle.std.specs.Prelude.{◌≡◌, ◌<◌, ℕ, List, [], ◌∷◌, ◌++◌, length, MatchBool, take, drop, Option, IsTrue, ◌≤◌, ◌⊎◌, IfSome, ⊤, Some}
 use Rattle.std.specs.Io.KnownBytes.{Appends, Keeps, Consumes}
 use Rattle.byte_streams.specs.Faults.{Rises}
 use Rattle.byte_streams.specs.Lines.{Line, unended, lines_of, joined, HasNoLf, AreEnded}
-use Rattle.restamp_stream.specs.declared.fate.Fate.{Fate}
+use Rattle.restamp_stream.specs.declared.action.LineAction.{LineAction}
 use Rattle.restamp_stream.specs.declared.settings.Reports.{Reports}
 use Rattle.restamp_stream.specs.declared.settings.Settings.{Settings}
 use Rattle.restamp_stream.specs.declared.block.TheConstants.{LIMIT}
 use Rattle.restamp_stream.specs.declared.tally.Tally.{Tally}
-use Rattle.restamp_stream.specs.Reports.{front_text, rest_of, passed, IsAllowed, count_fate, counted, at_first_line, is_named, report_of, unnamed, more_text, count_unread, unread_text}
-use Rattle.restamp_stream.specs.declared.fate.Fate.TheVariants.{Refused, Without, Rewritten, Dropped}
-use Rattle.restamp_stream.specs.declared.fate.Rest.{Rest}
-use Rattle.restamp_stream.specs.declared.fate.Rest.TheVariants.{Absent, Passing, Dropping}
+use Rattle.restamp_stream.specs.Reports.{front_text, tail_action_of, passed, IsAllowed, count_action, counted, at_first_line, is_named, report_of, unnamed, more_text, count_unread, unread_text}
+use Rattle.restamp_stream.specs.declared.action.LineAction.TheVariants.{Refused, Without, Rewritten, Dropped}
+use Rattle.restamp_stream.specs.declared.action.TailAction.{TailAction}
+use Rattle.restamp_stream.specs.declared.action.TailAction.TheVariants.{Absent, Passing, Dropping}
 use Rattle.restamp_stream.specs.declared.stream.Stream.{Stream}
 use Rattle.restamp_stream.specs.declared.settings.Output.TheVariants.{AllLines}
 
--- Bytes end with those that are left.
+-- The bytes end with those that are left.
 abbrev pub EndsWith : List ℕ → List ℕ → Type 0
 EndsWith bytes left = (front : List ℕ) × (bytes ≡ front ++ left)
 
--- ---- What was done to lines: what the writer and the log got, and what was counted
+-- ---- Processed lines: what was written to the writer and to the log, and what was counted
 
--- What is to be done with the lines of a file: which fate a line has by its front, and why a front is refused; by how
--- many bytes of it a line is answered; the file's name, and which lines and reports are asked for.
+-- How the lines of a file are processed: the action of a line by its front, and why a front is rejected; the greatest
+-- length of a front; the file's name, and the settings.
 pub record Job : Type 1 where
-  pub is_fate : List ℕ → Fate → Type 0
+  pub is_action : List ℕ → LineAction → Type 0
   pub is_reason : List ℕ → ℕ → List ℕ → Type 0
   pub limit : ℕ
   pub name : List ℕ
   pub settings : Settings
 
--- the job of those relations at a file of that name
-abbrev pub job_of : (List ℕ → Fate → Type 0) → (List ℕ → ℕ → List ℕ → Type 0) → List ℕ → Settings → Job
-job_of is_fate is_reason name settings =
-    record { is_fate = is_fate; is_reason = is_reason; limit = LIMIT; name = name; settings = settings }
+-- the job of those relations for a file of that name
+abbrev pub job_of : (List ℕ → LineAction → Type 0) → (List ℕ → ℕ → List ℕ → Type 0) → List ℕ → Settings → Job
+job_of is_action is_reason name settings =
+    record { is_action = is_action; is_reason = is_reason; limit = LIMIT; name = name; settings = settings }
 
 -- the front of a line
 abbrev pub front_of : Job → Line → List ℕ
 front_of job line = take job.limit line.text
 
--- The text that a line of that fate becomes: what goes out for its front, and then what comes after it, unless that
--- is left out with it.
-abbrev pub text_of : Job → Line → Fate → List ℕ
-text_of job line fate =
-    front_text job.settings.output job.settings.suffix.now (front_of job line) fate
-    ++ passed (rest_of job.settings.output fate) (drop job.limit line.text ++ line.ending)
+-- The output for a line with that action: the output for its front, and then the bytes after the front, unless they are
+-- dropped.
+abbrev pub text_of : Job → Line → LineAction → List ℕ
+text_of job line action =
+    front_text job.settings.output job.settings.suffix.now (front_of job line) action
+    ++ passed (tail_action_of job.settings.output action) (drop job.limit line.text ++ line.ending)
 
--- The log names a refused line of that front, which the tally has counted last.
+-- The report names a rejected line with that front, which the tally counted last.
 abbrev pub IsNaming : Job → Tally → List ℕ → List ℕ → Type 0
 IsNaming job t front report =
     (column : ℕ) × (reason : List ℕ) × job.is_reason front column reason
     × (report ≡ report_of job.name t.line column reason)
 
--- What the log gets of a line of that front and fate, which the tally has counted last.
-abbrev pub IsReport : Job → Tally → List ℕ → Fate → List ℕ → Type 0
-IsReport job t front fate report =
-    MatchBool (is_named job.settings.reports t fate) (IsNaming job t front report) (report ≡ [])
+-- The report of a line with that front and action, which the tally counted last; empty if the log doesn't name the
+-- line.
+abbrev pub IsReport : Job → Tally → List ℕ → LineAction → List ℕ → Type 0
+IsReport job t front action report =
+    MatchBool (is_named job.settings.reports t action) (IsNaming job t front report) (report ≡ [])
 
--- A line has that fate, becomes that text, and has that report. Where the work stops at a refused line, it is none.
-abbrev pub IsAnswered : Job → Tally → Line → Fate → List ℕ → List ℕ → Type 0
-IsAnswered job t line fate text report =
-    job.is_fate (front_of job line) fate × IsAllowed job.settings.strict fate
-    × (text ≡ text_of job line fate) × IsReport job t (front_of job line) fate report
+-- A line has that action, that text as its output, and that report. It isn't a rejected line at which the work stops.
+abbrev pub IsAnswered : Job → Tally → Line → LineAction → List ℕ → List ℕ → Type 0
+IsAnswered job t line action text report =
+    job.is_action (front_of job line) action × IsAllowed job.settings.strict action
+    × (text ≡ text_of job line action) × IsReport job t (front_of job line) action report
 
--- Lines have those fates, become that text and have those reports. The tally has counted the lines before them.
-abbrev pub AreAnswered : Job → Tally → List Line → List Fate → List ℕ → List ℕ → Type 0
-AreAnswered job t [] fates text reports = (fates ≡ []) × (text ≡ []) × (reports ≡ [])
-AreAnswered job t (line ∷ lines) fates text reports =
-    (fate : Fate) × (others : List Fate) × (first : List ℕ) × (rest : List ℕ) × (report : List ℕ) × (more : List ℕ)
-    × IsAnswered job (count_fate t fate) line fate first report
-    × AreAnswered job (count_fate t fate) lines others rest more
-    × (fates ≡ fate ∷ others) × (text ≡ first ++ rest) × (reports ≡ report ++ more)
+-- Lines have those actions, that text as their output, and those reports. The tally has counted the lines before them.
+abbrev pub AreAnswered : Job → Tally → List Line → List LineAction → List ℕ → List ℕ → Type 0
+AreAnswered job t [] actions text reports = (actions ≡ []) × (text ≡ []) × (reports ≡ [])
+AreAnswered job t (line ∷ lines) actions text reports =
+    (action : LineAction) × (others : List LineAction) × (first : List ℕ) × (rest : List ℕ) × (report : List ℕ)
+    × (more : List ℕ)
+    × IsAnswered job (count_action t action) line action first report
+    × AreAnswered job (count_action t action) lines others rest more
+    × (actions ≡ action ∷ others) × (text ≡ first ++ rest) × (reports ≡ report ++ more)
 
--- what the writer and the log hold, where it is known, and what was counted
+-- the contents of the writer and of the log, if they are known, and what was counted
 pub record State : Type 0 where
   pub out : Option (List ℕ)
   pub log : Option (List ℕ)
@@ -81,107 +83,108 @@ pub record State : Type 0 where
 abbrev pub state : Option (List ℕ) → Option (List ℕ) → Tally → State
 state out log tally = record { out = out; log = log; tally = tally }
 
--- the same state, before the first line of a file
+-- a state before the first line of a file
 abbrev pub before_lines : State → State
 before_lines s = state s.out s.log (at_first_line s.tally)
 
--- From the one state to the other the lines, which have those fates, were answered, reported and counted.
-pub record Processed (job : Job) (before after : State) (lines : List Line) (fates : List Fate) : Type 0 where
+-- Between the two states the lines, which have those actions, were processed, reported and counted.
+pub record Processed (job : Job) (before after : State) (lines : List Line) (actions : List LineAction) : Type 0 where
   pub text : List ℕ
   pub reports : List ℕ
-  pub become : AreAnswered job before.tally lines fates text reports
+  pub become : AreAnswered job before.tally lines actions text reports
   pub written : Appends before.out after.out text
   pub reported : Appends before.log after.log reports
-  pub tallied : after.tally ≡ counted before.tally fates
+  pub tallied : after.tally ≡ counted before.tally actions
 
--- From the one state to the other the log got how many more lines of a file were refused than it names.
+-- Between the two states the log got a report of how many more lines of a file were rejected than it names.
 pub record Closes (name : List ℕ) (reports : Reports) (before after : State) : Type 0 where
   pub same_out : after.out ≡ before.out
-  pub told : Appends before.log after.log (more_text name (unnamed reports before.tally))
+  pub reported : Appends before.log after.log (more_text name (unnamed reports before.tally))
   pub same_tally : after.tally ≡ before.tally
 
--- From the one state to the other all lines of an input were answered, and what was refused was told.
+-- Between the two states all lines of an input were processed, and the rejected ones were reported.
 pub record ProcessedAll (job : Job) (before after : State) (bytes : List ℕ) : Type 0 where
-  pub fates : List Fate
+  pub actions : List LineAction
   pub between : State
-  pub processed : Processed job (before_lines before) between (lines_of bytes) fates
+  pub processed : Processed job (before_lines before) between (lines_of bytes) actions
   pub closed : Closes job.name job.settings.reports between after
 
--- what a stream's writer and its log hold, and its tally
+-- the contents of a stream's writer and of its log, and its tally
 abbrev pub state_of : {W L : Type 0} → (W → Option (List ℕ)) → (L → Option (List ℕ)) → Stream W L → State
 state_of contents log_contents s = state (contents s.out.sink) (log_contents s.log) s.tally
 
--- From the one state to the other a line was answered that has that text so far: at least its front, and no LF.
-pub record IsLong (job : Job) (before after : State) (text : List ℕ) (rest : Rest) : Type 0 where
-  pub fate : Fate
-  pub rests : rest_of job.settings.output fate ≡ rest
-  pub begun : HasNoLf text
+-- Between the two states a line was processed that has that text so far: at least its front, and no LF.
+pub record IsLong (job : Job) (before after : State) (text : List ℕ) (rest : TailAction) : Type 0 where
+  pub action : LineAction
+  pub rests : tail_action_of job.settings.output action ≡ rest
+  pub started : HasNoLf text
   pub long : job.limit ≤ length text
-  pub processed : Processed job before after (unended text ∷ []) (fate ∷ [])
+  pub processed : Processed job before after (unended text ∷ []) (action ∷ [])
 
--- the same, or there is no such line
-abbrev pub IsBegun : Job → State → State → List ℕ → Rest → Type 0
-IsBegun job before after text Absent = (text ≡ []) × (before ≡ after)
-IsBegun job before after text Passing = IsLong job before after text Passing
-IsBegun job before after text Dropping = IsLong job before after text Dropping
+-- a line was processed that has that text so far, or no line has started and the states are equal
+abbrev pub IsStarted : Job → State → State → List ℕ → TailAction → Type 0
+IsStarted job before after text Absent = (text ≡ []) × (before ≡ after)
+IsStarted job before after text Passing = IsLong job before after text Passing
+IsStarted job before after text Dropping = IsLong job before after text Dropping
 
--- From the one state to the other all that was read was answered but for what is held: lines that end, and the begun
--- one.
-pub record Answered (job : Job) (before after : State) (read : List ℕ) (rest : Rest) (held : List ℕ) : Type 0 where
-  pub lines : List Line
-  pub fates : List Fate
-  pub between : State
-  pub text : List ℕ
-  pub whole : read ≡ joined lines ++ (text ++ held)
-  pub apart : AreEnded lines
-  pub processed : Processed job before between lines fates
-  pub begun : IsBegun job between after text rest
+-- The bytes read are lines that end, the text so far of a line that has started, and the bytes `held`. Between the two
+-- states all of them but `held` were processed.
+pub record Answered (job : Job) (before after : State) (read : List ℕ) (rest : TailAction) (held : List ℕ) : Type 0
+  where
+    pub lines : List Line
+    pub actions : List LineAction
+    pub between : State
+    pub text : List ℕ
+    pub whole : read ≡ joined lines ++ (text ++ held)
+    pub apart : AreEnded lines
+    pub processed : Processed job before between lines actions
+    pub started : IsStarted job between after text rest
 
--- What may be held before a read: less than the front of a line, and nothing of a line whose front was answered.
-abbrev pub IsHeld : Job → Rest → List ℕ → Type 0
-IsHeld job Absent held = HasNoLf held × (length held < job.limit)
-IsHeld job Passing held = held ≡ []
-IsHeld job Dropping held = held ≡ []
+-- The bytes that may be buffered before a read: fewer than a front has, and none of a line whose front was processed.
+abbrev pub IsBuffered : Job → TailAction → List ℕ → Type 0
+IsBuffered job Absent held = HasNoLf held × (length held < job.limit)
+IsBuffered job Passing held = held ≡ []
+IsBuffered job Dropping held = held ≡ []
 
--- What was read is answered, but for what is held.
-pub record Served (job : Job) (old new : Option (List ℕ)) (before after : State) (rest : Rest)
+-- The bytes read were processed, except for the bytes `held`.
+pub record Served (job : Job) (old new : Option (List ℕ)) (before after : State) (rest : TailAction)
     (held : List ℕ) : Type 0 where
   pub read : List ℕ
   pub consumed : Consumes old new read
-  pub kept : IsHeld job rest held
+  pub kept : IsBuffered job rest held
   pub answered : Answered job before after read rest held
 
--- From the one state to the other a line of that front was refused, reported and counted. Nothing of it was written.
+-- Between the two states a line with that front was rejected, reported and counted. Nothing of it was written.
 pub record RefusedAt (job : Job) (before after : State) (front : List ℕ) : Type 0 where
   pub report : List ℕ
   pub strict : IsTrue job.settings.strict
-  pub refused : job.is_fate front Refused
+  pub refused : job.is_action front Refused
   pub reports : IsReport job after.tally front Refused report
   pub kept : Keeps before.out after.out
   pub reported : Appends before.log after.log report
-  pub tallied : after.tally ≡ count_fate before.tally Refused
+  pub tallied : after.tally ≡ count_action before.tally Refused
 
--- From the one state to the other the lines before a refused one were answered, and then that one was refused.
+-- Between the two states the lines before a rejected one were processed, and then that one was rejected.
 pub record Stopped (job : Job) (before after : State) (all : List Line) : Type 0 where
   pub lines : List Line
   pub line : Line
   pub others : List Line
   pub whole : all ≡ lines ++ line ∷ others
-  pub fates : List Fate
+  pub actions : List LineAction
   pub between : State
-  pub processed : Processed job before between lines fates
+  pub processed : Processed job before between lines actions
   pub stopped : RefusedAt job between after (front_of job line)
 
--- From the one state to the other the log got that the file was not read to its end, and why.
+-- Between the two states the log got a report that the file wasn't read to its end, and why.
 pub record Fails (name : List ℕ) (before after : State) : Type 0 where
   pub why : List ℕ
   pub same_out : after.out ≡ before.out
-  pub told : Appends before.log after.log (unread_text name why)
+  pub reported : Appends before.log after.log (unread_text name why)
   pub counts : after.tally ≡ count_unread before.tally
 
--- A read of the input failed: of all that was read what could be answered was answered, and what was refused was told.
+-- A read of the input failed. All that was read and could be processed was processed, and rejected lines were reported.
 pub record ProcessedSome (job : Job) (old new : Option (List ℕ)) (before after : State) : Type 0 where
-  pub rest : Rest
+  pub rest : TailAction
   pub held : List ℕ
   pub answered : State
   pub failed : State
@@ -195,63 +198,64 @@ pub record ProcessedBefore (job : Job) (before after : State) (bytes : List ℕ)
   pub stopped : Stopped job (before_lines before) between (lines_of bytes)
   pub closed : Closes job.name job.settings.reports between after
 
--- ---- What was done to several files, one after the other
+-- ---- Several files, processed one after the other
 
--- From the one state to the other the lines of a file that were read until a read failed were answered, or none where
--- it was not opened. The count of openings and files that failed rose from the one number to the other.
+-- Between the two states a file's lines were processed until a read failed, or the file wasn't opened and no line was
+-- processed. The count of failed openings and failed files rose from the one number to the other.
 abbrev pub ProcessedCutOff : Job → Option (List ℕ) → ℕ → ℕ → State → State → Type 0
 ProcessedCutOff job bytes faults faults' before after =
     Rises faults faults'
     × (((left : Option (List ℕ)) × ProcessedSome job bytes left before after) ⊎ Fails job.name before after)
 
--- The same, or all its lines were answered. The file has those bytes, where they are known.
+-- All lines of a file were processed, or it was cut off (`ProcessedCutOff`). It has those bytes, if they are known.
 abbrev pub ProcessedFile : Job → Option (List ℕ) → ℕ → ℕ → State → State → Type 0
 ProcessedFile job bytes faults faults' before after =
     IfSome bytes (ProcessedAll job before after) ⊎ ProcessedCutOff job bytes faults faults' before after
 
--- the same of the files of those names
-abbrev pub ProcessedFiles : (List ℕ → Fate → Type 0) → (List ℕ → ℕ → List ℕ → Type 0) → Settings
+-- each of the files of those names was processed or cut off, one after the other
+abbrev pub ProcessedFiles : (List ℕ → LineAction → Type 0) → (List ℕ → ℕ → List ℕ → Type 0) → Settings
     → (List ℕ → Option (List ℕ))
     → ℕ → ℕ → State → State → List (List ℕ) → Type 0
-ProcessedFiles is_fate is_reason settings bytes_of faults faults' before after [] =
+ProcessedFiles is_action is_reason settings bytes_of faults faults' before after [] =
     (before ≡ after) × (faults ≡ faults')
-ProcessedFiles is_fate is_reason settings bytes_of faults faults' before after (name ∷ names) =
+ProcessedFiles is_action is_reason settings bytes_of faults faults' before after (name ∷ names) =
     (between : State) × (mid : ℕ)
-    × ProcessedFile (job_of is_fate is_reason name settings) (bytes_of name) faults mid before between
+    × ProcessedFile (job_of is_action is_reason name settings) (bytes_of name) faults mid before between
     × (faults ≤ mid)
-    × ProcessedFiles is_fate is_reason settings bytes_of mid faults' between after names
+    × ProcessedFiles is_action is_reason settings bytes_of mid faults' between after names
 
--- The work stopped at the first refused line of one of the files of those names, whose bytes are those where they are
--- known: the files before it were answered, and of it all lines before that one.
-abbrev pub StoppedIn : (List ℕ → Fate → Type 0) → (List ℕ → ℕ → List ℕ → Type 0) → Settings → (List ℕ → Option (List ℕ))
+-- The work stopped at the first rejected line of one of the files of those names. The files before it were processed or
+-- cut off, and all lines before that line were processed. `bytes_of` is the bytes of each file, if they are known.
+abbrev pub StoppedIn : (List ℕ → LineAction → Type 0) → (List ℕ → ℕ → List ℕ → Type 0) → Settings
+    → (List ℕ → Option (List ℕ))
     → ℕ → ℕ → State → State → List (List ℕ) → Type 0
-StoppedIn is_fate is_reason settings bytes_of faults faults' before after [] = ⊥
-StoppedIn is_fate is_reason settings bytes_of faults faults' before after (name ∷ names) =
-    (IfSome (bytes_of name) (ProcessedBefore (job_of is_fate is_reason name settings) before after)
+StoppedIn is_action is_reason settings bytes_of faults faults' before after [] = ⊥
+StoppedIn is_action is_reason settings bytes_of faults faults' before after (name ∷ names) =
+    (IfSome (bytes_of name) (ProcessedBefore (job_of is_action is_reason name settings) before after)
     × (faults ≤ faults'))
     ⊎ ((between : State) × (mid : ℕ)
-    × ProcessedFile (job_of is_fate is_reason name settings) (bytes_of name) faults mid before between
+    × ProcessedFile (job_of is_action is_reason name settings) (bytes_of name) faults mid before between
     × (faults ≤ mid)
-    × StoppedIn is_fate is_reason settings bytes_of mid faults' between after names)
+    × StoppedIn is_action is_reason settings bytes_of mid faults' between after names)
 
--- From the one state to the other all lines of each of the files of those names were answered.
-abbrev pub AreProcessed : (List ℕ → Fate → Type 0) → (List ℕ → ℕ → List ℕ → Type 0) → Settings
+-- Between the two states all lines of each of the files of those names were processed.
+abbrev pub AreProcessed : (List ℕ → LineAction → Type 0) → (List ℕ → ℕ → List ℕ → Type 0) → Settings
     → (List ℕ → Option (List ℕ))
     → State → State → List (List ℕ) → Type 0
-AreProcessed is_fate is_reason settings bytes_of before after [] = before ≡ after
-AreProcessed is_fate is_reason settings bytes_of before after (name ∷ names) =
+AreProcessed is_action is_reason settings bytes_of before after [] = before ≡ after
+AreProcessed is_action is_reason settings bytes_of before after (name ∷ names) =
     (between : State)
-    × IfSome (bytes_of name) (ProcessedAll (job_of is_fate is_reason name settings) before between)
-    × AreProcessed is_fate is_reason settings bytes_of between after names
+    × IfSome (bytes_of name) (ProcessedAll (job_of is_action is_reason name settings) before between)
+    × AreProcessed is_action is_reason settings bytes_of between after names
 
--- ---- Laws of what is done to an input
+-- ---- Laws of the processing of an input
 
--- Lines have one text, one fate each, and one report.
+-- Lines have one output, one action each, and one text of reports.
 abbrev pub OneAnswer : Job → Type 0
 OneAnswer job =
-    (t : Tally) (lines : List Line) (fates others : List Fate) (text other reports more : List ℕ)
-    → AreAnswered job t lines fates text reports → AreAnswered job t lines others other more
-    → (fates ≡ others) × (text ≡ other) × (reports ≡ more)
+    (t : Tally) (lines : List Line) (actions others : List LineAction) (text other reports more : List ℕ)
+    → AreAnswered job t lines actions text reports → AreAnswered job t lines others other more
+    → (actions ≡ others) × (text ≡ other) × (reports ≡ more)
 
 -- An input has one output, one log and one tally.
 abbrev pub OneResult : Job → Type 0
@@ -260,20 +264,20 @@ OneResult job =
     → ProcessedAll job (state (Some out) (Some log) tally) after bytes
     → ProcessedAll job (state (Some out) (Some log) tally) other bytes → after ≡ other
 
--- The lines of an input have its bytes.
+-- The lines of an input, joined, are its bytes.
 abbrev pub SameBytes : Type 0
 SameBytes = (bytes : List ℕ) → joined (lines_of bytes) ≡ bytes
 
 -- no line was rewritten or dropped
-abbrev pub AreKept : List Fate → Type 0
+abbrev pub AreKept : List LineAction → Type 0
 AreKept [] = ⊤
-AreKept (Without ∷ fates) = AreKept fates
-AreKept (Rewritten begin end text ∷ fates) = ⊥
-AreKept (Dropped ∷ fates) = ⊥
-AreKept (Refused ∷ fates) = AreKept fates
+AreKept (Without ∷ actions) = AreKept actions
+AreKept (Rewritten begin end text ∷ actions) = ⊥
+AreKept (Dropped ∷ actions) = ⊥
+AreKept (Refused ∷ actions) = AreKept actions
 
--- Where all lines go out, an input of which no line is rewritten or dropped goes out as it came in, byte by byte.
+-- If all lines are written, and no line of an input is rewritten or dropped, the output is the input, byte by byte.
 abbrev pub KeptBytes : Job → Type 0
 KeptBytes job =
-    (bytes : List ℕ) (before after : State) (fates : List Fate) → job.settings.output ≡ AllLines
-    → Processed job before after (lines_of bytes) fates → AreKept fates → Appends before.out after.out bytes
+    (bytes : List ℕ) (before after : State) (actions : List LineAction) → job.settings.output ≡ AllLines
+    → Processed job before after (lines_of bytes) actions → AreKept actions → Appends before.out after.out bytes

@@ -4,8 +4,8 @@ ghost use Rattle.restamp_stream.specs.Causes.{HasFailed};
 
 use crate::tally::Tally;
 
-/// The exit status of a program: 2 where the work stopped, a file was not read to its end, or a line was refused and
-/// `strict` is set. Else 0 where a time was rewritten, and 1 where none was.
+/// The exit status of a program: 2 if the work stopped, a file wasn't read to its end, or a line was rejected and
+/// `strict` is set. Otherwise 0 if a time was rewritten, and 1 if none was.
 pub fn status(tally: &Tally, stop: Option<Stop>, strict: bool) -> u8
     ensures failed { HasFailed tally.now stop strict → result ≡ 2 }
     ensures some { ¬ HasFailed tally.now stop strict → 0 < tally.now.rewritten → result ≡ 0 }
@@ -24,6 +24,6 @@ pub enum Stop {
     Unread,
     /// A write failed.
     Unwritten,
-    /// A line was refused, where the work stops at the first.
+    /// A line was rejected, and `strict` is set.
     Refused,
 }

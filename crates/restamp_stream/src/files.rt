@@ -1,4 +1,4 @@
-//! Answers several files, one after the other.
+//! Processes several files, one after the other.
 ghost use Rattle.std.specs.Prelude.{◌≡◌, ◌≢◌, ◌≤◌, ℕ, List, IfErr, IfOk, IfSome, OnOk, map, Option, Some};
 ghost use Rattle.byte_streams.specs.Faults.{HasCause, IsCutOff, Rises};
 ghost use Rattle.restamp_stream.specs.Streams.{ProcessedAll, job_of, ProcessedCutOff, ProcessedFile, ProcessedFiles, StoppedIn, state_of, ProcessedBefore};
@@ -12,25 +12,26 @@ use crate::stream::Stream;
 use byte_streams::{Sink, Source};
 use std::io;
 
-/// What opens files by their names.
+/// Opens files by name.
 pub trait Opening {
-    /// What reads a file.
+    /// The reader of a file.
     type Input: Source + Drop;
 
-    // The bytes that the file of a name has, where they are known.
+    // The bytes of the file of that name, if they are known.
     ghost bytes_of: { Self → List ℕ → Option (List ℕ) };
 
-    // How often it has failed to open a file, and how many files that it closed were cut off.
+    // How many files it failed to open, and how many of those that it closed were cut off, counted together.
     ghost faults: { Self → ℕ };
 
-    /// Opens the file of a name, of which no call has failed yet.
+    /// Opens the file of that name. No call of the returned reader has failed yet.
     fn open(&mut self, name: &[u8]) -> io::Result<Self::Input>
         ensures bytes { IfOk result (λ input. IfSome (bytes_of self.old name.now) (λ bytes. Self.Input.remaining input ≡ Some bytes)) }
-        ensures begun { IfOk result (λ input. Self.Input.faults input ≡ 0) }
+        ensures started { IfOk result (λ input. Self.Input.faults input ≡ 0) }
         ensures cause { HasCause result (faults self.old) (faults self.new) }
         ensures same { bytes_of self.new ≡ bytes_of self.old };
 
-    /// Closes a file that it opened. It counts one of which a call has failed, or that has given 18446744073709551615 bytes.
+    /// Closes a file that it opened. Counts the file as cut off if one of its calls has failed, or if it has returned
+    /// 18446744073709551615 bytes.
     fn close(&mut self, input: Self::Input)
         ensures cut_off { IsCutOff 0 (Self.Input.faults input) (Self.Input.given input) → Rises (faults self.old) (faults self.new) }
         ensures whole { ¬ IsCutOff 0 (Self.Input.faults input) (Self.Input.given input) → faults self.new ≡ faults self.old }
@@ -39,7 +40,7 @@ pub trait Opening {
 }
 
 impl<W: Sink, L: Sink> Stream<W, L> {
-    // Opens a file, answers all its lines, and closes it.
+    // Opens a file, processes all its lines, and closes it.
     fn serve_opened<T: Rewriting, O: Opening>(
         &mut self,
         rewriting: &T,
@@ -49,14 +50,14 @@ impl<W: Sink, L: Sink> Stream<W, L> {
         block: &mut Block,
     ) -> Result<(), Stop>
         ensures all { OnOk result (IfSome (O.bytes_of opening.old name.now)
-            (ProcessedAll (job_of (T.is_fate rewriting.now) (T.is_reason rewriting.now) name.now settings.entry)
+            (ProcessedAll (job_of (T.is_action rewriting.now) (T.is_reason rewriting.now) name.now settings.entry)
             (state_of W.contents L.contents self.old) (state_of W.contents L.contents self.new))) }
         ensures unread { IfErr result (λ stop. stop ≡ Stop.Unread →
-            ProcessedCutOff (job_of (T.is_fate rewriting.now) (T.is_reason rewriting.now) name.now settings.entry)
+            ProcessedCutOff (job_of (T.is_action rewriting.now) (T.is_reason rewriting.now) name.now settings.entry)
             (O.bytes_of opening.old name.now) (O.faults opening.old) (O.faults opening.new)
             (state_of W.contents L.contents self.old) (state_of W.contents L.contents self.new)) }
         ensures refused { IfErr result (λ stop. stop ≡ Stop.Refused → IfSome (O.bytes_of opening.old name.now)
-            (ProcessedBefore (job_of (T.is_fate rewriting.now) (T.is_reason rewriting.now) name.now settings.entry)
+            (ProcessedBefore (job_of (T.is_action rewriting.now) (T.is_reason rewriting.now) name.now settings.entry)
             (state_of W.contents L.contents self.old) (state_of W.contents L.contents self.new))) }
         ensures cause { HasWriteCause result (faults_of W.faults L.faults self.old) (faults_of W.faults L.faults self.new) }
         ensures later { O.faults opening.old ≤ O.faults opening.new }
@@ -71,7 +72,7 @@ impl<W: Sink, L: Sink> Stream<W, L> {
         served
     }
 
-    // The same, but a file that was not read to its end stops nothing.
+    // Opens a file, processes all its lines, and closes it. A file that isn't read to its end doesn't stop the work.
     fn serve_next<T: Rewriting, O: Opening>(
         &mut self,
         rewriting: &T,
@@ -81,12 +82,12 @@ impl<W: Sink, L: Sink> Stream<W, L> {
         block: &mut Block,
     ) -> Result<(), Stop>
         ensures ok { OnOk result
-            (ProcessedFile (job_of (T.is_fate rewriting.now) (T.is_reason rewriting.now) name.now settings.entry) (O.bytes_of opening.old name.now)
+            (ProcessedFile (job_of (T.is_action rewriting.now) (T.is_reason rewriting.now) name.now settings.entry) (O.bytes_of opening.old name.now)
             (O.faults opening.old) (O.faults opening.new)
             (state_of W.contents L.contents self.old) (state_of W.contents L.contents self.new)) }
         ensures unread { IfErr result (λ stop. stop ≢ Stop.Unread) }
         ensures refused { IfErr result (λ stop. stop ≡ Stop.Refused → IfSome (O.bytes_of opening.old name.now)
-            (ProcessedBefore (job_of (T.is_fate rewriting.now) (T.is_reason rewriting.now) name.now settings.entry)
+            (ProcessedBefore (job_of (T.is_action rewriting.now) (T.is_reason rewriting.now) name.now settings.entry)
             (state_of W.contents L.contents self.old) (state_of W.contents L.contents self.new))) }
         ensures cause { HasWriteCause result (faults_of W.faults L.faults self.old) (faults_of W.faults L.faults self.new) }
         ensures later { O.faults opening.old ≤ O.faults opening.new }
@@ -98,11 +99,11 @@ impl<W: Sink, L: Sink> Stream<W, L> {
         }
     }
 
-    /// Answers all lines of the files, one after the other, over one tally: in each they are counted from 1.
+    /// Processes all lines of the files, one after the other, with one tally. Lines are numbered from 1 in each file.
     ///
-    /// A file that can't be opened or read to its end is told to the log, and the others are answered, so that the answer
-    /// is never [`Stop::Unread`]. The work stops at a failed write, and where it is strict at the first refused line: the
-    /// files and lines before that one are answered. After a failed write nothing is known of how much was written.
+    /// If a file can't be opened or read to its end, that is logged, and the other files are processed: the result is
+    /// never [`Stop::Unread`]. The work stops at a failed write, and at the first rejected line if `strict` is set. The
+    /// files and lines before that line are processed. After a failed write it is unknown how much was written.
     pub fn serve_files<T: Rewriting, O: Opening>(
         &mut self,
         rewriting: &T,
@@ -111,12 +112,12 @@ impl<W: Sink, L: Sink> Stream<W, L> {
         opening: &mut O,
         block: &mut Block,
     ) -> Result<(), Stop>
-        ensures ok { OnOk result (ProcessedFiles (T.is_fate rewriting.now) (T.is_reason rewriting.now) settings.entry (O.bytes_of opening.old)
+        ensures ok { OnOk result (ProcessedFiles (T.is_action rewriting.now) (T.is_reason rewriting.now) settings.entry (O.bytes_of opening.old)
             (O.faults opening.old) (O.faults opening.new)
             (state_of W.contents L.contents self.old) (state_of W.contents L.contents self.new) (map (λ name. name.now) names.now)) }
         ensures unread { IfErr result (λ stop. stop ≢ Stop.Unread) }
         ensures refused { IfErr result (λ stop. stop ≡ Stop.Refused →
-            StoppedIn (T.is_fate rewriting.now) (T.is_reason rewriting.now) settings.entry (O.bytes_of opening.old)
+            StoppedIn (T.is_action rewriting.now) (T.is_reason rewriting.now) settings.entry (O.bytes_of opening.old)
             (O.faults opening.old) (O.faults opening.new)
             (state_of W.contents L.contents self.old) (state_of W.contents L.contents self.new) (map (λ name. name.now) names.now)) }
         ensures cause { HasWriteCause result (faults_of W.faults L.faults self.old) (faults_of W.faults L.faults self.new) }

@@ -1,4 +1,4 @@
-//! Laws of what is done to an input: the contract of a function is the law.
+//! Laws of the processing of an input: the contract of each function is a law.
 ghost use Rattle.std.specs.Prelude.{◌≡◌, ◌⊎◌, ℕ, List, IfErr, OnOk, map};
 ghost use Rattle.byte_streams.specs.Faults.{Rises};
 ghost use Rattle.restamp_stream.specs.Streams.{job_of, AreProcessed, state_of, OneAnswer, OneResult, SameBytes, KeptBytes};
@@ -14,18 +14,19 @@ use byte_streams::Sink;
 
 /// An input has one output, one log and one tally.
 pub fn law_one_result<T: Rewriting>(rewriting: &T, name: &[u8], settings: Settings<'_>)
-    ensures lines { OneAnswer (job_of (T.is_fate rewriting.now) (T.is_reason rewriting.now) name.now settings.entry) }
-    ensures input { OneResult (job_of (T.is_fate rewriting.now) (T.is_reason rewriting.now) name.now settings.entry) }
+    ensures lines { OneAnswer (job_of (T.is_action rewriting.now) (T.is_reason rewriting.now) name.now settings.entry) }
+    ensures input { OneResult (job_of (T.is_action rewriting.now) (T.is_reason rewriting.now) name.now settings.entry) }
 {}
 
-/// The lines of an input have its bytes, and an input with no time that is read goes out as it came in.
+/// The lines of an input, joined, are its bytes. If all lines are written, and no line is rewritten or dropped, the
+/// output is the input.
 pub fn law_kept<T: Rewriting>(rewriting: &T, name: &[u8], settings: Settings<'_>)
     ensures lines { SameBytes }
-    ensures input { KeptBytes (job_of (T.is_fate rewriting.now) (T.is_reason rewriting.now) name.now settings.entry) }
+    ensures input { KeptBytes (job_of (T.is_action rewriting.now) (T.is_reason rewriting.now) name.now settings.entry) }
 {}
 
-/// The work stops before its end only after a read or a write that gave an error, or at a refused line. So over files, a
-/// writer and a log of which no call fails, all lines of each file are answered and written.
+/// The work stops early only after a failed read or write, or at a rejected line. So if no call of the files, the
+/// writer and the log fails, and no rejected line stops the work, all lines of each file are processed and written.
 pub fn law_done<T: Rewriting, O: Opening, W: Sink, L: Sink>(
     stream: &mut Stream<W, L>,
     rewriting: &T,
@@ -35,7 +36,7 @@ pub fn law_done<T: Rewriting, O: Opening, W: Sink, L: Sink>(
     block: &mut Block,
 ) -> Result<(), Stop>
     ensures done { OnOk result (¬ Rises (O.faults opening.old) (O.faults opening.new)
-        → AreProcessed (T.is_fate rewriting.now) (T.is_reason rewriting.now) settings.entry (O.bytes_of opening.old)
+        → AreProcessed (T.is_action rewriting.now) (T.is_reason rewriting.now) settings.entry (O.bytes_of opening.old)
         (state_of W.contents L.contents stream.old) (state_of W.contents L.contents stream.new) (map (λ name. name.now) names.now)) }
     ensures stopped { IfErr result (λ stop. (stop ≡ Stop.Refused)
         ⊎ Rises (faults_of W.faults L.faults stream.old) (faults_of W.faults L.faults stream.new)) }

@@ -1,9 +1,9 @@
-//! Rewrites a stream line by line, with a log of what was refused, a tally, and a fixed amount of memory.
+//! Rewrites a stream line by line in a fixed amount of memory, with a log of rejected lines, and a tally.
 #![tactic(auto)]
 
+mod action;
 mod block;
 mod ending;
-mod fate;
 mod files;
 mod laws;
 mod names;
@@ -13,12 +13,12 @@ mod settings;
 mod stream;
 mod tally;
 
+pub use action::LineAction;
 pub use block::{Block, LIMIT};
 pub use ending::{Stop, status};
-pub use fate::Fate;
 pub use files::Opening;
 pub use laws::{law_done, law_kept, law_one_result};
-pub use names::{write_name, write_shown};
+pub use names::{write_escaped, write_name};
 pub use rewriting::Rewriting;
 pub use settings::{Output, Reports, Settings};
 pub use stream::Stream;

@@ -1,4 +1,4 @@
-//! How a name is shown, and the text of an error, in a fixed array.
+//! Displays names, and writes the text of an error to a fixed array.
 ghost use Rattle.std.specs.Io.KnownBytes.{Appends};
 ghost use Rattle.std.specs.Prelude.{◌≡◌, ◌<◌, ◌≤◌, ℕ, length, slice_index, take, true, false, IfOk, OnOk};
 ghost use Rattle.byte_streams.specs.Faults.{HasCause};
@@ -27,14 +27,14 @@ fn escape(byte: u8) -> [u8; 4]
     [b'\\', b'x', hexadecimal(byte / 16), hexadecimal(byte % 16)]
 }
 
-// Whether a byte is shown by its number.
+// Whether a byte is escaped.
 fn is_escaped(ascii: bool, byte: u8) -> bool
     ensures { result ≡ names.is_escaped ascii byte }
 {
     byte.is_ascii_control() || (ascii && !byte.is_ascii())
 }
 
-// How many bytes stand before the first that is shown by its number.
+// How many bytes come before the first escaped one.
 fn plain_length(ascii: bool, name: &[u8]) -> usize
     ensures within { result ≤ length name.now }
     ensures plain { (k : ℕ) → k < result → names.is_escaped ascii (slice_index name.now k) ≡ false }
@@ -48,7 +48,7 @@ fn plain_length(ascii: bool, name: &[u8]) -> usize
     name.len()
 }
 
-// Shows the bytes before the first that is shown by its number, or that one. How many they are is returned.
+// Writes the name's bytes before the first escaped one, or that one if it comes first. Returns their number.
 fn write_part<L: Sink>(ascii: bool, name: &[u8], log: &mut L) -> Result<usize, Unwritten>
     requires { 0 < length name.now }
     ensures some { IfOk result (λ n. 0 < n) }
@@ -65,8 +65,8 @@ fn write_part<L: Sink>(ascii: bool, name: &[u8], log: &mut L) -> Result<usize, U
     Ok(plain)
 }
 
-/// Writes a name with each control byte as `\x` and two digits, and where `ascii` asks for it each byte beyond ASCII, too.
-pub fn write_shown<L: Sink>(ascii: bool, name: &[u8], log: &mut L) -> Result<(), Unwritten>
+/// Writes a name with each control byte as `\x` and two digits, and if `ascii` is set, each byte beyond ASCII, too.
+pub fn write_escaped<L: Sink>(ascii: bool, name: &[u8], log: &mut L) -> Result<(), Unwritten>
     ensures shown { OnOk result (Appends (L.contents log.old) (L.contents log.new) (names.displayed_as ascii name.now)) }
     ensures cause { HasCause result (L.faults log.old) (L.faults log.new) }
 {
@@ -83,7 +83,7 @@ pub fn write_name<L: Sink>(name: &[u8], log: &mut L) -> Result<(), Unwritten>
     ensures shown { OnOk result (Appends (L.contents log.old) (L.contents log.new) (names.displayed_name name.now)) }
     ensures cause { HasCause result (L.faults log.old) (L.faults log.new) }
 {
-    write_shown(false, name, log)
+    write_escaped(false, name, log)
 }
 
 /// The text of an error: at most 256 bytes.
@@ -92,7 +92,7 @@ pub type Message = ArrayBuf<256>;
 /// The text of that error.
 pub fn message_of(error: &io::Error) -> Message {
     let mut message = Message::new();
-    // The text is cut off where the buffer is full.
+    // A text that doesn't fit in the buffer is cut off.
     match write!(message, "{error}") {
         Ok(()) | Err(_) => message,
     }

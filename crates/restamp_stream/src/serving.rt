@@ -1,16 +1,16 @@
-//! Answers the lines of a stream.
+//! Processes the lines of a stream.
 ghost use Rattle.std.specs.Prelude.{◌≡◌, ◌≤◌, IfOk, IfErr, IfSome, MatchOption, [], OnOk, length, ℕ, List};
 ghost use Rattle.byte_streams.specs.Faults.{HasCause, IsCutOff};
 ghost use Rattle.byte_streams.specs.Lines.{HasNoLf, lines_of};
-ghost use Rattle.restamp_stream.specs.Streams.{Processed, ProcessedAll, State, job_of, EndsWith, state_of, IsHeld, Served, Stopped, Fails, ProcessedSome, ProcessedBefore};
+ghost use Rattle.restamp_stream.specs.Streams.{Processed, ProcessedAll, State, job_of, EndsWith, state_of, IsBuffered, Served, Stopped, Fails, ProcessedSome, ProcessedBefore};
 ghost use Rattle.restamp_stream.specs.Causes.{faults_of, HasWriteCause};
 ghost use Rattle.restamp_stream.specs.Reports.{HasFront};
-ghost use Rattle.restamp_stream.specs.Held.{held_out, held_state, job_at, Continues, Stops, StoppedBy, GoesOn, Ends};
+ghost use Rattle.restamp_stream.specs.Buffered.{buffered_out, buffered_state, job_at, Continues, Stops, StoppedBy, ContinuesLine, EndsLine};
 ghost use Rattle.restamp_stream.specs.declared.block.TheConstants.{LIMIT};
 
+use crate::action::{LineAction, TailAction};
 use crate::block::{Block, LIMIT};
 use crate::ending::Stop;
-use crate::fate::{Fate, Rest};
 use crate::rewriting::Rewriting;
 use crate::settings::{File, Settings};
 use crate::stream::Stream;
@@ -19,18 +19,18 @@ use std::io;
 use std::io::ErrorKind;
 
 impl<W: Sink, L: Sink> Stream<W, L> {
-    // Passes or drops what comes of a line whose front was answered, if there is one. What comes after it is returned, if it
-    // ends.
+    // Copies or drops the rest of a line whose front was processed, if there is one. Returns the bytes after the line,
+    // or `None` if the line doesn't end in these bytes.
     fn end_line<'a>(
         &mut self,
         bytes: &'a [u8],
-        rest: &mut Rest,
+        rest: &mut TailAction,
     ) -> Result<Option<&'a [u8]>, Unwritten>
         ensures line { IfOk result (λ left. MatchOption left
             ((rest.new ≡ rest.old) × HasFront rest.old
-            × GoesOn (held_out W.contents self.old) (held_out W.contents self.new) rest.old bytes.now)
-            (λ after. (rest.new ≡ Rest.Absent) × EndsWith bytes.now after.now
-            × Ends (held_out W.contents self.old) (held_out W.contents self.new) rest.old bytes.now after.now)) }
+            × ContinuesLine (buffered_out W.contents self.old) (buffered_out W.contents self.new) rest.old bytes.now)
+            (λ after. (rest.new ≡ TailAction.Absent) × EndsWith bytes.now after.now
+            × EndsLine (buffered_out W.contents self.old) (buffered_out W.contents self.new) rest.old bytes.now after.now)) }
         ensures log { self.new.log ≡ self.old.log }
         ensures tally { self.new.tally ≡ self.old.tally }
         ensures cause { HasCause result (W.faults self.old.out.sink) (W.faults self.new.out.sink) }
@@ -43,11 +43,11 @@ impl<W: Sink, L: Sink> Stream<W, L> {
             return Ok(None);
         };
         self.pass(&bytes[..line.len() + 1], *rest)?;
-        *rest = Rest::Absent;
+        *rest = TailAction::Absent;
         Ok(Some(after))
     }
 
-    // Answers all lines that end in the bytes. What comes after them is returned.
+    // Processes all lines that end in the bytes. Returns the bytes after them.
     fn answer_lines<'a, T: Rewriting>(
         &mut self,
         rewriting: &T,
@@ -56,12 +56,12 @@ impl<W: Sink, L: Sink> Stream<W, L> {
     ) -> Result<&'a [u8], Stop>
         requires { length bytes.now ≤ LIMIT }
         ensures ok { IfOk result (λ left. HasNoLf left.now × EndsWith bytes.now left.now
-            × Continues (job_at (T.is_fate rewriting.now) (T.is_reason rewriting.now) file.now)
-            (held_state W.contents L.contents self.old) (held_state W.contents L.contents self.new)
-            Rest.Absent bytes.now Rest.Absent left.now) }
+            × Continues (job_at (T.is_action rewriting.now) (T.is_reason rewriting.now) file.now)
+            (buffered_state W.contents L.contents self.old) (buffered_state W.contents L.contents self.new)
+            TailAction.Absent bytes.now TailAction.Absent left.now) }
         ensures err { IfErr result (λ stop. StoppedBy stop
-            (Stops (job_at (T.is_fate rewriting.now) (T.is_reason rewriting.now) file.now)
-            (held_state W.contents L.contents self.old) (held_state W.contents L.contents self.new) Rest.Absent bytes.now)) }
+            (Stops (job_at (T.is_action rewriting.now) (T.is_reason rewriting.now) file.now)
+            (buffered_state W.contents L.contents self.old) (buffered_state W.contents L.contents self.new) TailAction.Absent bytes.now)) }
         ensures cause { HasWriteCause result (faults_of W.faults L.faults self.old) (faults_of W.faults L.faults self.new) }
     {
         let mut left = bytes;
@@ -75,23 +75,23 @@ impl<W: Sink, L: Sink> Stream<W, L> {
         Ok(left)
     }
 
-    // Answers all that can be answered of the block, and moves what is left to its front.
+    // Processes as much of the block as possible, and keeps only the bytes after that.
     fn answer_block<T: Rewriting>(
         &mut self,
         rewriting: &T,
         file: &File<'_>,
         block: &mut Block,
-        rest: &mut Rest,
+        rest: &mut TailAction,
     ) -> Result<(), Stop>
         ensures held { OnOk result
-            (IsHeld (job_at (T.is_fate rewriting.now) (T.is_reason rewriting.now) file.now) rest.new block.new.items) }
+            (IsBuffered (job_at (T.is_action rewriting.now) (T.is_reason rewriting.now) file.now) rest.new block.new.items) }
         ensures ok { OnOk result
-            (Continues (job_at (T.is_fate rewriting.now) (T.is_reason rewriting.now) file.now)
-            (held_state W.contents L.contents self.old) (held_state W.contents L.contents self.new)
+            (Continues (job_at (T.is_action rewriting.now) (T.is_reason rewriting.now) file.now)
+            (buffered_state W.contents L.contents self.old) (buffered_state W.contents L.contents self.new)
             rest.old block.old.items rest.new block.new.items) }
         ensures err { IfErr result (λ stop. StoppedBy stop
-            (Stops (job_at (T.is_fate rewriting.now) (T.is_reason rewriting.now) file.now)
-            (held_state W.contents L.contents self.old) (held_state W.contents L.contents self.new) rest.old block.old.items)) }
+            (Stops (job_at (T.is_action rewriting.now) (T.is_reason rewriting.now) file.now)
+            (buffered_state W.contents L.contents self.old) (buffered_state W.contents L.contents self.new) rest.old block.old.items)) }
         ensures cause { HasWriteCause result (faults_of W.faults L.faults self.old) (faults_of W.faults L.faults self.new) }
     {
         let Ok(ended) = self.end_line(block.as_slice(), rest) else {
@@ -112,35 +112,36 @@ impl<W: Sink, L: Sink> Stream<W, L> {
         Ok(())
     }
 
-    // The same, and writes it, also what stands before a line where the work stops.
+    // Processes as much of the block as possible, and writes the output. If the work stops at a line, the output of the
+    // lines before it is written, too.
     fn feed<T: Rewriting>(
         &mut self,
         rewriting: &T,
         file: &File<'_>,
         block: &mut Block,
-        rest: &mut Rest,
+        rest: &mut TailAction,
     ) -> Result<(), Stop>
         requires { self.old.out.buffer.items ≡ [] }
         ensures none { OnOk result (self.new.out.buffer.items ≡ []) }
         ensures held { OnOk result
-            (IsHeld (job_at (T.is_fate rewriting.now) (T.is_reason rewriting.now) file.now) rest.new block.new.items) }
+            (IsBuffered (job_at (T.is_action rewriting.now) (T.is_reason rewriting.now) file.now) rest.new block.new.items) }
         ensures ok { OnOk result
-            (Continues (job_at (T.is_fate rewriting.now) (T.is_reason rewriting.now) file.now)
+            (Continues (job_at (T.is_action rewriting.now) (T.is_reason rewriting.now) file.now)
             (state_of W.contents L.contents self.old) (state_of W.contents L.contents self.new)
             rest.old block.old.items rest.new block.new.items) }
         ensures err { IfErr result (λ stop. StoppedBy stop
-            (Stops (job_at (T.is_fate rewriting.now) (T.is_reason rewriting.now) file.now)
+            (Stops (job_at (T.is_action rewriting.now) (T.is_reason rewriting.now) file.now)
             (state_of W.contents L.contents self.old) (state_of W.contents L.contents self.new) rest.old block.old.items)) }
         ensures cause { HasWriteCause result (faults_of W.faults L.faults self.old) (faults_of W.faults L.faults self.new) }
     {
         let answered = self.answer_block(rewriting, file, block, rest);
-        let Ok(()) = self.settle() else {
+        let Ok(()) = self.flush_all() else {
             return Err(Stop::Unwritten);
         };
         answered
     }
 
-    // Answers and writes what is left at the end, a line unless it is empty.
+    // Processes the bytes that are left at the end of the input, and writes the output. They are a line, unless empty.
     fn finish<T: Rewriting>(
         &mut self,
         rewriting: &T,
@@ -148,12 +149,12 @@ impl<W: Sink, L: Sink> Stream<W, L> {
         block: &Block,
     ) -> Result<(), Stop>
         requires none { self.old.out.buffer.items ≡ [] }
-        requires begun { HasNoLf block.now.items }
-        ensures ok { OnOk result ((fates : List Fate)
-            × Processed (job_at (T.is_fate rewriting.now) (T.is_reason rewriting.now) file.now)
-            (state_of W.contents L.contents self.old) (state_of W.contents L.contents self.new) (lines_of block.now.items) fates) }
+        requires started { HasNoLf block.now.items }
+        ensures ok { OnOk result ((actions : List LineAction)
+            × Processed (job_at (T.is_action rewriting.now) (T.is_reason rewriting.now) file.now)
+            (state_of W.contents L.contents self.old) (state_of W.contents L.contents self.new) (lines_of block.now.items) actions) }
         ensures err { IfErr result (λ stop. StoppedBy stop
-            (Stopped (job_at (T.is_fate rewriting.now) (T.is_reason rewriting.now) file.now)
+            (Stopped (job_at (T.is_action rewriting.now) (T.is_reason rewriting.now) file.now)
             (state_of W.contents L.contents self.old) (state_of W.contents L.contents self.new) (lines_of block.now.items))) }
         ensures cause { HasWriteCause result (faults_of W.faults L.faults self.old) (faults_of W.faults L.faults self.new) }
     {
@@ -161,7 +162,7 @@ impl<W: Sink, L: Sink> Stream<W, L> {
             return Ok(());
         }
         let answered = self.begin(rewriting, file, block.as_slice());
-        let Ok(()) = self.settle() else {
+        let Ok(()) = self.flush_all() else {
             return Err(Stop::Unwritten);
         };
         match answered {
@@ -170,7 +171,7 @@ impl<W: Sink, L: Sink> Stream<W, L> {
         }
     }
 
-    // Answers all lines of a file. All that can be answered is written before the next read.
+    // Processes all lines of a file. All that can be processed is processed and written before the next read.
     fn serve_lines<T: Rewriting, R: Source>(
         &mut self,
         rewriting: &T,
@@ -180,21 +181,21 @@ impl<W: Sink, L: Sink> Stream<W, L> {
     ) -> Result<(), Stop>
         requires buffer { self.old.out.buffer.items ≡ [] }
         requires block { block.old.items ≡ [] }
-        ensures ok { OnOk result (IfSome (R.remaining input.old) (λ bytes. (fates : List Fate)
-            × Processed (job_at (T.is_fate rewriting.now) (T.is_reason rewriting.now) file.now)
-            (state_of W.contents L.contents self.old) (state_of W.contents L.contents self.new) (lines_of bytes) fates)) }
-        ensures unread { IfErr result (λ stop. stop ≡ Stop.Unread → (answered : State) × (rest : Rest) × (held : List ℕ)
-            × Served (job_at (T.is_fate rewriting.now) (T.is_reason rewriting.now) file.now) (R.remaining input.old) (R.remaining input.new)
+        ensures ok { OnOk result (IfSome (R.remaining input.old) (λ bytes. (actions : List LineAction)
+            × Processed (job_at (T.is_action rewriting.now) (T.is_reason rewriting.now) file.now)
+            (state_of W.contents L.contents self.old) (state_of W.contents L.contents self.new) (lines_of bytes) actions)) }
+        ensures unread { IfErr result (λ stop. stop ≡ Stop.Unread → (answered : State) × (rest : TailAction) × (held : List ℕ)
+            × Served (job_at (T.is_action rewriting.now) (T.is_reason rewriting.now) file.now) (R.remaining input.old) (R.remaining input.new)
             (state_of W.contents L.contents self.old) answered rest held
             × Fails file.now.name.now answered (state_of W.contents L.contents self.new)) }
         ensures refused { IfErr result (λ stop. stop ≡ Stop.Refused → IfSome (R.remaining input.old) (λ bytes.
-            Stopped (job_at (T.is_fate rewriting.now) (T.is_reason rewriting.now) file.now)
+            Stopped (job_at (T.is_action rewriting.now) (T.is_reason rewriting.now) file.now)
             (state_of W.contents L.contents self.old) (state_of W.contents L.contents self.new) (lines_of bytes))) }
         ensures cause { HasWriteCause result (faults_of W.faults L.faults self.old) (faults_of W.faults L.faults self.new) }
         ensures cut_off { IfErr result (λ stop. stop ≡ Stop.Unread →
             IsCutOff (R.faults input.old) (R.faults input.new) (R.given input.new)) }
     {
-        let mut rest = Rest::Absent;
+        let mut rest = TailAction::Absent;
         for turn in 0..u64::MAX {
             match block.fill(input) {
                 Ok(false) => return self.finish(rewriting, file, block),
@@ -206,12 +207,13 @@ impl<W: Sink, L: Sink> Stream<W, L> {
         Err(self.fail(file, &io::Error::from(ErrorKind::TimedOut)))
     }
 
-    /// Answers all lines of a file. All whole lines that were read are answered and written before the next read.
+    /// Processes all lines of a file. All whole lines that were read are processed and written before the next read.
     ///
-    /// A line of any length is answered by its first [`LIMIT`] bytes. An interrupted read is tried again.
+    /// A line of any length is processed by its first [`LIMIT`] bytes. An interrupted read is tried again.
     ///
-    /// After [`Stop::Unread`] all that was read and could be answered is answered and written. After [`Stop::Refused`] all
-    /// lines before the first refused one are. After [`Stop::Unwritten`] nothing is known of how much was written.
+    /// After [`Stop::Unread`] all that was read and could be processed is processed and written. After
+    /// [`Stop::Refused`] all lines before the first rejected one are. After [`Stop::Unwritten`] it is unknown how much
+    /// was written.
     pub fn serve<T: Rewriting, R: Source>(
         &mut self,
         rewriting: &T,
@@ -221,14 +223,14 @@ impl<W: Sink, L: Sink> Stream<W, L> {
         block: &mut Block,
     ) -> Result<(), Stop>
         ensures all { OnOk result (IfSome (R.remaining input.old)
-            (ProcessedAll (job_of (T.is_fate rewriting.now) (T.is_reason rewriting.now) name.now settings.entry)
+            (ProcessedAll (job_of (T.is_action rewriting.now) (T.is_reason rewriting.now) name.now settings.entry)
             (state_of W.contents L.contents self.old) (state_of W.contents L.contents self.new))) }
         ensures unread { IfErr result (λ stop. stop ≡ Stop.Unread →
-            ProcessedSome (job_of (T.is_fate rewriting.now) (T.is_reason rewriting.now) name.now settings.entry)
+            ProcessedSome (job_of (T.is_action rewriting.now) (T.is_reason rewriting.now) name.now settings.entry)
             (R.remaining input.old) (R.remaining input.new)
             (state_of W.contents L.contents self.old) (state_of W.contents L.contents self.new)) }
         ensures refused { IfErr result (λ stop. stop ≡ Stop.Refused → IfSome (R.remaining input.old)
-            (ProcessedBefore (job_of (T.is_fate rewriting.now) (T.is_reason rewriting.now) name.now settings.entry)
+            (ProcessedBefore (job_of (T.is_action rewriting.now) (T.is_reason rewriting.now) name.now settings.entry)
             (state_of W.contents L.contents self.old) (state_of W.contents L.contents self.new))) }
         ensures cause { HasWriteCause result (faults_of W.faults L.faults self.old) (faults_of W.faults L.faults self.new) }
         ensures cut_off { IfErr result (λ stop. stop ≡ Stop.Unread →

@@ -1,11 +1,11 @@
-//! How the lines of a file are answered.
+//! How the lines of a file are processed.
 ghost use Rattle.std.specs.Prelude.{◌≡◌, IsTrue, false};
 ghost use Rattle.restamp_stream.specs.Reports.{IsAllowed, is_named, unnamed};
 
-use crate::fate::Fate;
+use crate::action::LineAction;
 use crate::tally::Tally;
 
-/// Which lines go out.
+/// Which lines are written.
 #[derive(Clone, Copy)]
 pub enum Output {
     /// All but the dropped ones.
@@ -16,28 +16,28 @@ pub enum Output {
     Times,
 }
 
-/// Which refused lines the log names.
+/// Which rejected lines the log names.
 #[derive(Clone, Copy)]
 pub enum Reports {
-    /// None, and it doesn't say how many there were.
+    /// None. It doesn't report how many there were, either.
     Quiet,
-    /// The first so many of a file. A last line says how many more there were.
+    /// The first ones of each file, up to this number. A last line reports how many more there were.
     First(u64),
 }
 
 impl Reports {
-    /// Whether the log names a line of that fate, which was counted last.
-    pub fn names(self, tally: &Tally, fate: &Fate) -> bool
-        ensures names { result ≡ is_named self tally.now fate.now }
-        ensures refused { IsTrue result → fate.now ≡ Fate.Refused }
+    /// Whether the log names the line that was counted last, if it has that action.
+    pub fn names(self, tally: &Tally, action: &LineAction) -> bool
+        ensures names { result ≡ is_named self tally.now action.now }
+        ensures refused { IsTrue result → action.now ≡ LineAction.Refused }
     {
-        match (self, fate) {
-            (Reports::First(most), Fate::Refused) => tally.refused_here <= most,
+        match (self, action) {
+            (Reports::First(most), LineAction::Refused) => tally.refused_here <= most,
             _ => false,
         }
     }
 
-    /// How many refused lines of the file the log doesn't name, where it is to tell their number.
+    /// How many rejected lines of the file the log doesn't name; 0 if it doesn't report their number.
     pub fn unnamed(self, tally: &Tally) -> u64
         ensures { result ≡ unnamed self tally.now }
     {
@@ -48,28 +48,28 @@ impl Reports {
     }
 }
 
-/// How the lines of a file are answered.
+/// How the lines of a file are processed.
 #[derive(Clone, Copy)]
 pub struct Settings<'a> {
-    /// Which lines go out.
+    /// Which lines are written.
     pub output: Output,
-    /// What stands behind each new time.
+    /// The text after each new time.
     pub suffix: &'a [u8],
-    /// Which refused lines the log names.
+    /// Which rejected lines the log names.
     pub reports: Reports,
-    /// Whether the work stops before the first refused line.
+    /// Whether the work stops before the first rejected line.
     pub strict: bool,
 }
 
 impl Settings<'_> {
-    /// Whether the work stops at a line of that fate.
-    pub fn stops_at(&self, fate: &Fate) -> bool
-        ensures stops { IsTrue result → IsTrue self.now.strict × (fate.now ≡ Fate.Refused) }
-        ensures goes_on { result ≡ false → IsAllowed self.now.strict fate.now }
+    /// Whether the work stops at a line with that action.
+    pub fn stops_at(&self, action: &LineAction) -> bool
+        ensures stops { IsTrue result → IsTrue self.now.strict × (action.now ≡ LineAction.Refused) }
+        ensures goes_on { result ≡ false → IsAllowed self.now.strict action.now }
     {
-        match fate {
-            Fate::Refused => self.strict,
-            Fate::Without | Fate::Rewritten { .. } | Fate::Dropped => false,
+        match action {
+            LineAction::Refused => self.strict,
+            LineAction::Without | LineAction::Rewritten { .. } | LineAction::Dropped => false,
         }
     }
 }
@@ -79,6 +79,6 @@ impl Settings<'_> {
 pub struct File<'a> {
     /// Its name, for reports.
     pub name: &'a [u8],
-    /// How its lines are answered.
+    /// How its lines are processed.
     pub settings: Settings<'a>,
 }

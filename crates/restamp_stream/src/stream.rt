@@ -1,16 +1,16 @@
-//! Where answers go.
+//! The outputs of a stream.
 ghost use Rattle.std.specs.Io.KnownBytes.{Appends};
 ghost use Rattle.std.specs.Prelude.{◌≡◌, ◌≤◌, ◌++◌, ℕ, List, IfOk, IfErr, [], ◌∷◌, OnOk, length, take, drop, IsTrue, false};
 ghost use Rattle.byte_streams.specs.Faults.{HasCause};
 ghost use Rattle.byte_streams.specs.Lines.{unended};
 ghost use Rattle.restamp_stream.specs.Streams.{Processed, IsNaming, IsReport, Closes, RefusedAt, Fails, state_of};
 ghost use Rattle.restamp_stream.specs.Causes.{faults_of, HasWriteCause, IsCounted};
-ghost use Rattle.restamp_stream.specs.Reports.{IsWithin, front_text, passed, rest_of, nothing_counted, more_text, unread_text};
-ghost use Rattle.restamp_stream.specs.Held.{held_out, held_state, job_at, Settles, StoppedBy, FailedBy};
+ghost use Rattle.restamp_stream.specs.Reports.{IsWithin, front_text, passed, tail_action_of, nothing_counted, more_text, unread_text};
+ghost use Rattle.restamp_stream.specs.Buffered.{buffered_out, buffered_state, job_at, Flushes, StoppedBy, FailedBy};
 ghost use Rattle.restamp_stream.specs.declared.block.TheConstants.{LIMIT};
 
+use crate::action::{LineAction, TailAction};
 use crate::ending::Stop;
-use crate::fate::{Fate, Rest};
 use crate::names::{message_of, write_name};
 use crate::rewriting::Rewriting;
 use crate::settings::{File, Output, Settings};
@@ -18,12 +18,12 @@ use crate::tally::Tally;
 use byte_streams::{BufferedSink, Sink, Unwritten};
 use std::io;
 
-/// Where answers go: what lines become to `out`, reports to `log`, and their counts to `tally`.
+/// The outputs of a stream: the processed lines in `out`, the reports in `log`, and the counts of lines in `tally`.
 ///
 /// Up to 65536 bytes are buffered before they are written to `out`.
 #[derive(Drop)]
 pub struct Stream<W, L> {
-    /// What lines become, buffered.
+    /// The processed lines, buffered.
     pub out: BufferedSink<W>,
     /// The reports.
     pub log: L,
@@ -32,7 +32,7 @@ pub struct Stream<W, L> {
 }
 
 impl<W: Sink, L: Sink> Stream<W, L> {
-    /// A stream to these, where nothing is counted yet.
+    /// A stream to this writer and this log, with nothing counted yet.
     pub fn new(out: W, log: L) -> Stream<W, L>
         ensures out { result.out.sink ≡ out }
         ensures log { result.log ≡ log }
@@ -55,10 +55,10 @@ impl<W: Sink, L: Sink> Stream<W, L> {
         (out.into_sink(), log, tally)
     }
 
-    // Puts bytes after the buffered ones.
+    // Writes bytes after the buffered ones.
     #[inline(always)]
     fn put(&mut self, bytes: &[u8]) -> Result<(), Unwritten>
-        ensures put { OnOk result (Appends (held_out W.contents self.old) (held_out W.contents self.new) bytes.now) }
+        ensures put { OnOk result (Appends (buffered_out W.contents self.old) (buffered_out W.contents self.new) bytes.now) }
         ensures log { self.new.log ≡ self.old.log }
         ensures tally { self.new.tally ≡ self.old.tally }
         ensures cause { HasCause result (W.faults self.old.out.sink) (W.faults self.new.out.sink) }
@@ -66,24 +66,24 @@ impl<W: Sink, L: Sink> Stream<W, L> {
         self.out.write_all(bytes)
     }
 
-    // Puts bytes that come after the front of a line, unless it is dropped.
+    // Writes bytes that come after the front of a line, unless they are dropped.
     #[inline(always)]
-    pub(crate) fn pass(&mut self, bytes: &[u8], rest: Rest) -> Result<(), Unwritten>
+    pub(crate) fn pass(&mut self, bytes: &[u8], rest: TailAction) -> Result<(), Unwritten>
         ensures passed { OnOk result
-            (Appends (held_out W.contents self.old) (held_out W.contents self.new) (passed rest bytes.now)) }
+            (Appends (buffered_out W.contents self.old) (buffered_out W.contents self.new) (passed rest bytes.now)) }
         ensures log { self.new.log ≡ self.old.log }
         ensures tally { self.new.tally ≡ self.old.tally }
         ensures cause { HasCause result (W.faults self.old.out.sink) (W.faults self.new.out.sink) }
     {
         match rest {
-            Rest::Absent | Rest::Passing => self.put(bytes),
-            Rest::Dropping => Ok(()),
+            TailAction::Absent | TailAction::Passing => self.put(bytes),
+            TailAction::Dropping => Ok(()),
         }
     }
 
-    // Tells the log how many more lines of a file were refused than it names.
+    // Reports to the log how many more lines of a file were rejected than it names.
     fn report_more(&mut self, name: &[u8], n: u64) -> Result<(), Unwritten>
-        ensures told { OnOk result (Appends (L.contents self.old.log) (L.contents self.new.log) (more_text name.now n)) }
+        ensures reported { OnOk result (Appends (L.contents self.old.log) (L.contents self.new.log) (more_text name.now n)) }
         ensures out { self.new.out ≡ self.old.out }
         ensures tally { self.new.tally ≡ self.old.tally }
         ensures cause { HasCause result (L.faults self.old.log) (L.faults self.new.log) }
@@ -99,7 +99,7 @@ impl<W: Sink, L: Sink> Stream<W, L> {
         }
     }
 
-    // Ends the reports of a file.
+    // EndsLine the reports of a file.
     pub(crate) fn close(&mut self, file: &File<'_>) -> Result<(), Unwritten>
         ensures closed { OnOk result (Closes file.now.name.now file.now.settings.reports
             (state_of W.contents L.contents self.old) (state_of W.contents L.contents self.new)) }
@@ -111,9 +111,9 @@ impl<W: Sink, L: Sink> Stream<W, L> {
         self.log.flush()
     }
 
-    // Tells the log that a file was not read to its end, and why.
+    // Reports to the log that a file wasn't read to its end, and why.
     fn report_unread(&mut self, name: &[u8], error: &io::Error) -> Result<(), Unwritten>
-        ensures told { OnOk result ((why : List ℕ) × Appends (L.contents self.old.log) (L.contents self.new.log) (unread_text name.now why)) }
+        ensures reported { OnOk result ((why : List ℕ) × Appends (L.contents self.old.log) (L.contents self.new.log) (unread_text name.now why)) }
         ensures out { self.new.out ≡ self.old.out }
         ensures tally { self.new.tally ≡ self.old.tally }
         ensures cause { HasCause result (L.faults self.old.log) (L.faults self.new.log) }
@@ -124,7 +124,7 @@ impl<W: Sink, L: Sink> Stream<W, L> {
         self.log.write_all(b"\n")
     }
 
-    // The same, and counts it.
+    // Reports to the log that a file wasn't read to its end, and why, and counts the file.
     pub(crate) fn fail(&mut self, file: &File<'_>, error: &io::Error) -> Stop
         ensures failed { FailedBy result (Fails file.now.name.now (state_of W.contents L.contents self.old) (state_of W.contents L.contents self.new)) }
         ensures cause { IsCounted result (faults_of W.faults L.faults self.old) (faults_of W.faults L.faults self.new) }
@@ -136,9 +136,9 @@ impl<W: Sink, L: Sink> Stream<W, L> {
         }
     }
 
-    // Writes the buffered bytes, and what the log holds back.
-    pub(crate) fn settle(&mut self) -> Result<(), Unwritten>
-        ensures written { OnOk result (Settles (held_state W.contents L.contents self.old) (state_of W.contents L.contents self.new)) }
+    // Writes the buffered bytes, and flushes the log.
+    pub(crate) fn flush_all(&mut self) -> Result<(), Unwritten>
+        ensures written { OnOk result (Flushes (buffered_state W.contents L.contents self.old) (state_of W.contents L.contents self.new)) }
         ensures none { OnOk result (self.new.out.buffer.items ≡ []) }
         ensures cause { HasCause result (faults_of W.faults L.faults self.old) (faults_of W.faults L.faults self.new) }
     {
@@ -146,10 +146,10 @@ impl<W: Sink, L: Sink> Stream<W, L> {
         self.log.flush()
     }
 
-    // Puts a suffix. It isn't inlined, as most times have none.
+    // Writes a suffix. It isn't inlined, as most times have no suffix.
     #[inline(never)]
     fn put_some(&mut self, suffix: &[u8]) -> Result<(), Unwritten>
-        ensures put { OnOk result (Appends (held_out W.contents self.old) (held_out W.contents self.new) suffix.now) }
+        ensures put { OnOk result (Appends (buffered_out W.contents self.old) (buffered_out W.contents self.new) suffix.now) }
         ensures log { self.new.log ≡ self.old.log }
         ensures tally { self.new.tally ≡ self.old.tally }
         ensures cause { HasCause result (W.faults self.old.out.sink) (W.faults self.new.out.sink) }
@@ -157,10 +157,10 @@ impl<W: Sink, L: Sink> Stream<W, L> {
         self.put(suffix)
     }
 
-    // Puts the suffix of new times, if they have one.
+    // Writes the suffix of new times, if they have one.
     #[inline(always)]
     fn put_suffix(&mut self, suffix: &[u8]) -> Result<(), Unwritten>
-        ensures put { OnOk result (Appends (held_out W.contents self.old) (held_out W.contents self.new) suffix.now) }
+        ensures put { OnOk result (Appends (buffered_out W.contents self.old) (buffered_out W.contents self.new) suffix.now) }
         ensures log { self.new.log ≡ self.old.log }
         ensures tally { self.new.tally ≡ self.old.tally }
         ensures cause { HasCause result (W.faults self.old.out.sink) (W.faults self.new.out.sink) }
@@ -171,8 +171,8 @@ impl<W: Sink, L: Sink> Stream<W, L> {
         self.put_some(suffix)
     }
 
-    // Puts the front of a line with a text and its suffix in it for the bytes from `begin` to before `end`. It isn't inlined, as
-    // most times have none.
+    // Writes the front of a line with a text and its suffix in place of the bytes from `begin` to before `end`. It
+    // isn't inlined, as most times have no suffix.
     #[inline(never)]
     fn put_suffixed(
         &mut self,
@@ -184,7 +184,7 @@ impl<W: Sink, L: Sink> Stream<W, L> {
     ) -> Result<(), Unwritten>
         requires order { begin ≤ end }
         requires within { end ≤ length front.now }
-        ensures put { OnOk result (Appends (held_out W.contents self.old) (held_out W.contents self.new)
+        ensures put { OnOk result (Appends (buffered_out W.contents self.old) (buffered_out W.contents self.new)
             (take begin front.now ++ (text.now ++ (suffix.now ++ drop end front.now)))) }
         ensures log { self.new.log ≡ self.old.log }
         ensures tally { self.new.tally ≡ self.old.tally }
@@ -196,7 +196,8 @@ impl<W: Sink, L: Sink> Stream<W, L> {
         self.put(&front[end..])
     }
 
-    // The same, in line where the suffix is empty.
+    // Writes the front of a line with a text and its suffix in place of the bytes from `begin` to before `end`. The
+    // code for an empty suffix is inlined.
     #[inline(always)]
     fn put_changed(
         &mut self,
@@ -208,7 +209,7 @@ impl<W: Sink, L: Sink> Stream<W, L> {
     ) -> Result<(), Unwritten>
         requires order { begin ≤ end }
         requires within { end ≤ length front.now }
-        ensures put { OnOk result (Appends (held_out W.contents self.old) (held_out W.contents self.new)
+        ensures put { OnOk result (Appends (buffered_out W.contents self.old) (buffered_out W.contents self.new)
             (take begin front.now ++ (text.now ++ (suffix.now ++ drop end front.now)))) }
         ensures log { self.new.log ≡ self.old.log }
         ensures tally { self.new.tally ≡ self.old.tally }
@@ -220,10 +221,10 @@ impl<W: Sink, L: Sink> Stream<W, L> {
         self.put_suffixed(suffix, front, begin, end, text)
     }
 
-    // Puts the text of a time alone on a line, with its suffix.
+    // Writes the text of a time alone on a line, with its suffix.
     #[inline(always)]
     fn put_time(&mut self, suffix: &[u8], text: &[u8]) -> Result<(), Unwritten>
-        ensures put { OnOk result (Appends (held_out W.contents self.old) (held_out W.contents self.new)
+        ensures put { OnOk result (Appends (buffered_out W.contents self.old) (buffered_out W.contents self.new)
             (text.now ++ (suffix.now ++ 10 ∷ []))) }
         ensures log { self.new.log ≡ self.old.log }
         ensures tally { self.new.tally ≡ self.old.tally }
@@ -234,38 +235,38 @@ impl<W: Sink, L: Sink> Stream<W, L> {
         self.put(b"\n")
     }
 
-    // Puts what goes out for the front of a line.
+    // Writes the output for the front of a line.
     #[inline(always)]
     fn put_front(
         &mut self,
         settings: &Settings<'_>,
         front: &[u8],
-        fate: &Fate,
+        action: &LineAction,
     ) -> Result<(), Unwritten>
-        requires { IsWithin fate.now front.now }
+        requires { IsWithin action.now front.now }
         ensures put { OnOk result
-            (Appends (held_out W.contents self.old) (held_out W.contents self.new)
-            (front_text settings.now.output settings.now.suffix.now front.now fate.now)) }
+            (Appends (buffered_out W.contents self.old) (buffered_out W.contents self.new)
+            (front_text settings.now.output settings.now.suffix.now front.now action.now)) }
         ensures log { self.new.log ≡ self.old.log }
         ensures tally { self.new.tally ≡ self.old.tally }
         ensures cause { HasCause result (W.faults self.old.out.sink) (W.faults self.new.out.sink) }
     {
-        match fate {
-            Fate::Rewritten { begin, end, text } => match settings.output {
+        match action {
+            LineAction::Rewritten { begin, end, text } => match settings.output {
                 Output::Times => self.put_time(settings.suffix, text.as_bytes()),
                 Output::AllLines | Output::RewrittenLines => {
                     self.put_changed(settings.suffix, front, *begin, *end, text.as_bytes())
                 }
             },
-            Fate::Without | Fate::Refused => match settings.output {
+            LineAction::Without | LineAction::Refused => match settings.output {
                 Output::AllLines => self.put(front),
                 Output::RewrittenLines | Output::Times => Ok(()),
             },
-            Fate::Dropped => Ok(()),
+            LineAction::Dropped => Ok(()),
         }
     }
 
-    // Writes the report of a refused line that was counted.
+    // Writes the report of a rejected line that was counted.
     #[inline(never)]
     fn write_report<T: Rewriting>(
         &mut self,
@@ -273,9 +274,9 @@ impl<W: Sink, L: Sink> Stream<W, L> {
         file: &File<'_>,
         front: &[u8],
     ) -> Result<(), Unwritten>
-        requires { T.is_fate rewriting.now front.now Fate.Refused }
+        requires { T.is_action rewriting.now front.now LineAction.Refused }
         ensures reported { OnOk result ((report : List ℕ)
-            × IsNaming (job_at (T.is_fate rewriting.now) (T.is_reason rewriting.now) file.now) self.old.tally front.now report
+            × IsNaming (job_at (T.is_action rewriting.now) (T.is_reason rewriting.now) file.now) self.old.tally front.now report
             × Appends (L.contents self.old.log) (L.contents self.new.log) report) }
         ensures out { self.new.out ≡ self.old.out }
         ensures tally { self.new.tally ≡ self.old.tally }
@@ -287,58 +288,58 @@ impl<W: Sink, L: Sink> Stream<W, L> {
         self.log.write_all(b"\n")
     }
 
-    // Writes the report of a line that was counted, where it is refused and the log names it.
+    // Writes the report of a line that was counted, if it is rejected and the log names it.
     #[inline(always)]
     fn report<T: Rewriting>(
         &mut self,
         rewriting: &T,
         file: &File<'_>,
         front: &[u8],
-        fate: &Fate,
+        action: &LineAction,
     ) -> Result<(), Unwritten>
-        requires { T.is_fate rewriting.now front.now fate.now }
+        requires { T.is_action rewriting.now front.now action.now }
         ensures reported { OnOk result ((report : List ℕ)
-            × IsReport (job_at (T.is_fate rewriting.now) (T.is_reason rewriting.now) file.now) self.old.tally front.now fate.now report
+            × IsReport (job_at (T.is_action rewriting.now) (T.is_reason rewriting.now) file.now) self.old.tally front.now action.now report
             × Appends (L.contents self.old.log) (L.contents self.new.log) report) }
         ensures out { self.new.out ≡ self.old.out }
         ensures tally { self.new.tally ≡ self.old.tally }
         ensures cause { HasCause result (L.faults self.old.log) (L.faults self.new.log) }
     {
-        if !file.settings.reports.names(&self.tally, fate) {
+        if !file.settings.reports.names(&self.tally, action) {
             return Ok(());
         }
         self.write_report(rewriting, file, front)
     }
 
-    // Answers, reports and counts a line by its front. What becomes of what comes after it is returned.
+    // Processes, reports and counts a line by its front. Returns whether the bytes after it are copied or dropped.
     #[inline(always)]
     pub(crate) fn begin<T: Rewriting>(
         &mut self,
         rewriting: &T,
         file: &File<'_>,
         front: &[u8],
-    ) -> Result<Rest, Stop>
+    ) -> Result<TailAction, Stop>
         requires { length front.now ≤ LIMIT }
-        ensures ok { IfOk result (λ rest. (fate : Fate) × (rest_of file.now.settings.output fate ≡ rest)
-            × Processed (job_at (T.is_fate rewriting.now) (T.is_reason rewriting.now) file.now)
-            (held_state W.contents L.contents self.old) (held_state W.contents L.contents self.new)
-            (unended front.now ∷ []) (fate ∷ [])) }
+        ensures ok { IfOk result (λ rest. (action : LineAction) × (tail_action_of file.now.settings.output action ≡ rest)
+            × Processed (job_at (T.is_action rewriting.now) (T.is_reason rewriting.now) file.now)
+            (buffered_state W.contents L.contents self.old) (buffered_state W.contents L.contents self.new)
+            (unended front.now ∷ []) (action ∷ [])) }
         ensures err { IfErr result (λ stop. StoppedBy stop
-            (RefusedAt (job_at (T.is_fate rewriting.now) (T.is_reason rewriting.now) file.now)
-            (held_state W.contents L.contents self.old) (held_state W.contents L.contents self.new) front.now)) }
+            (RefusedAt (job_at (T.is_action rewriting.now) (T.is_reason rewriting.now) file.now)
+            (buffered_state W.contents L.contents self.old) (buffered_state W.contents L.contents self.new) front.now)) }
         ensures cause { HasWriteCause result (faults_of W.faults L.faults self.old) (faults_of W.faults L.faults self.new) }
     {
-        let fate = rewriting.fate(front);
-        self.tally.count(&fate);
-        let Ok(()) = self.report(rewriting, file, front, &fate) else {
+        let action = rewriting.action(front);
+        self.tally.count(&action);
+        let Ok(()) = self.report(rewriting, file, front, &action) else {
             return Err(Stop::Unwritten);
         };
-        if file.settings.stops_at(&fate) {
+        if file.settings.stops_at(&action) {
             return Err(Stop::Refused);
         }
-        let Ok(()) = self.put_front(&file.settings, front, &fate) else {
+        let Ok(()) = self.put_front(&file.settings, front, &action) else {
             return Err(Stop::Unwritten);
         };
-        Ok(Rest::of(file.settings.output, &fate))
+        Ok(TailAction::of(file.settings.output, &action))
     }
 }

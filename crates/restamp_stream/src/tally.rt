@@ -1,32 +1,32 @@
-//! How many lines had which fate.
+//! Counts lines by action.
 ghost use Rattle.std.specs.Prelude.{◌≡◌};
-ghost use Rattle.restamp_stream.specs.Reports.{nothing_counted, count_fate, at_first_line, count_unread};
+ghost use Rattle.restamp_stream.specs.Reports.{nothing_counted, count_action, at_first_line, count_unread};
 
-use crate::fate::Fate;
+use crate::action::LineAction;
 
-/// How many lines had which fate. No count passes 18446744073709551615.
+/// The counts of lines by action. No count exceeds 18446744073709551615.
 #[derive(Clone, Copy, Debug, PartialEq, Eq)]
 pub struct Tally {
-    /// The lines so far of the file that is read.
+    /// The lines of the current file so far.
     pub line: u64,
-    /// Those of them that were refused.
+    /// The rejected lines of the current file so far.
     pub refused_here: u64,
     /// The lines of all files.
     pub lines: u64,
-    /// Those in which a time was rewritten.
+    /// The lines in which a time was rewritten.
     pub rewritten: u64,
-    /// Those with no place for a time.
+    /// The lines with no place for a time.
     pub without: u64,
-    /// Those that were dropped.
+    /// The lines that were dropped.
     pub dropped: u64,
-    /// Those that were refused.
+    /// The lines that were rejected.
     pub refused: u64,
-    /// The files that were not opened, or not read to their end.
+    /// The files that weren't opened, or not read to their end.
     pub unread: u64,
 }
 
 impl Tally {
-    /// Nothing is counted yet.
+    /// A tally with all counts 0.
     pub fn new() -> Tally
         ensures { result ≡ nothing_counted }
     {
@@ -42,24 +42,24 @@ impl Tally {
         }
     }
 
-    /// One line more.
-    pub fn count(&mut self, fate: &Fate)
-        ensures { self.new ≡ count_fate self.old fate.now }
+    /// Counts a line with that action.
+    pub fn count(&mut self, action: &LineAction)
+        ensures { self.new ≡ count_action self.old action.now }
     {
         self.line = self.line.saturating_add(1);
         self.lines = self.lines.saturating_add(1);
-        match fate {
-            Fate::Without => self.without = self.without.saturating_add(1),
-            Fate::Rewritten { .. } => self.rewritten = self.rewritten.saturating_add(1),
-            Fate::Dropped => self.dropped = self.dropped.saturating_add(1),
-            Fate::Refused => {
+        match action {
+            LineAction::Without => self.without = self.without.saturating_add(1),
+            LineAction::Rewritten { .. } => self.rewritten = self.rewritten.saturating_add(1),
+            LineAction::Dropped => self.dropped = self.dropped.saturating_add(1),
+            LineAction::Refused => {
                 self.refused_here = self.refused_here.saturating_add(1);
                 self.refused = self.refused.saturating_add(1);
             }
         }
     }
 
-    /// The next file is read, whose lines are counted from 1.
+    /// Starts the next file, whose lines are numbered from 1.
     pub fn begin_file(&mut self)
         ensures { self.new ≡ at_first_line self.old }
     {
@@ -67,7 +67,7 @@ impl Tally {
         self.refused_here = 0;
     }
 
-    /// One file more was not read to its end.
+    /// Counts a file that wasn't read to its end.
     pub fn count_unread(&mut self)
         ensures { self.new ≡ count_unread self.old }
     {

@@ -1,11 +1,11 @@
--- What is done in a folder in memory is what the model says.
+-- The events in a folder in memory are those of the model.
 use Rattle.std.proofs.Common.{◌≡◌, ◌≢◌, inl, inr, ⊎_elim, ℕ, Bool, true, false, List, [], ◌∷◌, refl, sym, ◌∙◌, ap, subst, Option, None, Some, Result, IsErr, is_some, rules, if◌then◌else◌, nat_eq}
 use Rattle.std.specs.Str.{bytes_eq}
 use Rattle.restamp_in_place.specs.Replacing.{Event, Tries, Creates, MayLead, leads, stored}
 use Rattle.restamp_in_place.specs.Replacing.Event.{Leads, Stored, Synced}
 use Rattle.restamp_tests.specs.Memory.{is_unused}
 
--- a call that did that one thing, or failed and did it or nothing
+-- a call that recorded those events, or failed and recorded them or no event
 pub tries : {T E T' E' : Type 0} (done now more : List Event) (result : Result T E) (ended : Result T' E')
     (fact : List Event → List Event → Type 0)
     → Tries (Some done) (Some now) result (λ _ did. did ≡ more) → (IsErr result → IsErr ended) → fact done more
@@ -17,7 +17,7 @@ either : (b : Bool) (x y : Option ℕ) (number : ℕ) → x ≢ Some number → 
 either true x y number p q = p
 either false x y number p q = q
 
--- neither this one nor the rest
+-- the condition is false, and the rest is true
 neither : (b rest : Bool) → (if b then false else rest) ≡ true → (b ≡ false) × (rest ≡ true)
 neither true rest h = absurd (cc)
 neither false rest h = (refl, h)
@@ -62,7 +62,7 @@ stored-unused (Stored file bytes ∷ done) number unused =
     rw n.0 (stored-unused done number n.1)
 stored-unused (Synced ∷ done) number unused = stored-unused done number unused
 
--- a file of a number that nothing named, under a name that led to none, is new
+-- a file of a number that no event names, under a name that led to no file, is new
 pub creates : (done : List Event) (name copy : List ℕ) (number : ℕ) → is_unused done number ≡ true → leads done name ≡ None → copy ≡ name
     → Creates name done (Leads copy (Some number) ∷ [])
 creates done name copy number unused free same = (
@@ -72,7 +72,7 @@ creates done name copy number unused free same = (
   ap (λ (text : List ℕ). Leads text (Some number) ∷ []) same,
 )
 
--- a name that leads to no file leads to none
+-- a file that isn't `Some` is `None`
 pub none : (file : Option ℕ) → false ≡ is_some file → file ≡ None
 none None h = refl
 none (Some number) h = absurd (cc)

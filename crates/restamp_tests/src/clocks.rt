@@ -1,4 +1,4 @@
-//! Times that leave their offset to the clocks of a zone, and the bounds that words name by the clock.
+//! Timestamps without an offset, in the local time of a zone, and bounds that are words relative to the clock.
 use restamp_verdict::{
     Clocks, Defaults, Fold, OffsetParts, Reason, TwoOffsets, find_reading, read_dated,
 };
@@ -6,7 +6,7 @@ use std::alloc::Global;
 use time_values::OffsetDateTime;
 use time_zones::{NamedZone, ReadFault, ZoneFiles, find_zone_in};
 
-// A folder with no zone.
+// A folder without zones.
 #[derive(Drop)]
 struct Empty {}
 
@@ -18,18 +18,19 @@ impl ZoneFiles for Empty {
     }
 }
 
-/// The rule of Berlin: in 2021 its clocks go on from 2:00 to 3:00 on 28 March, and back from 3:00 to 2:00 on 31 October.
+/// The rule of Berlin: in 2021 its clocks move forward from 2:00 to 3:00 on 28 March, and back from 3:00 to 2:00 on
+/// 31 October.
 pub(super) fn berlin(alloc: Global) -> Option<NamedZone> {
     let rule = "CET-1CEST,M3.5.0,M10.5.0/3";
     find_zone_in(alloc, &Empty {}, "/zones", Some(rule), "local").ok()
 }
 
-// What becomes of a time: the seconds since 1970, or why clocks refuse it.
+// The result of parsing: the seconds since 1970, or why the local time is no single moment.
 #[derive(Clone, Copy, Debug, PartialEq, Eq)]
 enum Answer {
     At(i64),
     Nonexistent,
-    // The offsets.
+    // Ambiguous, with the two offsets.
     Twice(TwoOffsets),
     Otherwise,
 }
@@ -99,8 +100,8 @@ fn on_clocks(rt: HostRuntime) {
     }
 }
 
-// Of a time with no year: seconds of the moment that it isn't after, the time, and its seconds. 2021-12-01T00:00:00Z is
-// 1638316800, and 2021-02-01T00:00:00Z 1612137600.
+// The seconds of the moment that a timestamp without a year isn't after, the timestamp, and the result of parsing it.
+// 2021-12-01T00:00:00Z is 1638316800, and 2021-02-01T00:00:00Z is 1612137600.
 static UNDATED: [(i64, &[u8], Answer); 5] = [
     (1_638_316_800, b"Mar 28 02:30:00", Answer::Nonexistent),
     (1_638_316_800, b"Mar 27 02:30:00", Answer::At(1_616_808_600)),
@@ -124,7 +125,7 @@ fn with_no_year(rt: HostRuntime) {
     }
 }
 
-// The bounds that words name by the clock.
+// Bounds that are words relative to the clock.
 mod bounds {
     use restamp_command::{Fault, Options, Request, TimeArgError, make_command};
     use std::test::Fail;
@@ -133,7 +134,7 @@ mod bounds {
     // 2021-01-02T03:04:05Z, in seconds since 1970.
     const NOW: i64 = 1_609_556_645;
 
-    // What a text names: a second since 1970, or why it names none.
+    // The meaning of a text: a second since 1970, or why there is no such second.
     #[derive(Clone, Copy, PartialEq, Eq)]
     enum Named {
         At(i64),
@@ -142,7 +143,7 @@ mod bounds {
         Nothing,
     }
 
-    // An offset, a text, and what it names at 2021-01-02T03:04:05Z for times that say no offset.
+    // The default offset, a text, and its meaning at 2021-01-02T03:04:05Z.
     static ROWS: [(&str, &str, Named); 24] = [
         ("+00:00", "now", Named::At(NOW)),
         ("+00:00", "now-5s", Named::At(NOW - 5)),
@@ -154,12 +155,12 @@ mod bounds {
         // 03:04:05 are 11045 seconds.
         ("+00:00", "today", Named::At(NOW - 11_045)),
         ("+00:00", "yesterday", Named::At(NOW - 11_045 - 86_400)),
-        // There it is 22:04:05 of the day before, which began 79445 seconds ago.
+        // At -05:00 it is 22:04:05 of the day before, which started 79445 seconds ago.
         ("-05:00", "today", Named::At(NOW - 79_445)),
         ("-05:00", "yesterday", Named::At(NOW - 79_445 - 86_400)),
         // 17:04:05 are 61445 seconds.
         ("+14:00", "today", Named::At(NOW - 61_445)),
-        // A text that a format reads is no word.
+        // A text that a format matches is no word.
         ("+00:00", "2021-01-02 03:04", Named::At(NOW - 5)),
         ("+01:00", "2021-01-02 04:04", Named::At(NOW - 5)),
         ("+00:00", "now+999999999w", Named::OutOfRange),
@@ -175,7 +176,7 @@ mod bounds {
         ("+00:00", "today-1d", Named::Nothing),
     ];
 
-    // What a text names for times with that offset, where the clock shows `now`.
+    // The meaning of a text with that default offset, by the clock at `now`.
     fn find_named(
         rt: &HostRuntime,
         offset: &str,

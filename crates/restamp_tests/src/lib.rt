@@ -1,5 +1,5 @@
-//! Tests of where a time stands in a line, of what becomes of lines, of bounds by the clock, of streams that are rewritten
-//! line by line, and of files that are replaced in a folder in memory.
+//! Tests of the places of timestamps in lines, of verdicts on lines, of bounds by the clock, of streams that are
+//! rewritten line by line, and of files that are replaced in a folder in memory.
 #![tactic(auto)]
 
 #[cfg(test)]

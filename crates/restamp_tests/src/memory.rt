@@ -16,33 +16,33 @@ use std::collections::VecDeque;
 use std::io;
 use std::io::ErrorKind;
 
-/// The kind of the error of a call that fails though it did its one thing.
+/// The kind of the error of a call that fails after it took effect.
 pub const LATE: ErrorKind = ErrorKind::TimedOut;
 
 /// Which calls of a folder fail.
 #[derive(Clone, Copy, Debug)]
 pub struct Faults {
-    /// The first call that fails, of those from 0 on.
+    /// The number of the first call that fails, from 0.
     pub first: u64,
     /// How many calls fail from there on.
     pub count: u64,
-    /// Whether they do their one thing before, where they do one. The kind of the error is then `LATE`.
+    /// Whether they take effect before they fail, if they have an effect. The kind of the error is then `LATE`.
     pub is_late: bool,
     /// The kind of the error.
     pub kind: ErrorKind,
-    /// How many writes to a new file don't fail.
+    /// How many writes to a new file succeed before one fails.
     pub writes: u64,
-    /// Whether another program writes the file before it is looked at again.
+    /// Whether another program writes the file before it is checked again.
     pub is_changed: bool,
 }
 
-/// A folder in memory, of which all is known that was done in it.
+/// A folder in memory, which records each event in it.
 #[derive(Drop)]
 pub struct Memory {
     alloc: Global,
-    // What was done, the last first.
+    // The events, the last first.
     done: Vec<Event>,
-    // How many calls there were.
+    // How many calls were made.
     calls: Cell<u64>,
     faults: Faults,
 }
@@ -60,19 +60,19 @@ impl Memory {
         }
     }
 
-    /// What was done so far, the last first.
+    /// The events so far, the last first.
     pub fn done(&self) -> &[Event]
         ensures { result.now ≡ self.now.done.items }
     {
         self.done.as_slice()
     }
 
-    /// How many calls there were so far.
+    /// How many calls were made so far.
     pub fn calls(&self) -> u64 {
         self.calls.get()
     }
 
-    // Begins a call, and says whether it is to fail once its thing is done.
+    // Counts a call, and returns whether it is to fail after it takes effect. It is an error if it is to fail before.
     fn begin(&self) -> io::Result<bool> {
         let call = self.calls.get();
         self.calls.set(call.saturating_add(1));
@@ -90,7 +90,7 @@ impl Memory {
         Ok(fails)
     }
 
-    /// Does a thing. It is an error where there is no memory for that, and where it is to be one nonetheless.
+    /// Records an event. It is an error if memory is short, or after the event if `is_late`.
     pub fn note(&mut self, event: Event, is_late: bool) -> io::Result<()>
         ensures noted { Tries (Some (events_of self.old.done.items)) (Some (events_of self.new.done.items)) result
             (λ _ more. more ≡ event_of event ∷ []) }
@@ -100,14 +100,14 @@ impl Memory {
         end(is_late)
     }
 
-    // The name in memory of its own.
+    // A copy of the name.
     fn copy(&self, name: &str) -> io::Result<String>
         ensures { IfOk result (λ copy. string_bytes copy ≡ name.now) }
     {
         Ok(String::from_str(self.alloc, name)?)
     }
 
-    // The same, of two things of which both are done or none.
+    // Records both events, or neither. It is an error if memory is short, or after the events if `is_late`.
     fn note_both(&mut self, first: Event, last: Event, is_late: bool) -> io::Result<()>
         ensures { Tries (Some (events_of self.old.done.items)) (Some (events_of self.new.done.items)) result
             (λ _ more. more ≡ event_of last ∷ event_of first ∷ []) }
@@ -119,7 +119,7 @@ impl Memory {
     }
 }
 
-// Ends a call, which may be one that fails though its thing was done.
+// Ends a call, with an error if it is to fail after it takes effect.
 fn end(is_late: bool) -> io::Result<()>
     ensures { IfErr result (λ e. error_kind e ≡ ErrorKind.TimedOut) }
 {
@@ -130,7 +130,7 @@ fn end(is_late: bool) -> io::Result<()>
     }
 }
 
-// What a file of that number and length is.
+// The state of a file of that number and length.
 fn original_of(number: u64, length: usize) -> Original
     ensures { result.number ≡ number }
 {
@@ -243,20 +243,20 @@ impl Folder for Memory {
     }
 }
 
-// What was done in a folder in memory.
+// The events in a folder in memory.
 pub mod event {
-    /// A thing that was done in a folder.
+    /// An event in a folder.
     #[derive(Debug, Drop)]
     pub enum Event {
-        /// A name leads to the file of that number, or to none.
+        /// A name leads to the file of that number, or to no file.
         Leads(String, Option<u64>),
         /// The file of that number has those bytes, on the disk.
         Stored(u64, Vec<u8>),
-        /// Where the names lead is on the disk.
+        /// The names, and which files they lead to, are on the disk.
         Synced,
     }
 
-    /// The file to which a name leads after what was done, the last of it first.
+    /// The file that a name leads to after the events, the last first.
     pub fn leads(events: &[Event], name: &str) -> Option<u64>
         ensures { result ≡ model.leads (events_of events.now) name.now }
     {
@@ -275,7 +275,7 @@ pub mod event {
         None
     }
 
-    /// The bytes of a file that are on the disk after what was done.
+    /// The bytes of a file that are on the disk after the events, the last first.
     pub fn stored(events: &[Event], number: u64) -> Option<&[u8]>
         ensures { option_map (λ bytes. bytes.now) result ≡ model.stored (events_of events.now) number }
     {
@@ -294,7 +294,7 @@ pub mod event {
         None
     }
 
-    /// Whether nothing that was done names the file of that number.
+    /// Whether no event names the file of that number.
     pub fn is_unused(events: &[Event], number: u64) -> bool
         ensures { result ≡ is_unused (events_of events.now) number }
     {
@@ -320,18 +320,18 @@ pub mod page {
     use std::io;
     use std::io::{ErrorKind, Write};
 
-    /// Bytes that are written, with a write that may fail.
+    /// Stores what is written, until a write fails.
     #[derive(Debug, Drop)]
     pub struct Page {
         pub(crate) bytes: Vec<u8>,
-        // How many more writes don't fail.
+        // How many more writes succeed.
         left: u64,
-        // The kind of the error of each later one.
+        // The kind of the error of each later write.
         kind: ErrorKind,
     }
 
     impl Page {
-        /// No bytes yet. After so many writes each fails with an error of that kind.
+        /// No bytes yet. After `writes` writes, each write fails with an error of that kind.
         pub fn new(alloc: Global, writes: u64, kind: ErrorKind) -> Page
             ensures { result.bytes.items ≡ [] }
         {

@@ -1,4 +1,4 @@
-//! The verdict on a line with its reason, beside the same in brief.
+//! Compares the full verdict on a line, which has a reason, with the brief verdict on it.
 use restamp_place::Place;
 use restamp_verdict::{
     Brief, Clock, Defaults, Form, Job, Reading, Reason, Verdict, Writing, find_reading,
@@ -8,7 +8,7 @@ use std::test::Fail;
 use time_values::{OffsetDateTime, UtcOffset};
 use time_writing::{FractionDigits, Text};
 
-// Where a line's time stands, the format that reads it, the one that writes it, and a line that has such a time.
+// The place of a timestamp, the format to parse it, the format to write it, and a line with such a timestamp.
 type Sample = (Place<'static>, &'static [u8], &'static [u8], &'static [u8]);
 
 static SAMPLES: [Sample; 9] = [
@@ -58,7 +58,8 @@ static SAMPLES: [Sample; 9] = [
     ),
 ];
 
-// What stands for what a time leaves out: UTC, and a year, or the latest that isn't after a moment.
+// Defaults for what a timestamp omits: the offset is UTC, and the year is `year`, or the latest by which the timestamp
+// isn't after `latest`.
 fn defaults_of(year: Option<i32>, latest: Option<OffsetDateTime>) -> Defaults<'static> {
     Defaults {
         year,
@@ -68,8 +69,8 @@ fn defaults_of(year: Option<i32>, latest: Option<OffsetDateTime>) -> Defaults<'s
     }
 }
 
-// What is done with lines: what follows the first format is RFC 3339, times before 1970 are dropped, and they are shown in
-// UTC.
+// What is done with lines: `first` is tried before `others`, which is RFC 3339, lines with timestamps before 1970 are
+// dropped, and timestamps are written in UTC.
 fn job_of<'a>(
     place: Place<'a>,
     first: &'a Reading,
@@ -93,7 +94,7 @@ fn job_of<'a>(
     }
 }
 
-// Whether both verdicts on a line are one, with the same text.
+// Whether both verdicts on a line are equal, and their texts too.
 fn is_one(job: &Job<'_>, line: &[u8]) -> bool {
     let mut full = Text::new();
     let mut brief = Text::new();
@@ -115,7 +116,7 @@ fn is_one(job: &Job<'_>, line: &[u8]) -> bool {
     }
 }
 
-// The first byte of a line's front, and what it is changed to, where the verdicts then differ.
+// The index of the first byte of a line's front whose change makes the verdicts differ, and its changed value.
 fn find_difference(job: &Job<'_>, sample: &[u8]) -> Option<(usize, u8)> {
     let many = sample.len().min(32);
     for at in 0..many {
@@ -131,7 +132,7 @@ fn find_difference(job: &Job<'_>, sample: &[u8]) -> Option<(usize, u8)> {
     None
 }
 
-// Each byte of a line becomes each other byte.
+// Changes each byte of a line to each other byte.
 #[test]
 fn changed(rt: HostRuntime) -> Result<(), Fail> {
     for (place, from, to, sample) in &SAMPLES {
@@ -150,10 +151,10 @@ fn changed(rt: HostRuntime) -> Result<(), Fail> {
     Ok(())
 }
 
-// The latest moments: a second before 2021-01-02T03:04:05Z, that moment, and the first and the last second of 2021.
+// Values of `latest`: a second before 2021-01-02T03:04:05Z, that moment, and the first and the last second of 2021.
 static LATEST: [i64; 4] = [1609556644, 1609556645, 1609459200, 1640995199];
 
-// The same of lines whose times say no year.
+// Changes each byte of lines whose timestamps have no year.
 #[test]
 fn undated(rt: HostRuntime) -> Result<(), Fail> {
     let (Ok(first), Ok(second), Ok(writing)) = (

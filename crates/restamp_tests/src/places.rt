@@ -1,7 +1,7 @@
-//! Where a time stands, and times that may stand anywhere in a line or in front of a text.
+//! The places of timestamps, and timestamps anywhere in a line or before a text.
 use restamp_place::{Fields, Place, Span, body_of, find_span, find_time};
 
-// A place, a line, and its three parts.
+// A place, a line, and the parts of the line before, at and after the place.
 type Row = (
     Place<'static>,
     &'static [u8],
@@ -105,7 +105,7 @@ static FOUND: [Row; 28] = [
         b"</t>",
     ),
     (Place::Between(b"", b"|"), b"a|b", b"", b"a", b"|b"),
-    // What is between two texts ends with the second one.
+    // A place between two texts ends at the start of the second one.
     (Place::Between(b"[", b"\r"), b"[a\r", b"[", b"a", b"\r"),
     (Place::Between(b"[", b"]"), b"[a\r]\r", b"[", b"a\r", b"]\r"),
     (Place::After(b"Date: "), b"Date: a", b"Date: ", b"a", b""),
@@ -120,7 +120,7 @@ static FOUND: [Row; 28] = [
     (Place::After(b"\r"), b"a\rb\r", b"a\r", b"b", b"\r"),
 ];
 
-// Whether the place cuts the line into those parts.
+// Whether the place splits the line into those parts.
 fn is_cut(place: Place<'_>, line: &[u8], before: &[u8], time: &[u8], after: &[u8]) -> bool {
     match find_time(place, line) {
         Some(cut) => cut.before == before && cut.time == time && cut.after == after,
@@ -135,7 +135,7 @@ fn found(rt: HostRuntime) {
     }
 }
 
-// A place that a line lacks: the reasons are too few fields, no such text, a quote that isn't closed, and text after one.
+// A place that is missing in a line: too few fields, no such text, an unclosed quote, or text after a closing quote.
 static MISSING: [(Place<'static>, &[u8]); 13] = [
     (Place::Field(Fields::Delimited(b','), 0), b"a"),
     (Place::Field(Fields::Delimited(b','), 2), b"a"),
@@ -164,10 +164,10 @@ fn open(rt: HostRuntime) {
     assert!(rt; Place::Front.is_prefix() && !Place::Between(b"a", b"b").is_prefix());
 }
 
-// A line that has words longer and shorter than sixteen bytes, and a text of which parts stand elsewhere.
+// A line with words longer and shorter than sixteen bytes, and a text whose parts also occur elsewhere.
 const CHANGED: [u8; 64] = *b"level=info\tmsg=\"a long request\"  at id=7 at 2021-01-02T03:04:05Z";
 
-// The word that so many others stand before, byte by byte.
+// The word with `number` words before it, found byte by byte.
 fn plain_word(line: &[u8], number: usize) -> Option<Span> {
     let mut left = number;
     let mut begun = None;
@@ -194,7 +194,7 @@ fn plain_word(line: &[u8], number: usize) -> Option<Span> {
     }
 }
 
-// What follows the text, which is looked for at each place.
+// What follows the text, which is searched at each byte.
 fn plain_rest(text: &[u8], line: &[u8]) -> Option<Span> {
     for at in 0..line.len() {
         if line[at..].starts_with(text) {
@@ -207,7 +207,7 @@ fn plain_rest(text: &[u8], line: &[u8]) -> Option<Span> {
     None
 }
 
-// Whether words and texts are found in the line as they are byte by byte.
+// Whether `find_span` finds the words and texts that these functions find in the line.
 fn is_plain(line: &[u8]) -> bool {
     let body = body_of(line);
     for number in 0..9 {
@@ -229,7 +229,7 @@ fn is_plain(line: &[u8]) -> bool {
     true
 }
 
-// Each byte of a line, and of its fronts, becomes each other byte.
+// Changes each byte of a line to each other byte, and tries each prefix of the line.
 #[test]
 fn changed(rt: HostRuntime) {
     for at in 0..CHANGED.len() {
@@ -242,7 +242,7 @@ fn changed(rt: HostRuntime) {
     }
 }
 
-// Times that may stand anywhere in a line. They take words and numbers whole.
+// Timestamps anywhere in a line. They consist of whole words and numbers.
 mod anywhere {
     use restamp_place::Place;
     use restamp_verdict::{
@@ -257,7 +257,7 @@ mod anywhere {
 
     const ANYWHERE: Option<Place<'static>> = None;
 
-    // The verdict on a line whose time may stand anywhere, with its text.
+    // The verdict on a line whose timestamp may be anywhere. Stores the new timestamp in `text`.
     fn verdict_on<'a>(
         line: &[u8],
         first: &'a Reading,
@@ -286,8 +286,8 @@ mod anywhere {
         job.judge(line, text)
     }
 
-    // Whether the first time of a line, by a format, is so many bytes from a place on, and is written so as seconds
-    // since 1970.
+    // Whether the first timestamp of a line, by a format, starts at `begin` and has `many` bytes, and `seconds` is the
+    // text of its seconds since 1970.
     fn is_found(format: &[u8], line: &[u8], begin: usize, many: usize, seconds: &[u8]) -> bool {
         let Ok(first) = find_reading(format) else {
             return false;
@@ -305,8 +305,8 @@ mod anywhere {
         }
     }
 
-    // A format, a line, where its time begins, how many bytes it has (0 where there is none), and its seconds since
-    // 1970.
+    // A format, a line, the start of its timestamp, how many bytes the timestamp has (0 without one), and its seconds
+    // since 1970.
     type Row = (&'static [u8], &'static [u8], usize, usize, &'static [u8]);
 
     static ROWS: [Row; 12] = [
@@ -343,7 +343,7 @@ mod anywhere {
         }
     }
 
-    // A format, and a line that has a time by it among what might begin one.
+    // A format, and a line with a timestamp of that format among bytes that might start one.
     type Sample = (&'static [u8], &'static [u8]);
 
     static SAMPLES: [Sample; 7] = [
@@ -363,7 +363,7 @@ mod anywhere {
         latest: None,
     };
 
-    // Whether a letter or digit stands before a place, and one at it.
+    // Whether the byte before a place and the byte at it are both letters or digits.
     fn is_inside(line: &[u8], place: usize) -> bool {
         0 < place
             && place < line.len()
@@ -371,7 +371,7 @@ mod anywhere {
             && line[place].is_ascii_alphanumeric()
     }
 
-    // Where the first time of the line begins and how many bytes it has, the format asked at each place.
+    // The start of the first timestamp of the line, and its length, found by trying the format at each byte.
     fn plain_first(line: &[u8], format: &Reading) -> Option<(usize, usize)> {
         for start in 0..line.len() {
             if is_inside(line, start) {
@@ -389,7 +389,7 @@ mod anywhere {
         None
     }
 
-    // Whether the verdict takes the time that is found so.
+    // Whether the verdict has the timestamp that `plain_first` finds.
     fn is_plain(line: &[u8], format: &Reading, writing: &Writing) -> bool {
         match verdict_on(line, format, writing, &mut Text::new()) {
             Verdict::Rewritten { start, length } => {
@@ -400,7 +400,7 @@ mod anywhere {
         }
     }
 
-    // Each byte of a line becomes each other byte.
+    // Changes each byte of a line to each other byte.
     #[test]
     fn changed(rt: HostRuntime) -> Result<(), Fail> {
         let Ok(writing) = find_writing(b"unix") else {
@@ -427,7 +427,7 @@ mod anywhere {
     }
 }
 
-// Times of RFC 3339 that stand in front of a text.
+// Timestamps of RFC 3339 before a text.
 mod fronts {
     use restamp_verdict::{Defaults, Reading, read};
     use time_values::OffsetDateTime;
@@ -446,7 +446,7 @@ mod fronts {
         latest: None,
     };
 
-    // The moment that the bytes say, and how many of them do: all, or a front of them.
+    // The moment that the bytes parse as, and how many of them match: all, or a prefix if `is_prefix`.
     fn said_by(is_prefix: bool, text: &[u8]) -> Option<(OffsetDateTime, usize)> {
         match read(&Reading::Rfc3339, is_prefix, text, &NOTHING_GIVEN) {
             Ok(said) => Some((said.moment, said.start + said.length)),
@@ -454,7 +454,7 @@ mod fronts {
         }
     }
 
-    // The same of the fewest bytes in front that say one alone.
+    // The moment of the shortest prefix that is a timestamp by itself, and the length of that prefix.
     fn plain_front(text: &[u8]) -> Option<(OffsetDateTime, usize)> {
         for many in 0..text.len() {
             if let Some(said) = said_by(false, &text[..many]) {
@@ -464,7 +464,7 @@ mod fronts {
         said_by(false, text)
     }
 
-    // Each byte of a text becomes each other byte.
+    // Changes each byte of a text to each other byte.
     #[test]
     fn changed(rt: HostRuntime) {
         for sample in &SAMPLES {

@@ -1,4 +1,4 @@
-//! Files that are replaced in a folder in memory. Their lines are rewritten by the rule of [`Marks`].
+//! Files that are replaced in a folder in memory. [`Marks`] decides the action of each line.
 use crate::memory::event::{Event, leads, stored};
 use crate::memory::{Faults, Memory};
 use crate::stream::{ALL, Marks};
@@ -9,14 +9,14 @@ use std::alloc::Global;
 use std::io;
 use std::io::ErrorKind;
 
-/// The file, the name of a new one beside it, and the backup's.
+/// The names of the file, of a new file beside it, and of the backup.
 pub const NAME: &str = "f";
 
 pub const TEMPORARY: &str = ".f.restamp-0";
 
 pub const BACKUP: &str = "f.old";
 
-/// The bytes of the file, and what is made of them.
+/// The bytes of the file, and the rewritten bytes.
 pub const OLD: &[u8] = b"@a\nb\n";
 
 pub const NEW: &[u8] = b"nowa\nb\n";
@@ -34,7 +34,7 @@ pub const NO_FAULTS: Faults = Faults {
 /// How a file was replaced, or why it wasn't.
 pub type Ended = Result<Made, Unreplaced<Stop>>;
 
-/// Puts a file of that number, name and bytes on the disk.
+/// Adds a file of that number, name and bytes, on the disk.
 pub fn add(
     alloc: Global,
     folder: &mut Memory,
@@ -55,7 +55,7 @@ pub fn folder_of(alloc: Global, bytes: &[u8], faults: Faults) -> io::Result<Memo
     Ok(folder)
 }
 
-/// Replaces the file by what its lines become.
+/// Replaces the file by its processed lines.
 pub fn replace_by(
     alloc: Global,
     folder: &mut Memory,
@@ -73,7 +73,7 @@ pub fn replace_by(
     ended
 }
 
-/// The same, where the work doesn't stop at a refused line.
+/// Replaces the file by its processed lines, without stopping at a rejected line.
 pub fn replace(alloc: Global, folder: &mut Memory, backup: Option<&str>) -> Ended {
     replace_by(alloc, folder, ALL, backup)
 }
@@ -94,7 +94,7 @@ pub fn has(events: &[Event], name: &str, bytes: &[u8]) -> bool {
     stored(events, number) == Some(bytes)
 }
 
-// Names that are taken, and files that stay as they are.
+// Names that are in use, and files that stay unchanged.
 mod ends {
     use crate::memory::event::{Event, leads};
     use crate::memory::{Faults, Memory};
@@ -119,14 +119,14 @@ mod ends {
         strict: true,
     };
 
-    // Whether the name leads to the file as it was, and no new one is left.
+    // Whether the name leads to the old file with those bytes, and no new file is left.
     fn is_untouched(events: &[Event], bytes: &[u8]) -> bool {
         leads(events, NAME) == Some(1)
             && has(events, NAME, bytes)
             && leads(events, TEMPORARY).is_none()
     }
 
-    // Another file has the first name for a new one: it stays, and the new one takes the second.
+    // Another file has the first name for a new file. It is kept, and the new file uses the second name.
     #[test]
     fn a_name_is_taken(rt: HostRuntime) -> Result<(), Fail> {
         let mut folder = folder_of(rt.alloc(), OLD, NO_FAULTS)?;
@@ -139,7 +139,7 @@ mod ends {
         Ok(())
     }
 
-    // Another file has the backup's name: both stay.
+    // Another file has the backup's name. Both files are kept.
     #[test]
     fn the_backups_name_is_taken(rt: HostRuntime) -> Result<(), Fail> {
         let mut folder = folder_of(rt.alloc(), OLD, NO_FAULTS)?;
@@ -152,7 +152,7 @@ mod ends {
         Ok(())
     }
 
-    // Each name for a new one is taken: 1000 are tried.
+    // Each name for a new file is in use. 1000 names are tried.
     #[test]
     fn all_names_are_taken(rt: HostRuntime) -> Result<(), Fail> {
         let faults = Faults {
@@ -176,8 +176,8 @@ mod ends {
         Ok(())
     }
 
-    // How a file of those bytes, of which no new one may take the place, is replaced by those settings with those
-    // faults, where it then is as it was and the backup's name leads to none.
+    // The result of replacing a file of those bytes, by those settings and with those faults; `None` unless the file is
+    // then unchanged and the backup's name leads to no file.
     fn ended_untouched(
         alloc: Global,
         bytes: &[u8],
@@ -203,7 +203,7 @@ mod ends {
         Ok(())
     }
 
-    // No time of the file is rewritten.
+    // No timestamp of the file is rewritten.
     #[test]
     fn nothing_is_rewritten(rt: HostRuntime) -> Result<(), Fail> {
         for bytes in [b"a\nb\n".as_slice(), b"!a\n", b""] {
@@ -213,7 +213,7 @@ mod ends {
         Ok(())
     }
 
-    // The work stops at a refused line.
+    // Processing stops at a rejected line.
     #[test]
     fn a_line_is_refused(rt: HostRuntime) -> Result<(), Fail> {
         let ended = ended_untouched(rt.alloc(), b"@a\n!b\n", STRICT, NO_FAULTS)?;
@@ -235,7 +235,7 @@ mod ends {
         Ok(())
     }
 
-    // The new file, which isn't needed, is not removed.
+    // The new file isn't needed, and the call that removes it fails.
     #[test]
     fn the_new_file_is_not_removed(rt: HostRuntime) -> Result<(), Fail> {
         let faults = Faults {
@@ -251,7 +251,7 @@ mod ends {
     }
 }
 
-// Each call of the folder fails in turn, or each from one on, and the run stops after each thing that was done.
+// Each call of the folder fails in turn, or each from one on, and the run crashes after each event.
 mod failures {
     use crate::memory::event::{Event, leads, stored};
     use crate::memory::{Faults, LATE};
@@ -263,7 +263,7 @@ mod failures {
     use std::io;
     use std::test::Fail;
 
-    // The steps of the calls of a run in which none fails, with no backup and with one.
+    // The steps of the calls of a run without failures, without a backup and with one.
     static RUNS: [(Option<&str>, &[Step]); 2] = [
         (
             None,
@@ -291,11 +291,11 @@ mod failures {
         ),
     ];
 
-    // How many calls fail from one on, and whether they do their one thing before.
+    // How many calls fail from one on, and whether they take effect before they fail.
     static WAYS: [(u64, bool); 4] = [(1, false), (u64::MAX, false), (1, true), (u64::MAX, true)];
 
-    // The file to which a crash leaves the name leading. Of what was done since the names were last on the disk, that
-    // is lost whose bit is set, the last thing's lowest.
+    // The file that the name leads to after a crash. The crash loses those events since the last sync whose bits in
+    // `lost` are set; the last event has the lowest bit.
     fn left(events: &[Event], lost: u64, name: &str) -> Option<u64> {
         let mut lost = lost;
         for event in events {
@@ -314,8 +314,8 @@ mod failures {
         None
     }
 
-    // Whether a crash that loses that much leaves the old bytes, or the new ones and the old ones under the backup's
-    // name.
+    // Whether a crash that loses those events leaves the old bytes, or the new bytes, and the old ones under the
+    // backup's name, if there is a backup.
     fn is_whole(events: &[Event], lost: u64, backup: Option<&str>) -> bool {
         let Some(number) = left(events, lost, NAME) else {
             return false;
@@ -333,7 +333,7 @@ mod failures {
         is_backed && stored(events, number) == Some(NEW)
     }
 
-    // In how many ways a crash may lose some of what was done since the names were last on the disk.
+    // How many sets of events since the last sync a crash may lose.
     fn ways(events: &[Event]) -> u64 {
         let mut ways = 1u64;
         for event in events {
@@ -345,12 +345,12 @@ mod failures {
         ways
     }
 
-    // Whether a crash now leaves the file whole, whatever is lost.
+    // Whether a crash now leaves the file whole, whichever events are lost.
     fn is_safe(events: &[Event], backup: Option<&str>) -> bool {
         (0..ways(events)).all(|lost| is_whole(events, lost, backup))
     }
 
-    // Whether a crash after each thing that was done, from the third on, leaves the file whole.
+    // Whether a crash after each event, from the third on, leaves the file whole.
     fn is_always_safe(events: &[Event], backup: Option<&str>) -> bool {
         for past in 0..events.len().saturating_sub(2) {
             if !is_safe(&events[past..], backup) {
@@ -360,8 +360,8 @@ mod failures {
         true
     }
 
-    // Whether a run whose call for that step fails ends with that step and error, and leaves what it is to leave: the
-    // new bytes once they took the old ones' place, and no name of its own where it could be removed.
+    // Whether a run whose call for that step fails ends with that step and error, and leaves the expected files: the
+    // new bytes if they have replaced the old ones, and no temporary name if it could be removed.
     fn fails_well(
         alloc: Global,
         backup: Option<&str>,
@@ -384,7 +384,7 @@ mod failures {
         )
     }
 
-    // How many runs fail as they are to, of those whose calls fail in turn.
+    // How many of the runs fail as expected if the call for each step fails in turn.
     fn count_failing_well(
         alloc: Global,
         backup: Option<&str>,
@@ -423,7 +423,7 @@ mod failures {
         Ok(())
     }
 
-    // No call fails: the file has the new bytes, and the backup's name the old ones.
+    // No call fails. The file has the new bytes, and the backup the old ones.
     #[test]
     fn no_call_fails(rt: HostRuntime) -> Result<(), Fail> {
         for (backup, steps) in &RUNS {

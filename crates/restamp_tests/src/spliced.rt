@@ -1,7 +1,7 @@
-//! A text of each length in the place of each byte of a line. No byte stands twice, so that one at a wrong place shows.
+//! Replaces each byte of a line by a text of each length. No byte occurs twice, so that a misplaced byte is detected.
 use crate::stream::{ALL, Answer, NEVER, Page, make_source};
 use byte_streams::{Counted, Sink, Unwritten};
-use restamp_stream::{Block, Fate, Rewriting, Stream};
+use restamp_stream::{Block, LineAction, Rewriting, Stream};
 use std::alloc::Global;
 use time_values::text::Text;
 
@@ -9,7 +9,7 @@ static LINE: &[u8] = b"abcdefghijklmnopqrstuvwxyz0123456789ABCDEFGHIJ";
 
 static TEXT: &[u8] = b"KLMNOPQRSTUVWXYZ+-*/=<>()[]{}!?.,:;";
 
-// Puts the text in the place of the byte there.
+// Replaces the byte at `place` by the text.
 #[derive(Clone, Copy)]
 struct At {
     place: usize,
@@ -19,29 +19,29 @@ struct At {
 impl Rewriting for At {
     ghost use Rattle.std.specs.Prelude.{◌≡◌, ◌+◌, codes, length, nat_lt, if◌then◌else◌};
     ghost use Rattle.std.proofs.Common.{sym, ◌∙◌};
-    ghost use Rattle.restamp_stream.specs.declared.fate.Fate.TheVariants.{Without, Rewritten, Refused};
+    ghost use Rattle.restamp_stream.specs.declared.action.LineAction.TheVariants.{Without, Rewritten, Refused};
 
-    ghost is_fate = { λ at front fate. fate ≡ (
+    ghost is_action = { λ at front action. action ≡ (
         if nat_lt at.place (length front) then
         if nat_lt (length at.text.now) 36 then Rewritten at.place (at.place + 1) (record { items = at.text.now }) else Refused
         else Without) };
 
     ghost is_reason = { λ at front column reason. (column ≡ 1) × (reason ≡ codes "bad") };
 
-    ghost one_fate = { λ x front a b p q. p ∙ sym q };
+    ghost one_action = { λ x front a b p q. p ∙ sym q };
 
     ghost one_reason = { λ x front column other reason why p q. (p.0 ∙ sym q.0, p.1 ∙ sym q.1) };
 
-    fn fate(&self, front: &[u8]) -> Fate {
+    fn action(&self, front: &[u8]) -> LineAction {
         if front.len() <= self.place {
-            return Fate::Without;
+            return LineAction::Without;
         }
         if 35 < self.text.len() {
-            return Fate::Refused;
+            return LineAction::Refused;
         }
         let mut text = Text::new();
         text.append(self.text);
-        Fate::Rewritten {
+        LineAction::Rewritten {
             begin: self.place,
             end: self.place + 1,
             text,
@@ -63,7 +63,7 @@ fn answer(alloc: Global, at: &At) -> Answer {
     Answer::new(stream, ended)
 }
 
-// Whether these are the line's bytes with that text in the place of that one.
+// Whether `out` is the line with the byte at `place` replaced by the text.
 fn is_spliced(out: &[u8], at: &At) -> bool {
     let (Some(front), Some(behind)) = (LINE.get(..at.place), LINE.get(at.place..)) else {
         return false;

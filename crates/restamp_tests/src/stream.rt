@@ -1,20 +1,23 @@
-//! Streams rewritten line by line. What is expected of a line is seen from its first byte, by the rule of [`Marks`].
+//! Streams rewritten line by line. The first byte of a line decides its action, by [`Marks`].
 use byte_streams::{Counted, Sink, Unwritten};
-use restamp_stream::{Block, Fate, Output, Reports, Rewriting, Settings, Stop, Stream, Tally};
+use restamp_stream::{
+    Block, LineAction, Output, Reports, Rewriting, Settings, Stop, Stream, Tally,
+};
 use std::alloc::Global;
 use std::io;
 use std::io::{ErrorKind, Read, Write};
 use time_values::text::Text;
 
-/// By the first byte of a line: `@` gives way to `now`, `#` drops it, `!` is refused, and `=` puts `now` after the front.
+/// The first byte of a line decides its action: `@` is replaced by `now`, `#` drops the line, `!` rejects it, and `=`
+/// inserts `now` after the front.
 pub struct Marks;
 
 impl Rewriting for Marks {
     ghost use Rattle.std.specs.Prelude.{◌≡◌, length, slice_index, codes, if◌then◌else◌, ◌==◌};
     ghost use Rattle.std.proofs.Common.{sym, ◌∙◌};
-    ghost use Rattle.restamp_stream.specs.declared.fate.Fate.TheVariants.{Without, Rewritten, Dropped, Refused};
+    ghost use Rattle.restamp_stream.specs.declared.action.LineAction.TheVariants.{Without, Rewritten, Dropped, Refused};
 
-    ghost is_fate = { λ marks front fate. fate ≡ (
+    ghost is_action = { λ marks front action. action ≡ (
         let b = slice_index front 0 in
         if b == 64 then Rewritten 0 1 (record { items = codes "now" }) else
         if b == 61 then Rewritten (length front) (length front) (record { items = codes "now" }) else
@@ -23,31 +26,31 @@ impl Rewriting for Marks {
 
     ghost is_reason = { λ marks front column reason. (column ≡ 1) × (reason ≡ codes "bad") };
 
-    ghost one_fate = { λ x front a b p q. p ∙ sym q };
+    ghost one_action = { λ x front a b p q. p ∙ sym q };
 
     ghost one_reason = { λ x front column other reason why p q. (p.0 ∙ sym q.0, p.1 ∙ sym q.1) };
 
-    fn fate(&self, front: &[u8]) -> Fate {
+    fn action(&self, front: &[u8]) -> LineAction {
         if front.is_empty() {
-            return Fate::Without;
+            return LineAction::Without;
         }
         let mut text = Text::new();
         text.append(b"now");
         let length = front.len();
         match front[0] {
-            b'@' => Fate::Rewritten {
+            b'@' => LineAction::Rewritten {
                 begin: 0,
                 end: 1,
                 text,
             },
-            b'=' => Fate::Rewritten {
+            b'=' => LineAction::Rewritten {
                 begin: length,
                 end: length,
                 text,
             },
-            b'#' => Fate::Dropped,
-            b'!' => Fate::Refused,
-            _ => Fate::Without,
+            b'#' => LineAction::Dropped,
+            b'!' => LineAction::Refused,
+            _ => LineAction::Without,
         }
     }
 
@@ -57,7 +60,8 @@ impl Rewriting for Marks {
     }
 }
 
-/// Bytes that come a few at a time. Each second read is interrupted, and one may fail.
+/// Bytes that are read at most `most` at a time. If `interrupts` is true, every second read is interrupted. One read
+/// may fail.
 #[derive(Drop)]
 pub struct Source<'a> {
     bytes: &'a [u8],
@@ -84,7 +88,7 @@ impl Read for Source<'_> {
     }
 }
 
-/// Never, of reads and writes.
+/// The number of a read or write that is never made.
 pub const NEVER: usize = 1000000;
 
 pub fn make_source(bytes: &[u8], most: usize) -> Source<'_> {
@@ -97,7 +101,7 @@ pub fn make_source(bytes: &[u8], most: usize) -> Source<'_> {
     }
 }
 
-/// Holds what was written, with a write that fails.
+/// Stores what is written, until a write fails.
 #[derive(Drop)]
 pub struct Page {
     text: Vec<u8>,
@@ -137,7 +141,7 @@ pub const ALL: Settings<'static> = Settings {
     strict: false,
 };
 
-/// The new times alone.
+/// Only the new timestamps are written.
 pub const TIMES: Settings<'static> = Settings {
     output: Output::Times,
     suffix: b"",
@@ -155,7 +159,7 @@ pub struct Answer {
 }
 
 impl Answer {
-    /// What a stream holds, and how its work ended.
+    /// The output, the log and the counts of a stream, and how its processing ended.
     pub fn new(stream: Stream<Counted<Page>, Counted<Page>>, ended: Result<(), Stop>) -> Answer {
         let (out, log, tally) = stream.into_parts();
         let (out, _) = out.into_parts();
@@ -170,13 +174,13 @@ impl Answer {
         }
     }
 
-    /// Whether it ended so, with those bytes written and logged.
+    /// Whether it ended with that result, and those bytes were written and logged.
     pub fn is(&self, ended: Result<(), Stop>, out: &[u8], log: &[u8]) -> bool {
         self.ended == ended && self.out.as_slice() == out && self.log.as_slice() == log
     }
 }
 
-/// Answers what a source gives on those pages, as a file of the name `f`.
+/// Processes the bytes of a source as a file of the name `f`, with those pages for the output and the log.
 pub fn answer_on(out: Page, log: Page, settings: Settings<'_>, source: Source<'_>) -> Answer {
     let mut stream = Stream::new(Counted::new(out), Counted::new(log));
     let mut source = Counted::new(source);
@@ -184,14 +188,14 @@ pub fn answer_on(out: Page, log: Page, settings: Settings<'_>, source: Source<'_
     Answer::new(stream, ended)
 }
 
-/// The same, where no write fails.
+/// Processes the bytes of a source as a file of the name `f`. No write fails.
 pub fn answer_to(alloc: Global, settings: Settings<'_>, source: Source<'_>) -> Answer {
     let out = Page::new(alloc, NEVER);
     let log = Page::new(alloc, NEVER);
     answer_on(out, log, settings, source)
 }
 
-// Lines of each fate, in each setting, also where they come a byte at a time.
+// Lines of each action, with each setting, also if they are read a byte at a time.
 mod lines {
     use crate::stream::{ALL, NEVER, Source, TIMES, answer_to, make_source};
     use restamp_stream::{Output, Reports, Settings, Tally};
@@ -203,7 +207,7 @@ mod lines {
         strict: false,
     };
 
-    // New times with their zone, in their lines and alone.
+    // New timestamps with their zone, in their lines and alone.
     const WITH_ZONE: Settings<'static> = Settings {
         suffix: b"[+01:00]",
         ..ALL
@@ -214,7 +218,7 @@ mod lines {
         ..TIMES
     };
 
-    // The settings, an input, what goes out, and what is logged.
+    // The settings, an input, the output, and the log.
     type Row = (
         Settings<'static>,
         &'static [u8],
@@ -257,9 +261,9 @@ mod lines {
         (ALL, b"@@\n", b"now@\n", b""),
     ];
 
-    // At once, and a byte a read, where each second read is interrupted.
+    // Reads each input at once, and then a byte at a time, with every second read interrupted.
     #[test]
-    fn fates(rt: HostRuntime) {
+    fn actions(rt: HostRuntime) {
         for (settings, input, out, log) in &ROWS {
             for (most, interrupts) in [(NEVER, false), (1, true)] {
                 let source = Source {
@@ -296,10 +300,10 @@ mod long_lines {
     use restamp_stream::{LIMIT, Settings, Tally};
     use std::alloc::Global;
 
-    // A text, and how many times it stands.
+    // A text, and how many times it is repeated.
     type Piece = (&'static [u8], usize);
 
-    // The pieces one after the other, or nothing where there is no memory for them.
+    // The pieces one after the other; `None` if memory is short.
     fn joined(alloc: Global, pieces: &[Piece]) -> Option<Vec<u8>> {
         let mut bytes = Vec::new(alloc);
         for (text, count) in pieces {
@@ -310,7 +314,7 @@ mod long_lines {
         Some(bytes)
     }
 
-    // What is counted of an input, of which a read gives at most so many bytes, where that goes out and nothing is
+    // The counts of an input, read at most `most` bytes at a time; `None` unless the output is `out` and nothing is
     // logged.
     fn counted(
         alloc: Global,
@@ -329,7 +333,7 @@ mod long_lines {
         }
     }
 
-    // How many `x` stand in a front that begins with `=`, and how many after it. The lines have 1, LIMIT - 1, LIMIT,
+    // How many `x` are in a front that begins with `=`, and how many after it. The lines have 1, LIMIT - 1, LIMIT,
     // LIMIT + 1 and 2 * LIMIT + 3 bytes.
     static LENGTHS: [(usize, usize); 5] = [
         (0, 0),
@@ -339,7 +343,7 @@ mod long_lines {
         (LIMIT - 1, LIMIT + 3),
     ];
 
-    // What ends the line, what that becomes, and how many bytes a read gives at most.
+    // What ends the line, the output for that, and how many bytes a read returns at most.
     static ENDINGS: [(&[u8], &[u8], usize); 3] = [
         (b"\n", b"\n", LIMIT),
         (b"", b"", 65536),
@@ -364,8 +368,8 @@ mod long_lines {
         }
     }
 
-    // The settings, an input, what goes out, how many bytes a read gives at most, how many lines there are, and how
-    // many of them are rewritten.
+    // The settings, an input, the output, how many bytes a read returns at most, how many lines there are, and how many
+    // of them are rewritten.
     type Row = (
         Settings<'static>,
         &'static [Piece],
@@ -375,8 +379,8 @@ mod long_lines {
         u64,
     );
 
-    // A long line that is dropped, one of which only the time goes out, and many of 3 bytes: they fill the block twice
-    // and what waits many times.
+    // A long line that is dropped, one whose timestamp alone is written, and many lines of 3 bytes, which fill the
+    // block twice and the buffered output many times.
     static ROWS: [Row; 3] = [
         (
             ALL,
@@ -409,7 +413,7 @@ mod long_lines {
     }
 }
 
-// Reads and writes that fail, and the first refused line where the work stops at it.
+// Reads and writes that fail, and the first rejected line if processing stops at it.
 mod failures {
     use crate::stream::{ALL, NEVER, Page, Source, answer_on, answer_to, make_source};
     use restamp_stream::{Output, Reports, Settings, Stop};
@@ -421,8 +425,8 @@ mod failures {
         strict: true,
     };
 
-    // Which read fails, and what went out. The reads are `@a`, LF `@`, `b` `!`, LF `#`, `c` LF and `d`: whole lines are
-    // answered before the next read.
+    // Which read fails, and the output. The reads are `@a`, LF `@`, `b` `!`, LF `#`, `c` LF and `d`: whole lines are
+    // processed before the next read.
     static READS: [(usize, &[u8]); 6] = [
         (0, b""),
         (1, b""),
@@ -445,7 +449,7 @@ mod failures {
         }
     }
 
-    // Which write of what goes out fails, and which of a report: the name, the line's number, the reason and LF.
+    // Which write of the output fails, and which of a report: the name, the line's number, the reason and LF.
     static WRITES: [(usize, usize); 6] = [
         (0, NEVER),
         (1, NEVER),
@@ -465,7 +469,7 @@ mod failures {
         }
     }
 
-    // An input, what goes out, and the log.
+    // An input, the output, and the log.
     static REFUSED: [(&[u8], &[u8], &[u8]); 3] = [
         (b"@a\n#\n!b\n@c\n", b"nowa\n", b"f:3:1: bad\n"),
         (b"!", b"", b"f:1:1: bad\n"),
@@ -484,7 +488,7 @@ mod failures {
     }
 }
 
-// Several files over one tally.
+// Several files with one tally.
 mod files {
     use crate::stream::{ALL, Answer, Marks, NEVER, Page, Source, make_source};
     use byte_streams::Counted;
@@ -492,7 +496,7 @@ mod files {
     use std::io;
     use std::io::ErrorKind;
 
-    // What reads `a` and `b`, a file `half` whose second read fails, and no other.
+    // The source of a file: `a`, `b`, or `half`, whose second read fails. No other file exists.
     fn source_of(name: &[u8]) -> io::Result<Source<'static>> {
         match name {
             b"a" => Ok(make_source(b"@1\n!2\n", NEVER)),
@@ -564,14 +568,14 @@ mod files {
     }
 }
 
-// How names are shown.
+// How names are displayed.
 mod names {
     use crate::stream::{ALL, Answer, Marks, NEVER, Page, make_source};
     use byte_streams::Counted;
-    use restamp_stream::{Block, Reports, Settings, Stream, write_name, write_shown};
+    use restamp_stream::{Block, Reports, Settings, Stream, write_escaped, write_name};
     use std::alloc::Global;
 
-    // A name, how the log shows it, and how it is shown in ASCII.
+    // A name, how the log displays it, and how it is displayed in ASCII.
     static SHOWN: [(&[u8], &[u8], &[u8]); 9] = [
         (b"app.log", b"app.log", b"app.log"),
         (b"", b"", b""),
@@ -584,27 +588,27 @@ mod names {
             b"\\x1f ~\\x7f\x80",
             b"\\x1f ~\\x7f\\x80",
         ),
-        // A backslash stays.
+        // A backslash is unchanged.
         (b"a\\x1b", b"a\\x1b", b"a\\x1b"),
         // `é` in UTF-8, and in Latin-1.
         (b"caf\xc3\xa9", b"caf\xc3\xa9", b"caf\\xc3\\xa9"),
         (b"caf\xe9\xff", b"caf\xe9\xff", b"caf\\xe9\\xff"),
     ];
 
-    // Whether that was written.
+    // Whether those bytes were written, without an error.
     fn holds(text: Counted<Vec<u8>>, expected: &[u8]) -> bool {
         let (text, error) = text.into_parts();
         error.is_none() && text.as_slice() == expected
     }
 
-    // Whether the name is shown so.
+    // Whether the name is displayed as `shown`, and in ASCII as `ascii`.
     fn is_shown(alloc: Global, name: &[u8], shown: &[u8], ascii: &[u8]) -> bool {
         let mut all = Counted::new(Vec::new(alloc));
         let mut text = Counted::new(Vec::new(alloc));
         let mut plain = Counted::new(Vec::new(alloc));
         write_name(name, &mut all).is_ok()
-            && write_shown(false, name, &mut text).is_ok()
-            && write_shown(true, name, &mut plain).is_ok()
+            && write_escaped(false, name, &mut text).is_ok()
+            && write_escaped(true, name, &mut plain).is_ok()
             && holds(all, shown)
             && holds(text, shown)
             && holds(plain, ascii)
@@ -617,7 +621,7 @@ mod names {
         }
     }
 
-    // Each report of a file shows its name so.
+    // Each report of a file displays its name as `write_name` does.
     #[test]
     fn reports(rt: HostRuntime) {
         for (most, log) in [
@@ -657,12 +661,12 @@ mod names {
     }
 }
 
-// How many refused lines the log names, and the exit status.
+// How many rejected lines are reported, and the exit status.
 mod reports {
     use crate::stream::{ALL, answer_to, make_source};
     use restamp_stream::{Reports, Settings, Stop, Tally, status};
 
-    // Which of three refused lines the log names, and the log.
+    // Which of three rejected lines are reported, and the log.
     static LOGS: [(Reports, &[u8]); 6] = [
         (Reports::Quiet, b""),
         (Reports::First(0), b"f: 3 more lines were refused\n"),
@@ -697,8 +701,8 @@ mod reports {
         }
     }
 
-    // How many lines were rewritten and refused, how many files were unread, why the work stopped, whether it was
-    // strict, and the status.
+    // How many lines were rewritten and rejected, how many files were unread, why processing stopped, whether it was
+    // strict, and the exit status.
     static STATUSES: [(u64, u64, u64, Option<Stop>, bool, u8); 7] = [
         (0, 0, 0, None, false, 1),
         (0, 0, 0, None, true, 1),

@@ -1,4 +1,4 @@
-//! Times of RFC 3339 with a suffix of RFC 9557.
+//! Timestamps of RFC 3339 with a suffix of RFC 9557.
 use super::clocks::berlin;
 use restamp_place::Place;
 use restamp_verdict::{
@@ -25,7 +25,7 @@ fn zoned(alloc: Global) -> Option<Reading> {
     Some(Reading::Zoned(zones))
 }
 
-// What becomes of a time: the seconds since 1970 and how many bytes say it, or why it is refused.
+// The result of parsing: the seconds since 1970 and how many bytes match, or why the timestamp is rejected.
 #[derive(Clone, Copy, Debug, PartialEq, Eq)]
 enum Answer {
     Says(i64, usize),
@@ -155,7 +155,7 @@ fn suffixes(rt: HostRuntime) {
     }
 }
 
-// The column where a line goes wrong whose whole is the time; 0 where it doesn't.
+// The column of the error in a line that should be a timestamp as a whole; 0 without an error.
 fn wrong_in<'a>(reading: &'a Reading, writing: &'a Writing, line: &[u8]) -> usize {
     let job = Job {
         place: Some(Place::Whole),
@@ -177,7 +177,8 @@ fn wrong_in<'a>(reading: &'a Reading, writing: &'a Writing, line: &[u8]) -> usiz
     }
 }
 
-// A suffix that refuses its time goes wrong where it begins, and bytes behind a suffix where they do.
+// The error of a suffix that rejects its timestamp is at the start of the suffix. The error of bytes after a suffix is
+// at the first of them.
 static COLUMNS: [(&'static [u8], usize); 6] = [
     (b"2026-11-27T15:00:00+01:00[Europe/Berlin]", 0),
     (b"2026-11-27T15:00:00+01:00[Europe/Bern]", 26),

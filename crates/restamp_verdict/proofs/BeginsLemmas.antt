@@ -1,4 +1,4 @@
--- No format matches from a byte on that its texts can't start with.
+-- A format matches nothing from a byte that its texts can't start with.
 use Rattle.std.proofs.Common.{◌≡◌, ℕ, zero, suc, ◌+◌, ◌<◌, ◌≤◌, ◌==◌, ◌++◌, ℤ, pos, Bool, true, false, not, List, [], ◌∷◌, codes, length, get_or, take, drop, refl, sym, ap, subst, arith, inl, inr, get_or-drop, get_or-take, ◌∙◌, None, Some, Err}
 use Rattle.std.specs.Prelude.{Option, Result, if◌then◌else◌, ◌&&◌, ◌||◌, MatchBool, MatchOption, ◌-ℤ◌, neg_ℤ}
 use Rattle.std.specs.Char.{is_ascii_digit}
@@ -95,7 +95,7 @@ component-unread Y c bytes none rest r' h =
     let in-front = subst (λ (b : List ℕ). is_in (component_firsts c) (first b) ≡ true) (sym h.cut) (spelled-first c h.text rest h.value h.spells) in
     true≢false (sym in-front ∙ none)
 
--- a sequence is rejected where its first tree, a component, is
+-- a sequence rejects the bytes that its first tree, a component, rejects
 sequence-refuses : (Y : ℕ) (c : Component) (ts : Trees) (bytes : List ℕ) → is_in (component_firsts c) (first bytes) ≡ false
     → Refuses Y (sequence (more (component false c) ts)) bytes empty (component_fault c)
 unfolding Reads ReadsAll IsFault IsFaultAll
@@ -123,7 +123,7 @@ year-digits (a ∷ b ∷ c ∷ d ∷ text) rest v h =
     let all = h.digits in
     and_from _ _ (and_from _ _ (and_from _ _ (digit-first a all.0) (digit-first b all.1.0)) (digit-first c all.1.1.0)) (digit-first d all.1.1.1.0)
 
--- RFC 3339 fails at the year without four digits
+-- without four digits, RFC 3339 fails at the year
 year-fails : (bytes : List ℕ) → has_year bytes ≡ false → FailsAt true bytes Year
 unfolding Stand
 year-fails bytes none =
@@ -158,7 +158,7 @@ refused Y (reading.Described d) text none = let h = steps-refuse Y d text none i
 refused Y (reading.Complete d) text none = let h = steps-refuse Y d text none in (h.0, λ defaults. (Err h.0, inl h.1, refl))
 refused Y (reading.Counted d) text none = let h = steps-refuse Y d text none in (h.0, λ defaults. (Err h.0, inl h.1, refl))
 
--- the result of such an error
+-- the result with an error
 abbrev refusal : Refusal → Result Match Reason
 refusal e = Err (unread e)
 
@@ -243,7 +243,7 @@ unlike (reading.Described d) text none = none
 unlike (reading.Complete d) text none = none
 unlike (reading.Counted d) text none = none
 
--- the first bytes of the part that is parsed
+-- the test of the first bytes is the one of the part that is parsed
 near : (format : Reading) (text : List ℕ) → may_be_of format (take REACH text) ≡ may_be_of format text
 near reading.Rfc3339 text =
     rw (
@@ -266,7 +266,7 @@ near (reading.Described d) text = rw (get_or-take REACH text 0 0 (omega arith)) 
 near (reading.Complete d) text = rw (get_or-take REACH text 0 0 (omega arith)) refl
 near (reading.Counted d) text = rw (get_or-take REACH text 0 0 (omega arith)) refl
 
--- The line has no match of the format from bytes on that its texts can't start with.
+-- The format has no match in the line from bytes that its texts can't start with.
 pub matches-nothing : (Y : ℕ) (job : Job) (line : List ℕ) (k : ℕ) (format : Reading) → may_be_of format (drop k line) ≡ false
     → MatchesAlone Y job line k format None
 matches-nothing Y job line k format none =
@@ -290,7 +290,7 @@ from-nothing : (Y : ℕ) (job : Job) (line : List ℕ) (k : ℕ) (inside within 
 from-nothing Y job line k true within none h = refl
 from-nothing Y job line k false within none h = tried-nothing Y job line k (job.first.now ∷ job.others.now) (h none)
 
--- The line has no match at all from a byte on inside a word or a number, or that no text of any format starts with.
+-- The line has no match at all from a byte that is inside a word or a number, or that no text of any format starts with.
 pub matches-none : (Y : ℕ) (job : Job) (line : List ℕ) (f : Firsts)
     → ((x : ℕ) → is_in f x ≡ false → IsInNone x (job.first.now ∷ job.others.now)) → (k : ℕ)
     → (not (is_inside line k) && is_in f (get_or line k 0)) ≡ false → MatchesFrom Y job line k None
@@ -309,7 +309,7 @@ joined_and false q s h = (refl, h)
 abbrev pub joined : Firsts → Firsts → Firsts
 joined a b = record { signs = a.signs || b.signs; mail = a.mail || b.mail; others = a.others || b.others }
 
--- a byte that isn't among the joined ones is in neither
+-- a byte that isn't among the joined first bytes is in neither set
 pub in-joined : (a b : Firsts) (x : ℕ) → is_in (joined a b) x ≡ false → (is_in a x ≡ false) × (is_in b x ≡ false)
 in-joined a b x none =
     let outer = or_parts _ _ none in

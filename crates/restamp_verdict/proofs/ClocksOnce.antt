@@ -123,7 +123,7 @@ module _ (Y : ℕ) (reads : Outcome.Reading) (refuses : Refusing) (text rest : L
         ap (λ (n : ℕ). Ok (said v n)) (sym whole),
       )
 
--- that result by the format
+-- that result, by the format
 module _ (Y : ℕ) (text rest : List ℕ) (r : Record) where
   says_none : (format : Reading) → ReadsRecord Y format text empty rest r → (is_prefix : Bool) (defaults : Defaults)
       → (is_prefix ≡ false → rest ≡ []) → IsMoment Y (completed Y defaults r) (Err insufficient)

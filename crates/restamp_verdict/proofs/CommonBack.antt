@@ -69,7 +69,7 @@ by_tree (reading.Counted d) tree e = absurd cc
 pub same_as_tree : (a b : Tree) → as_tree a ≡ as_tree b → a ≡ b
 same_as_tree a b e = cc
 
--- a way has one tree
+-- the name of a format has one tree
 one_format_name : (way : FormatName) (format : Reading) (tree : Tree) → Means way (meaning_of format) → Means way (as_tree tree) → ByTree format tree
 one_format_name rfc3339 format tree means writes = absurd cc
 one_format_name rfc2822 format tree means writes = absurd cc

@@ -1,4 +1,4 @@
--- A tree that gives all of a moment.
+-- A tree that determines a moment.
 use Rattle.std.proofs.Common.{◌≡◌, ◌≤◌, ◌<◌, ◌+◌, ◌-◌, ◌%◌, ◌^◌, ℕ, ℤ, pos, neg_ℤ, unsigned_abs, Bool, true, false, List, [], ◌∷◌, None, Some, Ok}
 use Rattle.std.proofs.Common.{Err, inr, refl, sym, ap, ◌∙◌, subst, arith}
 use Rattle.std.specs.Prelude.{◌==◌, ◌&&◌, if◌then◌else◌, Option, MatchOption, option_map, option_and_then, nat_le}
@@ -78,7 +78,7 @@ put_in : (fits : Bool) (r q : Record) → fits ≡ true → Some r ≡ Some q �
 put_in true r q e same = same
 put_in false r q e same = absurd cc
 
--- with the flag of an offset
+-- setting a value with the flag of an offset
 put_flagged : (minus fits : Bool) (r : Record) → fits ≡ true
     → option_map (with_offset_sign minus) (if fits then Some r else None) ≡ Some (with_offset_sign minus r)
 put_flagged minus true r e = refl
@@ -97,7 +97,7 @@ module _ (v : OffsetDateTime) where
   abbrev o : UtcOffset
   o = offset_of v
 
-  -- the value of a component sets what it gives
+  -- setting a component's value gives the record with that value
   put_told : (c : Component) (r q : Record) → with_value_of greatest_year v c r ≡ Some q
       → put_value greatest_year c (value_of greatest_year v c) r ≡ Some q
   put_told (component.Day m) r q e = put_in (is_within 1 31 d.day) _ q (day_fits d) e

@@ -1,4 +1,4 @@
--- The text that a tree writes of a moment parses back by the tree. `Y` is the greatest year.
+-- A moment's text by a tree parses back by the tree. `Y` is the greatest year.
 use Rattle.std.specs.Prelude.{Option, MatchOption, ◌||◌, is_some, unwrap_or, if◌then◌else◌, Result, option_and_then}
 use Rattle.std.specs.Option.{option_or}
 use Rattle.std.proofs.Common.{◌≡◌, ℕ, ℤ, Bool, true, false, None, Some, Ok, Err, inl, inr, refl, sym, ap, subst, ◌∙◌, List, [], ◌∷◌, ◌++◌, length, nat_le, append-nil, append_assoc}

@@ -65,7 +65,7 @@ module _ (tail : List ℕ) where
   no_dot [] some first = absurd (omega (arith, some))
   no_dot (x ∷ xs) some first = first
 
-  -- a run of one width
+  -- a run of digits of one width is one before more bytes too
   run : (width : ℕ) (text xs : List ℕ) (v : ℕ) → IsDigitRun width width text xs v → IsDigitRun width width text (xs ++ tail) v
   run width text xs v h = record {
     digits = h.digits;
@@ -85,7 +85,7 @@ module _ (tail : List ℕ) where
   offset_minute true n m text xs h = h
   offset_minute false n m text xs h = (h.0, (run 2 text xs h.0 h.1.0, h.1.1), h.2)
 
-  -- the syntax of a place where more bytes follow
+  -- a place keeps its syntax if more bytes follow
   asked : (p : Place) (n m : Numbers) (text xs : List ℕ) → (p ≡ place.Subsecond → 1 ≤ length xs) → Asks true p n text xs m
       → Asks true p n text (xs ++ tail) m
   asked place.Year n m text xs some h = (h.0, run 4 text xs h.0 h.1, h.2)
@@ -164,7 +164,7 @@ front_said text end v fits moment =
 
 -- ---- A timestamp at the start of a text ends with a digit or the letter of UTC
 
--- the timestamp ends so before the rest
+-- the timestamp before the rest ends with such a byte
 pub record EndsBefore (text rest : List ℕ) : Type 0 where
   pub before : List ℕ
   pub end : ℕ

@@ -1,4 +1,4 @@
--- Results with an error that is kept of a reason.
+-- Results whose error is what a caller keeps of a reason.
 use Rattle.std.proofs.Common.{◌≡◌, Ok, Err, subst, sym}
 use Rattle.std.specs.Prelude.{Result}
 use Rattle.time_values.specs.Shown.{Items}
@@ -9,7 +9,7 @@ use Rattle.restamp_verdict.specs.declared.reading.Match.{Match}
 use Rattle.restamp_verdict.specs.declared.reason.Reason.{Reason as Whole}
 use Rattle.restamp_verdict.specs.declared.job.Verdict.TheVariants as variant
 
--- A weaker relation holds of a result where a stronger one does.
+-- A result that satisfies a stronger relation satisfies a weaker one.
 pub gives_so : {V E : Type 0} (IsOf : Reason → E → Type 0) {P Q : Result V Reason → Type 0} (result : Result V E)
     → ((given : Result V Reason) → P given → Q given) → Gives IsOf P result → Gives IsOf Q result
 gives_so IsOf (Ok v) f p = f (Ok v) p
@@ -27,7 +27,7 @@ verdict_so IsOf (variant.Rewritten start length) text f p = f (rewritten start l
 verdict_so IsOf variant.Dropped text f p = f dropped p
 verdict_so IsOf (variant.Refused column e) text f p = (p.0, p.1, f (refused column p.0) p.2)
 
--- Where all of a reason is kept, the relation holds of the result with its reason erased.
+-- If all of a reason is kept, the result with its reason erased satisfies the relation.
 pub of_reason : (P : Result Match Reason → Type 0) (result : Result Match Whole)
     → Gives (λ reason kept. seen kept ≡ reason) P result → P (erased_read result)
 of_reason P (Ok found) p = p

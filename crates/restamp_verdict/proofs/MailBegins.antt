@@ -58,7 +58,7 @@ module _ (bytes : List ℕ) (other : is_gap (get_or bytes 0 0) ≡ false) where
   unfolding opt_cfws cfws
   gap-none = or-none cfws Some bytes (then-none blanks_or_comment (zero_or_more blanks_or_comment) bytes no_gap)
 
-  -- nor follows one space
+  -- neither follows one space
   one_blank : blanks (32 ∷ bytes) ≡ Some bytes
   unfolding blanks
   one_blank =
@@ -81,7 +81,7 @@ module _ (bytes : List ℕ) (other : is_gap (get_or bytes 0 0) ≡ false) where
       (then-some blanks_or_comment (zero_or_more blanks_or_comment) (32 ∷ bytes) bytes one_gap
       ∙ zero_or_more-none blanks_or_comment bytes no_gap)
 
--- a byte with that lower case letter
+-- a byte whose lower case is that letter
 in_case : (x l : ℕ) → 97 ≤ l → l ≤ 122 → to_ascii_lowercase x ≡ l → is_letter x l ≡ true
 in_case x l low high is = grind (arith, nat_tests)
 
@@ -136,7 +136,7 @@ no_weekday bytes none text rest w cut is =
     true≢false (sym (subst (λ (b : List ℕ). (is_weekday (get_or b 0 0) && is_weekday_second (get_or b 1 0)) ≡ true) (sym cut)
     (weekday-begins w text rest is)) ∙ none)
 
--- no day follows the bytes before it
+-- the day fails, because no day follows the bytes before it
 day-fails : (bytes mid : List ℕ) → opt_cfws bytes ≡ Some mid → is_ascii_digit (get_or mid 0 0) ≡ false → begin_none mid → FailsAt true bytes Day
 unfolding Stand
 day-fails bytes mid gap no_digit none =
@@ -153,7 +153,7 @@ day-fails bytes mid gap no_digit none =
           (run-first 1 2 text rest h.0 (omega arith) h.1)) ∙ no_digit);
     }
 
--- the day fails where the bytes start with no white space, no comment, no day and no weekday
+-- the day fails if the bytes start with no white space, no comment, no day and no weekday
 begun-fails : (bytes mid : List ℕ) → (is_gap (get_or mid 0 0) ≡ false → opt_cfws bytes ≡ Some mid)
     → begins_day (get_or mid 0 0) (get_or mid 1 0) ≡ false → FailsAt true bytes Day
 begun-fails bytes mid gap none =

@@ -31,7 +31,7 @@ use Rattle.restamp_verdict.specs.declared.reading.Match.{Match}
 use Rattle.restamp_verdict.proofs.MissingFieldRecords.{said}
 use Rattle.restamp_verdict.proofs.MissingFieldTrees.{only, or_left, or_right, part_said}
 
--- both, and one of them
+-- both are true
 abbrev pub Both : Bool → Bool → Type 0
 Both a b = (a ≡ true) × (b ≡ true)
 
@@ -137,7 +137,7 @@ module _ (Y : ℕ) {A : Type 0} (f : Record → A) (year_apart : (r : Record) (y
     completed-apart defaults r =
         with_offset-apart defaults.offset (with_year Y defaults.year r) ∙ with_year-apart defaults.year r
 
--- the year of a record with defaults was parsed, or is the default where no part of a year was
+-- the year of a record with defaults was parsed, or is the default if no part of a year was
 completed_year : (Y : ℕ) (defaults : Defaults) (r : Record) → is_some (completed Y defaults r).year ≡ true
     → (is_some r.year ≡ true) ⊎ ((has_year r ≡ false) × (is_some defaults.year ≡ true))
 completed_year Y defaults r is = by_year defaults.year refl (sym (offset_after (with_year Y defaults.year r) defaults.offset) ∙ is)
@@ -166,7 +166,7 @@ completed_year Y defaults r is = by_year defaults.year refl (sym (offset_after (
         by_had true fits k p = inl p
         by_had false fits k p = inr (sym k, ap is_some (sym e))
 
--- the parts of a year up to one
+-- the first few parts of a year
 module _ (r : Record) where
   abbrev to_century : Bool
   to_century = is_some r.year || is_some r.year_century
@@ -192,7 +192,7 @@ module _ (r : Record) where
   by_century : to_century ≡ true → has_year r ≡ true
   by_century s = by_last_two (or_left to_century (is_some r.year_last_two) s)
 
--- a part of a year that is present is a count or a year's
+-- a record with a part that gives a year, and without a count from 1970, has a part of a year
 pub part_of_year : (k : Kind) (r : Record) → is_of part.Year k ≡ true → said k r ≡ true → is_some r.unix_timestamp_nanos ≡ false
     → has_year r ≡ true
 part_of_year kind.Year r i s none = by_century r (or_left (is_some r.year) (is_some r.year_century) s)
@@ -208,7 +208,7 @@ or_none : (a : Bool) → (a || false) ≡ true → a ≡ true
 or_none true e = refl
 or_none false e = e
 
--- the missing part where there is a date and a time
+-- the missing part, by what a tree gives
 abbrev chain : Bool → Bool → Bool → Bool → Bool → Bool → Option MissingField
 chain count day any date hour half =
     if count then None else
@@ -235,7 +235,7 @@ module _ (Y : ℕ) (t : Tree) (given : Bool) (b rest : List ℕ) (r : Record) (r
       by_sum (inl e) = e
       by_sum (inr e) = absurd cc
 
-  -- a text without any part of a year has a tree that may have none
+  -- if a text has no part of a year, not every reading of its tree has one
   may_lack_year : is_some r.unix_timestamp_nanos ≡ false → has_year r ≡ false → not (always part.Year t) ≡ true
   may_lack_year none bare = by_bool (always part.Year t) refl
     where
@@ -458,7 +458,7 @@ module _ (Y : ℕ) (given : Bool) (l : MissingField) (is_prefix : Bool) (text : 
   unsaid format defaults year s lacks (Ok read, h, is) = unread format defaults year read lacks h
   unsaid format defaults year s lacks (Err e, h, is) = absurd cc
 
-  -- nor as a local time in a zone
+  -- no text parses as one with the clocks of a zone
   module _ (format : Reading) (lacks : format_missing_field given format ≡ Some l) where
     unplaced : (defaults : Defaults) → (is_some defaults.year ≡ true → given ≡ true) → (s : Match) (why : Reason) (clocks : Option Clocks)
         → MatchOption clocks (Ok s ≡ Err why) (λ c. ParsesInZone Y c format is_prefix text defaults (Ok s)) → ⊥
@@ -471,7 +471,7 @@ module _ (Y : ℕ) (given : Bool) (l : MissingField) (is_prefix : Bool) (text : 
     unlocal defaults year s (Ok read, h, is) = unsaid format defaults year read lacks h
     unlocal defaults year s (Err why, h, is) = unplaced defaults year s why defaults.clocks is
 
-    -- nor with any year
+    -- no text parses as one with any year
     module _ (is_given : given ≡ true) (offset : Option UtcOffset) (clocks : Option Clocks) (latest : OffsetDateTime) where
       passed : (n : ℕ) (year : ℤ) (why : Reason) (s : Match)
           → (AreYearsTried Y (undated format is_prefix text offset clocks latest) n year why (Ok s) → ⊥) → (final : Bool)

@@ -137,7 +137,7 @@ module _ (Y : ℕ) (k : Kind) (r q : Record) where
   period_tells (period p) is = entry_tells (hour_12_is_pm_is (is_pm p)) is
   period_tells v is = absurd cc
 
--- the flag of a negative offset is none of these parts
+-- the flag of a negative offset isn't one of these parts
 said-sign : (k : Kind) (minus : Bool) (r : Record) → said k (with_offset_sign minus r) ≡ said k r
 said-sign kind.Year minus r = refl
 said-sign k minus r = refl

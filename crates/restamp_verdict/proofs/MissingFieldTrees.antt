@@ -101,7 +101,7 @@ module _ (p : Part) (steps : List Step) where
     each_always-not false fails e =
         ap (λ (b : Bool). b && each_always p (steps_trees after_first)) e ∙ sym (ap (each_always p) (first_item steps x some is))
 
--- a choice of items has a part if each of them has, and a choice of no items has none
+-- a choice of items has a part if each item has it; an empty choice has no part
 pub choice_always-some : (p : Part) (steps : List Step) → 1 ≤ length steps
     → each_always p (steps_trees steps) ≡ always p (first_of (steps_trees steps))
 unfolding trees_in
@@ -122,12 +122,12 @@ pub either : {A B C : Type 0} → A ⊎ B → (A → C) → (B → C) → C
 either (inl a) f g = f a
 either (inr b) f g = g b
 
--- the first of two gives it, or something else holds
+-- the first of two gives the part, or something else holds
 lack_here : (a b : Bool) {C : Type 0} → (a ≡ true) ⊎ C → ((a || b) ≡ true) ⊎ C
 lack_here a b (inl e) = inl (or_left a b e)
 lack_here a b (inr c) = inr c
 
--- the second gives it, or the first where something else holds
+-- the second gives the part, or, if something else holds, the first does
 there : (a b : Bool) {C D : Type 0} → (b ≡ true) ⊎ D → (D → (a ≡ true) ⊎ C) → ((a || b) ≡ true) ⊎ C
 there a b (inl e) f = inl (or_right a b e)
 there a b (inr d) f = lack_here a b (f d)
@@ -160,7 +160,7 @@ module _ (Y : ℕ) (k : Kind) where
     only_some (more t ts) b r rest q (inl h) s = lack_here (says k t) (one_has k ts) (only t b r rest q h s)
     only_some (more t ts) b r rest q (inr h) s = there (says k t) (one_has k ts) (only_some ts b r rest q h.1 s) inr
 
--- what is present of a part
+-- the record has a value that gives the part
 pub record SaysPart (p : Part) (r : Record) : Type 0 where
   pub of : Kind
   pub is : is_of p of ≡ true

@@ -51,7 +51,7 @@ counted_moment Y q p result counts same_count same_part is = by_count p.unix_tim
         (subst (λ (s : Option ℕ). IsOkAnd result (λ v. IsStamped Y m s (offset_date v) (offset_time v) × IsUtc (offset_of v)))
         (sym same_part) h)
 
--- the hour of an offset that is present is a count or an hour
+-- a record with a part that gives an offset, and without a count from 1970, has the hour of an offset
 part_of_offset : (k : Kind) (r : Record) → is_of part.Offset k ≡ true → said k r ≡ true → is_some r.unix_timestamp_nanos ≡ false
     → is_some r.offset_hour ≡ true
 part_of_offset kind.OffsetHour r i s none = s
@@ -112,7 +112,7 @@ is_always : (b : Bool) → not b ≡ false → b ≡ true
 is_always true e = refl
 is_always false e = absurd cc
 
--- another default offset changes no match, where each text has an offset
+-- another default offset changes no match if each text has an offset
 module _ (Y : ℕ) (d e : Defaults) (same : d.year ≡ e.year) (text : List ℕ) where
   module _ (tree : Tree) (says : always part.Offset tree ≡ true) where
     front : (outcome : Result (OffsetDateTime × List ℕ) Refusal)

@@ -132,7 +132,7 @@ module _ (zones other : Zones) (text : List ℕ) (same : SameZones text zones ot
       (p.0, p.1, ended_alike (has_tail is_prefix text (s.length + p.0.len)) s p.0 a (front_ends Y text s front) p.1 p.2)
   told_alike Y is_prefix (Err e) a front p = p
 
--- both formats of a kind have the same match of a text
+-- each match of a text by one format is its match by the other
 abbrev Alike : ℕ → Bool → List ℕ → Reading → Reading → Type 0
 Alike Y is_prefix text format other =
     (d : Defaults) (a : Result Match Reason) → ParsesAs Y format is_prefix text d a → ParsesAs Y other is_prefix text d a
@@ -303,7 +303,7 @@ parts_alike part bytes (format ∷ formats) [] stands alike = absurd alike
 parts_alike part bytes (format ∷ formats) (other ∷ others) stands alike =
     (part_alike part bytes format other stands alike.0, parts_alike part bytes formats others stands alike.1)
 
--- the verdict where a form within bounds writes a moment
+-- the verdict on a match, by the form and the bounds
 abbrev PutBy : ℕ → ℕ → Match → Verdict → Form → Option OffsetDateTime → Option OffsetDateTime → Type 0
 PutBy Y start said verdict form since until =
     MatchBool (nat_lt LIMIT (start + said.start + said.length)) (verdict ≡ refused (start + said.start + 1) too_far)

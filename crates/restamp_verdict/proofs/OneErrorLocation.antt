@@ -58,7 +58,7 @@ microseconds_short n z within whole =
 pub nanoseconds_kept : (n : ℤ) → IsInstant greatest_year n → to_z w128 (of_z w128 n) ≡ n
 nanoseconds_kept n within = to_z-of_z w128 n (omega (arith, ints, first_instant_is, last_instant_is))
 
--- each number counts itself
+-- each number is the count of itself in units of 1
 pub whole_of_one : (n : ℤ) → IsWhole 1 n n
 whole_of_one n = (omega (arith, ints), omega (arith, ints))
 
@@ -110,7 +110,7 @@ one_missing_field job line reason x y =
     (λ span z. IsMissingFieldIn greatest_year job.first.now (dated job.defaults) (slice_range line span.start span.stop) z) x y
     (λ span. one_part-one job.first.now (dated job.defaults) (slice_range line span.start span.stop) x y)))
 
--- a format that matches everything, for which an index is that of a value alone
+-- a format that matches everything, so that an index can only be that of a value
 abbrev reads_all : Outcome.Reading
 reads_all bytes r rest q = Unit {0}
 

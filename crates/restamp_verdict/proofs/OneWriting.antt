@@ -172,7 +172,7 @@ module _ (zones : Zones) (text : List ℕ) (front : Match) where
 abbrev pub suffix_of : Suffixed → List Tag → Suffix
 suffix_of r tags = record { len = r.len; zone = option_map zone_tag_of r.zone; tags = tags }
 
--- it is the longest suffix after a prefix, and decides the match of the text
+-- that suffix is the longest one after a prefix, and decides the match of the text
 pub read-longest : (text : List ℕ) (front : Match) (r : Suffixed) (rest : List ℕ) → rest ≡ drop front.length text → r.len ≤ length rest
     → (says : Says (take r.len rest) r) → IsLongest rest r.len → IsLongestSuffix (drop front.length text) (suffix_of r says.0)
 read-longest text front r rest cut within says longest =

@@ -131,6 +131,10 @@ module _ (Y : ℕ) (format : Reading) (is_prefix : Bool) (text : List ℕ) (defa
   pub dated-none : defaults.latest ≡ None → ParsesLocally Y format is_prefix text defaults (Err e) → IsDated Y format is_prefix text defaults (Err e)
   dated-none none says = (Err e, says, on_none defaults.latest _ _ none refl)
 
+  pub dated-rejected : defaults.clocks ≡ None → defaults.latest ≡ None → ParsesAs Y format is_prefix text defaults (Err e)
+      → IsDated Y format is_prefix text defaults (Err e)
+  dated-rejected no_clocks no_latest says = dated-none no_latest (Err e, says, on_none defaults.clocks _ _ no_clocks refl)
+
   pub dated-years : (v : OffsetDateTime) (year : ℤ) (result : Result Match Reason) → defaults.latest ≡ Some v
       → ParsesLocally Y format is_prefix text defaults (Err e) → year ≡ year_after v
       → AreYearsTried Y (undated format is_prefix text defaults.offset defaults.clocks v) 10 year e result

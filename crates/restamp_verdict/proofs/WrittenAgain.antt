@@ -57,7 +57,7 @@ text_is None such text (Err why) p e = absurd p
 text_is (Some why) such text (Ok t) p e = absurd cc
 text_is (Some why) such text (Err other) p e = absurd cc
 
--- a moment without a cut-off fraction
+-- a moment whose fraction loses no digits
 abbrev nanosecond_of : OffsetDateTime → ℕ
 nanosecond_of v = Times.nanosecond (offset_time v)
 
@@ -174,7 +174,7 @@ same_kept : (job : Job) (v w : OffsetDateTime) → offset_instant greatest_year 
     → is_kept greatest_year job w ≡ is_kept greatest_year job v
 same_kept job v w e = rw (same_before job.since v w false e, same_before job.until v w true e) refl
 
--- the verdict on a line with a text that is written so again
+-- the verdict on a line with a text that is written as itself again
 abbrev Kept : Job → Bool → ℕ → List ℕ → Verdict → Type 0
 Kept job kept start bytes verdict = MatchBool kept (verdict ≡ rewritten start (length bytes) bytes) (verdict ≡ dropped)
 
@@ -189,7 +189,7 @@ kept_back job true start w bytes text again same e =
     )
 kept_back job false start w bytes text again same e = (dropped, rw e refl, refl)
 
--- that verdict, where the text may end too far behind
+-- that verdict, or a rejection if the text ends too far behind
 abbrev Put : Job → Bool → Bool → ℕ → List ℕ → Verdict → Type 0
 Put job far kept start bytes verdict =
     MatchBool far (verdict ≡ refused (start + 1) too_far) (Kept job kept start bytes verdict)

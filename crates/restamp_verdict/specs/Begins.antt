@@ -14,7 +14,7 @@ use Rattle.restamp_verdict.specs.declared.anywhere.fast.Firsts.{Firsts}
 use Rattle.restamp_verdict.specs.declared.reading.Reading.{Reading}
 use Rattle.restamp_verdict.specs.declared.reading.Reading.TheVariants as reading
 
--- digits; digits and signs; the first bytes of a mail date; any byte
+-- sets of first bytes: digits; digits and signs; those of a mail date; all bytes
 abbrev pub digits : Firsts
 digits = record { signs = false; mail = false; others = false }
 
@@ -49,7 +49,7 @@ abbrev pub is_in : Firsts → ℕ → Bool
 is_in f x =
     is_ascii_digit x || (f.signs && (x == 43 || x == 45)) || (f.mail && (is_gap x || is_weekday x)) || f.others
 
--- the bytes, or any if spaces pad the text
+-- the bytes, or any byte if spaces pad the text
 abbrev pub padded : Padding → Firsts → Firsts
 padded padding.Space f = all
 padded padding.Zero f = f

@@ -1,4 +1,4 @@
--- The values that components give of a moment, and when they are all of it. `Y` is the greatest year.
+-- The values of a moment that components give, and when these determine it. `Y` is the greatest year.
 use Rattle.std.specs.Prelude.{◌≡◌, ℕ, List, [], ◌∷◌, ◌++◌, false, Option, None, Some, option_and_then, Result, Ok, Err, pos, unsigned_abs, MatchOption}
 use Rattle.time_values.specs.declared.offset_date_time.OffsetDateTime.{OffsetDateTime}
 use Rattle.time_values.specs.Dates as Dates
@@ -25,7 +25,7 @@ use Rattle.restamp_verdict.specs.declared.reading.Reading.TheVariants as reading
 
 -- ---- The text of a moment by a tree, and when it parses back. `Y` is the greatest year.
 
--- a text, or no bytes if there is none
+-- a text, or no bytes if it can't be written
 abbrev pub or_nothing : Result (List ℕ) Unformattable → List ℕ
 or_nothing (Ok text) = text
 or_nothing (Err why) = []
@@ -64,13 +64,13 @@ AllStop Y v [] = Unit {0}
 AllStop Y v (verbatim text ∷ ps) = AllStop Y v ps
 AllStop Y v (part c ∷ ps) = Stops Y v c (whole_text Y v ps) × AllStop Y v ps
 
--- the record with each component's value of the moment set in turn, or none if one is out of range
+-- the record with each component's value of the moment set in turn, or `None` if one is out of range
 abbrev pub put_values : ℕ → OffsetDateTime → List Piece → Record → Option Record
 put_values Y v [] r = Some r
 put_values Y v (verbatim text ∷ ps) r = put_values Y v ps r
 put_values Y v (part c ∷ ps) r = option_and_then (put_values Y v ps) (put_value Y c (value_of Y v c) r)
 
--- The text of the moment by the tree has all of it with the defaults: each component's text is parsed whole, and the
+-- The text of the moment by the tree determines it with the defaults: each component's text is parsed whole, and the
 -- values of the components make a record that resolves to that moment with the defaults.
 pub record DeterminesMoment (Y : ℕ) (tree : Tree) (defaults : Defaults) (v : OffsetDateTime) : Type 0 where
   pub stops : AllStop Y v (pieces tree)
@@ -82,7 +82,7 @@ pub record DeterminesMoment (Y : ℕ) (tree : Tree) (defaults : Defaults) (v : O
 abbrev pub no_defaults : Defaults
 no_defaults = record { year = None; offset = None; clocks = None; latest = None }
 
--- The format parses by that tree, and gets all of a moment that is written by it.
+-- The format has that tree, and parses all of the moment from its text by the tree.
 abbrev pub ReadsTree : ℕ → Reading → Defaults → Tree → OffsetDateTime → Type 0
 ReadsTree Y (reading.Described d) defaults tree v = (steps_shape d ≡ tree) × DeterminesMoment Y tree defaults v
 ReadsTree Y (reading.Complete d) defaults tree v = (steps_shape d ≡ tree) × DeterminesMoment Y tree no_defaults v
@@ -91,8 +91,8 @@ ReadsTree Y (reading.Counted d) defaults tree v =
     × (is_negative_fraction (whole_text Y v (pieces tree)) ≡ false)
 ReadsTree Y format defaults tree v = ⊥
 
--- the record with the component's value of the moment: a number of the date, the time or the offset, or a name of it;
--- none for another component
+-- the record with the component's value of the moment, which is a number or a name of the date, the time or the offset;
+-- `None` for any other component
 abbrev pub with_value_of : ℕ → OffsetDateTime → Component → Record → Option Record
 with_value_of Y v (component.Day m) r = Some (record r { day = Some (Dates.day (offset_date v)) })
 with_value_of Y v (component.MonthShort m) r = Some (record r { month = Some (Dates.month (offset_date v)) })

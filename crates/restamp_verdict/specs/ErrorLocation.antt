@@ -52,7 +52,7 @@ abbrev pub IsMatched : Bool → Outcome.Reading → List ℕ → Type 0
 IsMatched true reads text = (rest : List ℕ) × (r : Record) × reads text empty rest r
 IsMatched false reads text = (r : Record) × reads text empty [] r
 
--- a boolean is true if a format matches a prefix of a text
+-- whether a format matches a prefix of a text
 abbrev pub MatchesPrefix : Outcome.Reading → List ℕ → Bool → Type 0
 MatchesPrefix reads text true = IsMatched true reads text
 MatchesPrefix reads text false = IsMatched true reads text → ⊥
@@ -62,10 +62,11 @@ abbrev pub column_at : ℕ → Option ℕ → ℕ
 column_at start None = start + 1
 column_at start (Some index) = start + index + 1
 
--- The location of a rejected value: where the component starts that the error reports as out of range.
+-- The location of a rejected value: the start of the component that the error reports as out of range.
 abbrev pub IsValueLocation : Marking → ℕ → List ℕ → Refusal → ErrorLocation → Type 0
 IsValueLocation marks start text e w =
-    (index : Option ℕ) × IsValueAt marks text empty (range_name e) index × (w ≡ error_location (column_at start index) None)
+    (index : Option ℕ) × IsValueAt marks text empty (range_name e) index
+    × (w ≡ error_location (column_at start index) None)
 
 -- The location where a format fails to match a part of a line.
 abbrev pub IsMismatchLocation : Outcome.Reading → Locating → ℕ → List ℕ → ErrorLocation → Type 0
@@ -92,7 +93,7 @@ is_trailing e = false
 abbrev pub IsPrefixLocation : ℕ → ℕ → List ℕ → Refusal → ErrorLocation → Type 0
 IsPrefixLocation Y = IsLocationBy (Rfc3339.Reads Y) located_rfc3339.Locates located_rfc3339.Marks true
 
--- the location behind the suffix of such a prefix
+-- the location behind the suffix that follows a prefix by RFC 3339
 abbrev pub IsLocationBehind : ℕ → List ℕ → Match → ErrorLocation → Type 0
 IsLocationBehind start text front w =
     (s : Suffix) × IsLongestSuffix (drop front.length text) s
@@ -109,7 +110,7 @@ abbrev pub IsZonedLocation : ℕ → ℕ → List ℕ → Refusal → ErrorLocat
 IsZonedLocation Y start text e w =
     MatchBool (is_trailing e) (IsTailLocation Y start text e w) (IsPrefixLocation Y start text e w)
 
--- The location of the error by any of the formats. Defaults don't count, since they only supply what a text omits.
+-- The location of the error by any of the formats. Defaults have no effect, since they only supply what a text omits.
 abbrev pub IsPartLocation : ℕ → Reading → Bool → ℕ → List ℕ → Refusal → ErrorLocation → Type 0
 IsPartLocation Y reading.Rfc3339 = IsLocationBy (Rfc3339.Reads Y) located_rfc3339.Locates located_rfc3339.Marks
 IsPartLocation Y (reading.Zoned zones) = λ _. IsZonedLocation Y
@@ -124,7 +125,8 @@ abbrev pub refusal_in : Reason → Option Refusal
 refusal_in (unread e) = Some e
 refusal_in reason = None
 
--- The location of the error in a line whose timestamp no format matches, by the first format; `otherwise` without one.
+-- The location of the error in a line whose timestamp no format matches, by the first format; `otherwise` if the line
+-- has no timestamp.
 abbrev pub IsUnreadAt : ℕ → Job → List ℕ → Refusal → ErrorLocation → ErrorLocation → Type 0
 IsUnreadAt Y job line e otherwise w =
     MatchOption job.place (w ≡ otherwise)
@@ -155,10 +157,11 @@ IsRefusedBySuffix Y job line otherwise w =
 abbrev pub IsErrorLocation : ℕ → Job → List ℕ → ℕ → Reason → ErrorLocation → Type 0
 IsErrorLocation Y job line column reason w =
     MatchOption (refusal_in reason)
-    (MatchBool (is_of_suffix reason) (IsRefusedBySuffix Y job line (error_location column None) w) (w ≡ error_location column None))
+    (MatchBool (is_of_suffix reason) (IsRefusedBySuffix Y job line (error_location column None) w)
+    (w ≡ error_location column None))
     (λ e. IsUnreadAt Y job line e (error_location column None) w)
 
--- The error has one location, where one thing was expected or nothing is reported as expected.
+-- The error has one location, and one report of what was expected there, which may be `None`.
 abbrev pub OneErrorLocation : ℕ → Type 0
 OneErrorLocation Y =
     (job : Job) (line : List ℕ) (column : ℕ) (reason : Reason) (w other : ErrorLocation)
@@ -166,14 +169,14 @@ OneErrorLocation Y =
 
 -- ---- The part that is missing from a rejected timestamp. `Y` is the greatest year.
 
--- a record has a whole year, and a whole ISO 8601 week year
+-- a record has a whole year; it has a whole ISO 8601 week year
 abbrev pub has_whole_year : Record → Bool
 has_whole_year r = is_some r.year || (is_some r.year_century && is_some r.year_last_two)
 
 abbrev pub has_whole_iso_year : Record → Bool
 has_whole_iso_year r = is_some r.iso_year || (is_some r.iso_year_century && is_some r.iso_year_last_two)
 
--- a record has a day of a year, and of an ISO 8601 week year
+-- a record has a day of a year; it has a day of an ISO 8601 week year
 abbrev pub has_day : Record → Bool
 has_day r =
     is_some r.ordinal || (is_some r.month && is_some r.day)
@@ -207,7 +210,7 @@ missing_time_field r =
 abbrev pub missing_field_in : Record → MissingField
 missing_field_in r = if has_full_date r then missing_time_field r else missing_date_field r
 
--- the defaults with the year of `latest`, which a moment without a year may not be after
+-- the defaults with the year of `latest`, if that is set: a text without a year means no later moment
 abbrev pub dated_by : Defaults → Option OffsetDateTime → Defaults
 dated_by d None = d
 dated_by d (Some v) = in_year (Dates.year (offset_date v)) d.offset d.clocks
@@ -215,13 +218,15 @@ dated_by d (Some v) = in_year (Dates.year (offset_date v)) d.offset d.clocks
 abbrev pub dated : Defaults → Defaults
 dated d = dated_by d d.latest
 
--- The missing part of a text with a prefix that a format matches, with defaults for what it omits.
+-- The missing part of a text, with defaults for what the text omits. A format has to match a prefix of the text.
 abbrev pub IsMissingFieldBy : ℕ → Outcome.Reading → Refusing → Defaults → List ℕ → Option MissingField → Type 0
 IsMissingFieldBy Y reads refuses defaults text result =
     ((e : Refusal) × refuses text empty e × (result ≡ None))
-    ⊎ ((rest : List ℕ) × (r : Record) × reads text empty rest r × (result ≡ Some (missing_field_in (completed Y defaults r))))
+    ⊎ ((rest : List ℕ) × (r : Record) × reads text empty rest r
+    × (result ≡ Some (missing_field_in (completed Y defaults r))))
 
--- The missing part by any of the formats. RFC 3339 and RFC 2822 give all of a moment, and a complete description gets no defaults.
+-- The missing part by any of the formats. RFC 3339 and RFC 2822 give all of a moment, and a complete description gets
+-- no defaults.
 abbrev pub IsMissingFieldIn : ℕ → Reading → Defaults → List ℕ → Option MissingField → Type 0
 IsMissingFieldIn Y reading.Rfc3339 defaults text result = result ≡ None
 IsMissingFieldIn Y (reading.Zoned zones) defaults text result = result ≡ None
@@ -229,12 +234,14 @@ IsMissingFieldIn Y reading.Rfc2822 defaults text result = result ≡ None
 IsMissingFieldIn Y reading.Iso8601 defaults text result =
     IsMissingFieldBy Y (Iso8601.Reads Y) (Iso8601.Refuses Y) defaults text result
 IsMissingFieldIn Y (reading.Described d) defaults text result =
-    IsMissingFieldBy Y (Description.Reads Y (steps_shape d)) (Description.Refuses Y (steps_shape d)) defaults text result
+    IsMissingFieldBy Y (Description.Reads Y (steps_shape d))
+    (Description.Refuses Y (steps_shape d)) defaults text result
 IsMissingFieldIn Y (reading.Complete d) defaults text result = result ≡ None
 IsMissingFieldIn Y (reading.Counted d) defaults text result =
-    IsMissingFieldBy Y (Description.Reads Y (steps_shape d)) (Description.Refuses Y (steps_shape d)) defaults text result
+    IsMissingFieldBy Y (Description.Reads Y (steps_shape d))
+    (Description.Refuses Y (steps_shape d)) defaults text result
 
--- the error that information is missing
+-- the error for missing information, and the reason with it
 abbrev pub is_incomplete : Refusal → Bool
 is_incomplete insufficient = true
 is_incomplete e = false
@@ -252,8 +259,8 @@ IsMissingField Y job line reason result =
     (λ span. IsMissingFieldIn Y job.first.now (dated job.defaults) (slice_range line span.start span.stop) result)))
     (result ≡ None)
 
--- the text of why a timestamp isn't rewritten, with the name of its zone: the reason, or in its place the missing
--- part
+-- the printed text of why a timestamp isn't rewritten, with the name of its zone: the reason, or the missing part in
+-- its place
 abbrev pub why_text : List ℕ → Reason → Option MissingField → List ℕ
 why_text zone reason None = text_with zone reason
 why_text zone reason (Some missing_field) = missing_field_text missing_field

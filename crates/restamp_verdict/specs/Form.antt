@@ -23,12 +23,12 @@ use Rattle.restamp_verdict.specs.declared.form.Unit.TheVariants.{Seconds, Millis
 use Rattle.restamp_verdict.specs.declared.form.Writing.{Writing}
 use Rattle.restamp_verdict.specs.declared.form.Writing.TheVariants.{Named, Described}
 
--- a text, or the reason why there is none
+-- a text, or the reason why the moment has no text
 abbrev pub written : Result Items Unwritable → Result Items Reason
 written (Ok text) = Ok text
 written (Err why) = Err (unwritable why)
 
--- a text by a description, or the reason why there is none
+-- a text by a description, or the reason why the moment has no such text
 abbrev pub described : Result (List ℕ) Unformattable → Result Items Reason
 described (Ok bytes) = Ok (record { items = bytes })
 described (Err why) = Err (unformattable why)
@@ -40,7 +40,8 @@ unit_of Milliseconds = 1_000_000
 unit_of Microseconds = 1_000
 unit_of Nanoseconds = 1
 
--- the whole units since 1970-01-01T00:00:00Z, rounded down, as a decimal number; an error if the moment has no date in UTC
+-- the whole units since 1970-01-01T00:00:00Z, rounded down, as a decimal number; an error if the moment has no date in
+-- UTC
 abbrev pub IsCounted : ℕ → Unit_ → OffsetDateTime → Result Items Reason → Type 0
 IsCounted Y unit v (Ok text) =
     IsInstant Y (offset_instant Y v)

@@ -26,7 +26,8 @@ pub data Verdict : Type 0 where
 
 -- The verdict satisfies a relation, with `text` as the text of a rewritten line. `IsOf` relates the reason of a
 -- rejected line to what the caller keeps of it.
-abbrev pub GivesVerdict : {E : Type 0} → (Reason → E → Type 0) → (Verdict → Type 0) → declared.Verdict E → Items → Type 0
+abbrev pub GivesVerdict : {E : Type 0} → (Reason → E → Type 0) → (Verdict → Type 0) → declared.Verdict E → Items
+    → Type 0
 GivesVerdict IsOf P variant.Without text = P without
 GivesVerdict IsOf P (variant.Rewritten start length) text = P (rewritten start length text.items)
 GivesVerdict IsOf P variant.Dropped text = P dropped
@@ -39,7 +40,7 @@ EndsWithin n (variant.Rewritten start length) = start + length ≤ n
 EndsWithin n variant.Dropped = Unit {0}
 EndsWithin n (variant.Refused column e) = Unit {0}
 
--- the moment is before the bound; `otherwise` if there is none
+-- the moment is before the bound; `otherwise` without a bound
 abbrev pub is_before : ℕ → OffsetDateTime → Option OffsetDateTime → Bool → Bool
 is_before Y v None otherwise = otherwise
 is_before Y v (Some bound) otherwise = int_lt (offset_instant Y v) (offset_instant Y bound)
@@ -63,7 +64,7 @@ abbrev pub IsPutWithin : ℕ → Job → ℕ → Match → Verdict → Type 0
 IsPutWithin Y job start said verdict =
     MatchBool (is_kept Y job said.moment) (IsWrittenOver Y job start said verdict) (verdict ≡ dropped)
 
--- The verdict on a match that is rejected, whatever the bounds, if it ends after the first `LIMIT` bytes.
+-- The verdict on a match. A match that ends after the first `LIMIT` bytes is rejected, whatever the bounds.
 abbrev pub IsPut : ℕ → Job → ℕ → Match → Verdict → Type 0
 IsPut Y job start said verdict =
     MatchBool (nat_lt LIMIT (start + said.start + said.length)) (verdict ≡ refused (start + said.start + 1) too_far)
@@ -116,11 +117,11 @@ MatchesFrom Y job line k result =
     MatchBool (is_inside line k) (result ≡ None)
     (AreTriedAlone Y job line k (job.first.now ∷ job.others.now) result)
 
--- The line has no match from any of its first n bytes on.
+-- No format matches from any of the first n bytes of the line on.
 abbrev pub MatchesNoneBefore : ℕ → Job → List ℕ → ℕ → Type 0
 MatchesNoneBefore Y job line n = (k : ℕ) → k < n → MatchesFrom Y job line k None
 
--- The first byte from which on the line has a match, with the match; or there is none.
+-- The first byte of the line from which on a format matches, with the match; `None` if no format matches anywhere.
 abbrev pub IsFirst : ℕ → Job → List ℕ → Option (ℕ × Match) → Type 0
 IsFirst Y job line None = MatchesNoneBefore Y job line (length line)
 IsFirst Y job line (Some found) =

@@ -42,7 +42,7 @@ use Rattle.restamp_verdict.specs.declared.reading.Reading.TheVariants as reading
 use Rattle.restamp_verdict.specs.declared.reading.TheConstants.{MOST_STEPS}
 use Rattle.restamp_verdict.specs.declared.reading.Match.{Match}
 
--- Each line has exactly one verdict.
+-- Each line has at most one verdict.
 abbrev pub OneVerdict : ℕ → Type 0
 OneVerdict Y = (job : Job) (line : List ℕ) (verdict other : Verdict)
     → IsJudged Y job line verdict → IsJudged Y job line other → verdict ≡ other
@@ -55,8 +55,8 @@ HasDigits k v = kept k (Times.nanosecond (offset_time v)) ≡ Times.nanosecond (
 abbrev pub AutoHasAll : Type 0
 AutoHasAll = (v : OffsetDateTime) → HasDigits (written Auto v) v
 
--- The format parses all of a moment that is written so. A named format is the one that wrote the text, with each
--- nonzero digit; a description has the same tree.
+-- The format parses all of the moment from its text by the output format. A named format is the one that wrote the
+-- text, with each nonzero digit; a description has the tree of the one that wrote it.
 abbrev pub ReadsAll : ℕ → Reading → Defaults → Writing → FractionDigits → OffsetDateTime → Type 0
 ReadsAll Y format defaults (Named Rfc3339) digits v = (format ≡ reading.Rfc3339) × HasDigits (written digits v) v
 ReadsAll Y format defaults (Named Rfc2822) digits v = (format ≡ reading.Rfc2822) × HasDigits 0 v
@@ -71,7 +71,7 @@ IsReadable Y format defaults form v bytes =
     × ReadsAll Y format defaults form.writing.now form.digits w)
     × ((text : Items) × IsWritten Y form v (Ok text) × (bytes ≡ text.items))
 
--- Such a text parses as that moment, converted to the clock of its form, with all its bytes.
+-- A text of `IsReadable` parses as its moment, converted to the clock of its form, with all its bytes.
 abbrev pub ReadsRewrittenBack : ℕ → Type 0
 ReadsRewrittenBack Y =
     (format : Reading) (defaults : Defaults) (form : Form) (v : OffsetDateTime) (bytes : List ℕ)
@@ -108,7 +108,7 @@ pub record HasZone (Y : ℕ) (zones : Zones) (defaults : Defaults) (form : Form)
   pub of_clock : IsZoneOfClock zones form.clock zone
   pub told : IsZoneText name zone
 
--- Such a text with that suffix parses as the moment, converted to the clock of the form, with all its bytes.
+-- A text of `HasZone` with that suffix parses as its moment, converted to the clock of the form, with all its bytes.
 abbrev pub ReadsZonedBack : ℕ → Type 0
 ReadsZonedBack Y =
     (zones : Zones) (defaults : Defaults) (form : Form) (v : OffsetDateTime) (text name : List ℕ)
@@ -118,7 +118,7 @@ ReadsZonedBack Y =
     → IsOkAnd read (λ said. IsConverted Y form.clock v (Some said.moment) × (said.start ≡ 0)
     × (said.length ≡ length (text ++ bracketed false name)))
 
--- That moment has the same text in the form.
+-- The moment as which a text of `HasZone` with that suffix parses has the same text in the form.
 abbrev pub WritesZonedSame : ℕ → Type 0
 WritesZonedSame Y =
     (zones : Zones) (defaults : Defaults) (form : Form) (v : OffsetDateTime) (text name : List ℕ) (said : Match)
@@ -127,7 +127,7 @@ WritesZonedSame Y =
     → ParsesAs Y (reading.Zoned zones) false (text ++ bracketed false name) defaults (Ok said)
     → IsWritten Y form said.moment again → IsOkAnd again (λ written. written.items ≡ text)
 
--- A text of a form parses as a moment that has the same text in the form.
+-- A text of `IsReadable` parses as a moment that has the same text in the form.
 abbrev pub WritesSameText : ℕ → Type 0
 WritesSameText Y =
     (format : Reading) (defaults : Defaults) (form : Form) (v : OffsetDateTime) (bytes : List ℕ) (said : Match)
@@ -135,8 +135,9 @@ WritesSameText Y =
     → IsReadable Y format defaults form v bytes → ParsesAs Y format false bytes defaults (Ok said)
     → IsWritten Y form said.moment again → IsOkAnd again (λ text. text.items ≡ bytes)
 
--- A line with such a text at its place, by the job's own form and its first format, keeps its bytes: the text replaces
--- itself, or the line is dropped because the moment lies outside the bounds, or the text ends too far behind.
+-- A line with a text of `IsReadable` at its place, by the job's own form and its first format, keeps its bytes: the
+-- text replaces itself. Otherwise the line is dropped, because the moment lies outside the bounds, or it is rejected,
+-- because the text ends too far behind.
 abbrev pub ChangesNothing : ℕ → Type 0
 ChangesNothing Y =
     (job : Job) (place : Place) (line : List ℕ) (span : Span) (v : OffsetDateTime) (bytes : List ℕ) (verdict : Verdict)
@@ -146,7 +147,7 @@ ChangesNothing Y =
     → MatchBool (nat_lt LIMIT (span.start + length bytes)) (verdict ≡ refused (span.start + 1) too_far)
     (MatchBool (is_kept Y job v) (verdict ≡ rewritten span.start (length bytes) bytes) (verdict ≡ dropped))
 
--- A tree gives all of a moment with the defaults if the record of its components' values has all of it with them, and
+-- A tree determines a moment with the defaults if the record of its components' values has all of it with them, and
 -- each component's text is parsed whole.
 abbrev pub AllValuesDetermine : ℕ → Type 0
 AllValuesDetermine Y =
@@ -163,7 +164,7 @@ KeepsMoment Y =
 abbrev pub SignsDetermine : Type 0
 SignsDetermine = (o : UtcOffset) → SignDetermines o
 
--- A text that names both a format to parse by and a description to write by has one tree.
+-- If a text names both a format to parse by and a description to write by, both have the same tree.
 abbrev pub OneTree : Type 0
 OneTree =
     (text : List ℕ) (format : Reading) (d : Description MOST_STEPS)
@@ -179,27 +180,28 @@ CommonReadsBack Y =
     → Times.nanosecond (offset_time v) ≡ 0 → Offsets.seconds (offset_of v) ≡ pos 0
     → ReadsTree Y format defaults (shape d) v
 
--- ---- Verdicts by tables of zones that differ only in names that aren't in a line
+-- ---- Verdicts with tables of zones that differ only in names that aren't in a line
 
 -- each name in brackets where a timestamp may end has one zone in both tables, or none
 abbrev pub SameZones : List ℕ → Zones → Zones → Type 0
 SameZones bytes zones other = (name : List ℕ) → IsNameIn bytes name → SameNamed zones other name
 
--- the formats are equal, but for such tables
+-- the formats are equal, except for tables of zones as above
 abbrev pub AreEquivalent : List ℕ → Reading → Reading → Type 0
 AreEquivalent bytes format other =
     (format ≡ other)
     ⊎ ((zones same : Zones) × (format ≡ reading.Zoned zones) × (other ≡ reading.Zoned same)
     × SameZones bytes zones same)
 
--- the formats of two lists are pairwise equal, but for such tables
+-- the formats of two lists are pairwise equal, except for tables of zones as above
 abbrev pub AllEquivalent : List ℕ → List Reading → List Reading → Type 0
 AllEquivalent bytes [] [] = Unit {0}
 AllEquivalent bytes [] (other ∷ others) = ⊥
 AllEquivalent bytes (format ∷ formats) [] = ⊥
-AllEquivalent bytes (format ∷ formats) (other ∷ others) = AreEquivalent bytes format other × AllEquivalent bytes formats others
+AllEquivalent bytes (format ∷ formats) (other ∷ others) = AreEquivalent bytes format other
+    × AllEquivalent bytes formats others
 
--- the jobs are equal, but for tables of zones that have the same zones for each name in the line
+-- the jobs are equal, except for tables of zones that have the same zones for each name in the line
 pub record DiffersInZones (line : List ℕ) (job other : Job) : Type 0 where
   pub first : AreEquivalent line job.first.now other.first.now
   pub others : AllEquivalent line job.others.now other.others.now

@@ -1,4 +1,4 @@
--- The parts that all texts of a description's tree omit, so that none of them is a moment.
+-- The parts that all texts of a description's tree omit, so that no text by it is a moment.
 use Rattle.std.specs.Prelude.{Bool, true, false, not, ◌&&◌, ◌||◌, List, codes, ℕ, Option, None, Some, if◌then◌else◌, ◌≡◌, is_some, Result, Ok}
 use Rattle.time_values.specs.Refusal.{Refusal}
 use Rattle.time_values.specs.declared.offset_date_time.OffsetDateTime.{OffsetDateTime}
@@ -78,7 +78,7 @@ same kind.Other kind.Other = true
 same k j = false
 
 abbrev mutual
-  -- some component of the tree gives it
+  -- some component of the tree gives that part
   pub says : Kind → Tree → Bool
   says k (literal text) = false
   says k (component whole c) = same (kind_of c) k
@@ -112,12 +112,12 @@ abbrev mutual
   always p (first_of none) = false
   always p (first_of (more t ts)) = each_always p (more t ts)
 
-  -- one of these trees in turn does
+  -- each reading of these trees in sequence has the part
   pub one_always : Part → Trees → Bool
   one_always p none = false
   one_always p (more t ts) = always p t || one_always p ts
 
-  -- each of the trees does
+  -- each reading of every tree has the part
   pub each_always : Part → Trees → Bool
   each_always p none = true
   each_always p (more t ts) = always p t && each_always p ts
@@ -139,12 +139,13 @@ has_whole_year t = says kind.Year t || (says kind.YearCentury t && says kind.Yea
 abbrev pub has_whole_iso_year : Tree → Bool
 has_whole_iso_year t = says kind.IsoYear t || (says kind.IsoYearCentury t && says kind.IsoYearLastTwo t)
 
--- The tree gives a day with its year. A default year counts where a text may have no part of a year.
+-- The tree gives a day with its year. A default year counts if a text may have no part of a year.
 abbrev pub has_full_date : Bool → Tree → Bool
 has_full_date has_year t =
-    (has_day t && (has_whole_year t || (has_year && not (always part.Year t)))) || (has_iso_day t && has_whole_iso_year t)
+    (has_day t && (has_whole_year t || (has_year && not (always part.Year t))))
+    || (has_iso_day t && has_whole_iso_year t)
 
--- The part that all texts of a tree omit, so that none of them is a moment; with or without a default year. A count
+-- The part that all texts of a tree omit, so that none of them is a moment, with or without a default year. A count
 -- from 1970 gives all of a moment, and an offset always has a default.
 abbrev pub missing_field_of : Bool → Tree → Option MissingField
 missing_field_of has_year t =
@@ -165,8 +166,8 @@ format_missing_field has_year (reading.Described d) = missing_field_of has_year 
 format_missing_field has_year (reading.Complete d) = missing_field_of has_year (steps_shape d)
 format_missing_field has_year (reading.Counted d) = missing_field_of has_year (steps_shape d)
 
--- Whether a default year or offset can count for a text of the format. Texts of RFC 3339, RFC 2822 and a complete
--- description have all of a moment; a date of ISO 8601 has its year.
+-- Whether a default year or offset can have an effect on a text of the format. Texts of RFC 3339, RFC 2822 and a
+-- complete description have all of a moment; a date of ISO 8601 has its year.
 abbrev pub can_default : Part → Reading → Bool
 can_default p reading.Rfc3339 = false
 can_default p (reading.Zoned zones) = false
@@ -177,7 +178,7 @@ can_default p (reading.Described d) = not (always p (steps_shape d))
 can_default p (reading.Complete d) = false
 can_default p (reading.Counted d) = not (always p (steps_shape d))
 
--- the text that is printed
+-- the printed text of a missing part
 abbrev pub missing_field_text : MissingField → List ℕ
 missing_field_text missing_field.Day = codes "it says no day"
 missing_field_text missing_field.Year = codes "it says no year; --year or --latest gives one"
@@ -197,10 +198,12 @@ has_default_year defaults = is_some defaults.year || is_some defaults.latest
 -- No text, and no prefix of one, parses as a moment by a format with a missing part.
 abbrev pub ParsesNoMoment : ℕ → Type 0
 ParsesNoMoment Y =
-    (format : Reading) (missing_field : MissingField) (is_prefix : Bool) (text : List ℕ) (defaults : Defaults) (said : Match)
-    → format_missing_field (has_default_year defaults) format ≡ Some missing_field → ¬ IsDated Y format is_prefix text defaults (Ok said)
+    (format : Reading) (missing_field : MissingField) (is_prefix : Bool) (text : List ℕ) (defaults : Defaults)
+    (said : Match)
+    → format_missing_field (has_default_year defaults) format ≡ Some missing_field
+    → ¬ IsDated Y format is_prefix text defaults (Ok said)
 
--- Both defaults are equal but for that part.
+-- Both defaults are equal except for that part.
 abbrev pub SameBut : Part → Defaults → Defaults → Type 0
 SameBut part.Year defaults others = defaults.offset ≡ others.offset
 SameBut part.Offset defaults others = defaults.year ≡ others.year

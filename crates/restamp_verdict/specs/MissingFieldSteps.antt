@@ -6,7 +6,7 @@ use Rattle.time_components.specs.declared.inspect.Step.TheVariants as step
 use Rattle.restamp_verdict.specs.MissingField.{kind_of, same}
 use Rattle.restamp_verdict.specs.declared.missing_field.Kind.{Kind}
 
--- the step is a component that gives it
+-- the step is a component that gives that part
 abbrev pub step_has : Kind → Step → Bool
 step_has k (step.Component c) = same (kind_of c) k
 step_has k s = false

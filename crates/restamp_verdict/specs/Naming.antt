@@ -21,8 +21,8 @@ use Rattle.restamp_verdict.specs.declared.reading.Reading.{Reading}
 use Rattle.restamp_verdict.specs.declared.reading.Reading.TheVariants as reading
 use Rattle.restamp_verdict.specs.declared.reading.TheConstants.{MOST_STEPS}
 
--- how a text names a format: one of the three, or by a description, in brackets or as in strftime; a description of a
--- number of seconds, or one whose texts have all of a moment
+-- how a text names a format: by one of three names, or by a description; a description of a number of seconds, one
+-- whose texts have all of a moment, one in brackets, or one as in strftime
 pub data FormatName : Type 0 where
   rfc3339 : FormatName
   rfc2822 : FormatName
@@ -33,7 +33,7 @@ pub data FormatName : Type 0 where
   strftime : List ℕ → FormatName
   unknown : FormatName
 
--- the way without its addresses
+-- the name of a format without the addresses of its texts
 abbrev pub erased_format_name : declared.FormatName → FormatName
 erased_format_name variant.Rfc3339 = rfc3339
 erased_format_name variant.Rfc2822 = rfc2822
@@ -57,7 +57,7 @@ abbrev pub common_text : List ℕ
 common_text =
     codes "[day]/[month repr:short]/[year]:[hour]:[minute]:[second] [offset_hour sign:mandatory][offset_minute]"
 
--- the format of that name: each but three is a description
+-- the format of that name: all but three are descriptions
 abbrev pub format_name_of : List ℕ → FormatName
 format_name_of name =
     if bytes_eq name (codes "rfc3339") then rfc3339 else
@@ -71,8 +71,8 @@ format_name_of name =
     if bytes_eq name (codes "syslog") then
     brackets (codes "[month repr:short] [day padding:space] [hour]:[minute]:[second]") else description_name name
 
--- the meaning of a format: a format without a description (RFC 9557 has no name here); or the tree of a description; a
--- description whose texts have all of a moment, or one of a number of seconds
+-- the meaning of a format: a format without a description (RFC 9557 has no name here); the tree of a description; the
+-- tree of a description whose texts have all of a moment; or the tree of a number of seconds
 pub data Meaning : Type 0 where
   as_rfc3339 : Meaning
   as_rfc9557 : Meaning
@@ -100,7 +100,7 @@ abbrev pub fault_of : FormatFault → Fault
 fault_of fault.Unknown = unnamed
 fault_of (fault.Description e) = faulty (refusal_of e)
 
--- the meaning of a format that is named so
+-- the meaning of a format, by its name
 abbrev pub Means : FormatName → Meaning → Type 0
 Means rfc3339 meaning = meaning ≡ as_rfc3339
 Means rfc2822 meaning = meaning ≡ as_rfc2822
@@ -111,7 +111,7 @@ Means (brackets text) meaning = (tree : Tree) × Describes (version_of 2) text t
 Means (strftime text) meaning = (tree : Tree) × DescribesStrftime text tree × (meaning ≡ as_tree tree)
 Means unknown meaning = ⊥
 
--- the error of a format that is named so
+-- the error of a format, by its name
 abbrev pub IsFault : FormatName → Fault → Type 0
 IsFault rfc3339 f = ⊥
 IsFault rfc2822 f = ⊥

@@ -30,7 +30,7 @@ use Rattle.restamp_verdict.specs.declared.reading.Match.{Match}
 use Rattle.restamp_verdict.specs.declared.reading.Defaults.{Defaults}
 use Rattle.restamp_verdict.specs.declared.dated.Undated as declared
 
--- a match of the first bytes of a text
+-- a match of the first n bytes of a text
 abbrev pub said : OffsetDateTime → ℕ → Match
 said v n = record { moment = v; start = 0; length = n }
 
@@ -44,7 +44,7 @@ abbrev pub all_of : List ℕ → Result OffsetDateTime Refusal → Result Match 
 all_of text (Ok v) = Ok (said v (length text))
 all_of text (Err e) = Err e
 
--- the match of a prefix of a text, by the outcome of its parse, which has the rest
+-- the match of a prefix of a text, by the outcome of its parse, which includes the rest
 abbrev pub front_of : List ℕ → Result (OffsetDateTime × List ℕ) Refusal → Result Match Refusal
 front_of text (Ok x) = Ok (said x.0 (length text - length x.1))
 front_of text (Err e) = Err e
@@ -119,7 +119,8 @@ bare_where true text (Ok s) = Ok (bare text s)
 bare_where true text (Err e) = Err e
 bare_where false text result = result
 
--- The match of a mail date, RFC 2822, which may have white space around it. If `is_prefix` is true the match leaves that out.
+-- The match of a mail date, RFC 2822, which may have white space around it. The match excludes the white space if
+-- `is_prefix` is true.
 abbrev pub IsReadMail : ℕ → Bool → List ℕ → Result Match Refusal → Type 0
 IsReadMail Y is_prefix text result =
     (padded : Result Match Refusal)
@@ -131,7 +132,7 @@ abbrev pub IsReadInFront : ℕ → List ℕ → Result Match Refusal → Type 0
 IsReadInFront Y = IsReadBy Y true (direct (RefusesRfc3339 Y)) (Rfc3339.Reads Y) (Rfc3339.Refuses Y)
 
 -- The match by any of the formats; for RFC 9557, that of the text before the suffix. RFC 3339, RFC 2822 and a complete
--- description give all of a moment, so defaults don't count for them.
+-- description give all of a moment, so defaults have no effect on them.
 abbrev pub IsRead : ℕ → Reading → Bool → List ℕ → Defaults → Result Match Refusal → Type 0
 IsRead Y reading.Rfc3339 is_prefix text defaults =
     IsReadBy Y is_prefix (direct (RefusesRfc3339 Y)) (Rfc3339.Reads Y) (Rfc3339.Refuses Y) text
@@ -181,7 +182,7 @@ abbrev pub guarded : Reading → List ℕ → Match → Result Match Reason
 guarded format text s =
     if is_counted format && is_negative_fraction (take s.length text) then Err negative_fraction else Ok s
 
--- that result, where a suffix may follow the match
+-- that result; for a format with zones, the match with the longest suffix after it, or an error
 abbrev pub IsGuarded : Reading → Bool → List ℕ → Match → Result Match Reason → Type 0
 IsGuarded format is_prefix text s result =
     MatchOption (zones_of format) (result ≡ guarded format text s) (λ zones. IsSuffixed zones is_prefix text s result)
@@ -210,7 +211,8 @@ ParsesInZone Y clocks format is_prefix text defaults result =
     × (shown : Result Match Reason) × ParsesAs Y format is_prefix text (at_offset utc defaults) shown
     × MatchResult shown
     (λ s. (offset : Result UtcOffset Reason) × IsOffsetWhen clocks s.moment offset
-    × MatchResult offset (λ o. ParsesAs Y format is_prefix text (at_offset o defaults) result) (λ why. result ≡ Err why))
+    × MatchResult offset (λ o. ParsesAs Y format is_prefix text (at_offset o defaults) result)
+    (λ why. result ≡ Err why))
     (λ why. result ≡ Err why)
 
 -- The match of a text by a format; if the format rejects it, as a local time in the zone of the defaults.
@@ -239,7 +241,7 @@ abbrev pub undated : Reading → Bool → List ℕ → Option UtcOffset → Opti
 undated format is_prefix text offset clocks latest =
     record { format = format; is_prefix = is_prefix; text = text; offset = offset; clocks = clocks; latest = latest }
 
--- the value without its addresses
+-- the text and its format without their addresses
 abbrev pub erased_undated : declared.Undated → Undated
 erased_undated u = undated u.reading.now u.is_prefix u.text.now u.offset u.clocks u.latest
 
@@ -255,7 +257,7 @@ in_year year offset clocks = record { year = Some year; offset = offset; clocks 
 abbrev pub IsReadInYear : ℕ → Undated → ℤ → Result Match Reason → Type 0
 IsReadInYear Y u year = ParsesLocally Y u.format u.is_prefix u.text (in_year year u.offset u.clocks)
 
--- a match that isn't too late
+-- the result is a match that isn't too late, that is, not after the latest moment
 abbrev pub is_early : ℕ → OffsetDateTime → Result Match Reason → Bool
 is_early Y latest (Ok s) = not (is_after Y s.moment latest)
 is_early Y latest (Err why) = false
@@ -271,8 +273,8 @@ IsEarly Y u year early =
 abbrev pub IsFinal : ℕ → Undated → ℤ → Reason → Bool → Type 0
 IsFinal Y u year why final = MatchBool (is_local_time_error why) (IsEarly Y u year final) (final ≡ false)
 
--- The match with the first of `count` years, from that one down, that gives a moment that isn't too late, or for which
--- the zone rejects such a moment; otherwise the last reason.
+-- The result with the first of n years, from `year` down, that gives a moment that isn't too late, or a local time that
+-- isn't too late but that the zone rejects; otherwise the last reason.
 unfoldable pub AreYearsTried : ℕ → Undated → ℕ → ℤ → Reason → Result Match Reason → Type 0
 AreYearsTried Y u zero year reason result = result ≡ Err reason
 AreYearsTried Y u (suc n) year reason result =

@@ -16,7 +16,7 @@ use Rattle.restamp_verdict.specs.declared.reason.Reason.TheVariants as variant
 
 -- no format matches it; it has a fraction after a minus; the local time is nonexistent, or ambiguous with these
 -- offsets; it has no date at an offset; it is outside the range of time zones; its suffix rejects it; it has no text by
--- a format or by a description; it ends too far behind; or the line has none
+-- a format or by a description; it ends too far behind; or the line has no timestamp
 pub data Reason : Type 0 where
   unread : Refusal → Reason
   negative_fraction : Reason
@@ -73,7 +73,7 @@ text_with zone (unformattable why) = unformattable_text why
 text_with zone too_far = codes "the time goes on past byte 262144 of its line"
 text_with zone missing = codes "the line has no place for a time"
 
--- the name of a zone that has no name
+-- what a report calls a zone without a name
 abbrev pub its_zone : List ℕ
 its_zone = codes "its zone"
 
@@ -86,18 +86,19 @@ is_local_time_error nonexistent = true
 is_local_time_error (ambiguous_offsets offsets) = true
 is_local_time_error reason = false
 
--- The result satisfies a relation, where its error is what is kept of a reason.
+-- The result satisfies a relation; its error is what a caller keeps of a reason.
 abbrev pub Gives : {V E : Type 0} → (Reason → E → Type 0) → (Result V Reason → Type 0) → Result V E → Type 0
 Gives IsOf P (Ok v) = P (Ok v)
 Gives IsOf P (Err e) = (reason : Reason) × IsOf reason e × P (Err reason)
 
--- The result is an error, which is what is kept of that reason.
+-- The result is an error: what a caller keeps of that reason.
 abbrev pub IsErrOf : {V E : Type 0} → (Reason → E → Type 0) → Reason → Result V E → Type 0
 IsErrOf IsOf reason (Ok v) = ⊥
 IsErrOf IsOf reason (Err e) = IsOf reason e
 
 -- The relation holds for the text that is stored beside a result, or for the reason that the result keeps.
-abbrev pub Stores : {U E : Type 0} → (Reason → E → Type 0) → (Result Items Reason → Type 0) → Result U E → Items → Type 0
+abbrev pub Stores : {U E : Type 0} → (Reason → E → Type 0) → (Result Items Reason → Type 0) → Result U E → Items
+    → Type 0
 Stores IsOf P (Ok u) text = P (Ok text)
 Stores IsOf P (Err e) text = (reason : Reason) × IsOf reason e × P (Err reason)
 

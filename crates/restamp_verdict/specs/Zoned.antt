@@ -60,7 +60,7 @@ IsChecked zones text front s result =
     × GoesWith zones (tells_offset (take front.length text)) front.moment s.zone (critical_key s.tags) answer
     × (result ≡ checked (extended front s.len) answer)
 
--- bytes follow the timestamp, though none may
+-- bytes that aren't allowed follow the timestamp
 abbrev pub has_tail : Bool → List ℕ → ℕ → Bool
 has_tail is_prefix text end = not is_prefix && nat_lt end (length text)
 
@@ -111,7 +111,7 @@ offsets earlier later = record {
   later = parts_of (offset_seconds (offset_of later));
 }
 
--- the offset of the moment that an ambiguous local time means
+-- the offset of the moment that an ambiguous local time means, or an error
 abbrev pub of_two : Fold → OffsetDateTime → OffsetDateTime → Result UtcOffset Reason
 of_two by.Refuse earlier later = Err (ambiguous_offsets (offsets earlier later))
 of_two by.Earlier earlier later = Ok (offset_of earlier)

@@ -6,12 +6,12 @@ use crate::reason::Reason;
 
 /// What a caller keeps of the reason for a rejected timestamp: the whole [`Reason`], or a [`Brief`].
 ///
-/// The one chain of functions from a line to its [`Verdict`](crate::Verdict) is generic over it. A stream of lines
-/// takes a [`Brief`], since a reason beside each match costs a line as much as the match does.
+/// The functions from a line to its [`Verdict`](crate::Verdict) are generic over this type. A stream of lines uses
+/// [`Brief`], since a whole reason beside each match costs a line as much as the match does.
 pub trait FromReason: Copy {
     ghost use Rattle.restamp_verdict.specs.Reason.{Reason as Reason_, is_local_time_error};
 
-    // The value is kept of that reason.
+    // The value is what a caller keeps of that reason.
     ghost is_of: { Reason_ → Self → Type 0 };
 
     /// Builds the value from a reason.

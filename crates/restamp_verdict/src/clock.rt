@@ -80,15 +80,15 @@ fn tells_offset(front: &[u8]) -> bool
     !(front.ends_with(b"Z") || front.ends_with(b"z") || front.ends_with(b"-00:00"))
 }
 
-// Whether bytes follow a timestamp that ends there, though none may.
+// Whether bytes that aren't allowed follow a timestamp that ends at `end`.
 fn has_tail(is_prefix: bool, text: &[u8], end: usize) -> bool
     ensures { result ≡ spec.has_tail is_prefix text.now end }
 {
     !is_prefix && end < text.len()
 }
 
-// Extends the match of a prefix by the longest suffix after it. An error if the zone or a critical tag of the suffix
-// rejects the moment, or, unless `is_prefix` is true, if more bytes follow.
+// Extends the match of a prefix by the longest suffix after it. Returns an error if the zone or a critical tag of the
+// suffix rejects the moment, or if more bytes follow and `is_prefix` is false.
 fn with_suffix<E: FromReason>(
     zones: &Zones,
     is_prefix: bool,
@@ -115,7 +115,7 @@ fn with_suffix<E: FromReason>(
     }
 }
 
-/// Parses a text of RFC 3339 with a suffix. Not inlined, so that it needs no stack where no timestamp has one.
+/// Parses a text of RFC 3339 with a suffix. Not inlined, so that timestamps without one need no stack for it.
 #[inline(never)]
 pub(crate) fn read_zoned<E: FromReason>(
     zones: &Zones,

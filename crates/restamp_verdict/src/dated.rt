@@ -138,9 +138,10 @@ fn read_undated<E: FromReason>(
     undated.read_years(latest.year() + 1, 10, reason)
 }
 
-// Parses a text that the format rejects for that reason: as a local time in a zone, then with years to try, as far as
-// the defaults allow.
-fn read_unsaid<E: FromReason>(
+// Parses a text that the format rejects for that reason: as a local time in a zone, then with years to try. Not inlined,
+// so that it needs no stack beside texts that the format accepts.
+#[inline(never)]
+fn parse_by_defaults<E: FromReason>(
     reading: &Reading,
     is_prefix: bool,
     text: &[u8],
@@ -158,6 +159,26 @@ fn read_unsaid<E: FromReason>(
     }
 }
 
+// Parses a text that the format rejects for that reason, as far as the defaults allow.
+#[inline(always)]
+fn parse_rejected<E: FromReason>(
+    reading: &Reading,
+    is_prefix: bool,
+    text: &[u8],
+    defaults: &Defaults<'_>,
+    reason: E,
+) -> Result<Match, E>
+    requires { (why : Reason_) × E.is_of why reason
+        × spec.ParsesAs greatest_year reading.now is_prefix text.now defaults.now (Err why) }
+    ensures said { Gives E.is_of (spec.IsDated greatest_year reading.now is_prefix text.now defaults.now) result }
+    ensures within { IfOk result (λ said. said.start + said.length ≤ length text.now) }
+{
+    if !defaults.tries_more() {
+        return Err(reason);
+    }
+    parse_by_defaults(reading, is_prefix, text, defaults, reason)
+}
+
 /// Parses a text by the format, also if the text omits its offset or its year. Not inlined, so that it needs no stack
 /// beside other texts.
 #[tactic(auto, using(crate::proofs::ParseLemmas::dated_at_once))]
@@ -173,7 +194,7 @@ pub(crate) fn parse_dated<E: FromReason>(
 {
     match parse(reading, is_prefix, text, defaults) {
         Ok(said) => Ok(said),
-        Err(reason) => read_unsaid(reading, is_prefix, text, defaults, reason),
+        Err(reason) => parse_rejected(reading, is_prefix, text, defaults, reason),
     }
 }
 
@@ -211,10 +232,8 @@ fn read_others<E: FromReason>(
     Err(reason)
 }
 
-// Parses a text that the first format rejects without more defaults, for that reason. Not inlined, since the first
-// format matches most texts.
-#[inline(never)]
-fn read_further<E: FromReason>(
+/// Parses a text that the first format rejects without more defaults, for that reason.
+pub(crate) fn read_further<E: FromReason>(
     first: &Reading,
     others: &[Reading],
     is_prefix: bool,
@@ -227,7 +246,7 @@ fn read_further<E: FromReason>(
     ensures said { Gives E.is_of (spec.IsReadInTurn greatest_year first.now others.now is_prefix text.now defaults.now) result }
     ensures within { IfOk result (λ said. said.start + said.length ≤ length text.now) }
 {
-    match read_unsaid(first, is_prefix, text, defaults, reason) {
+    match parse_rejected(first, is_prefix, text, defaults, reason) {
         Ok(said) => Ok(said),
         Err(why) => read_others(others, is_prefix, text, defaults, why),
     }
@@ -235,7 +254,6 @@ fn read_further<E: FromReason>(
 
 /// Parses a text by the first of the formats that matches. If none does, the error is the first format's.
 #[tactic(auto, using(crate::proofs::ParseLemmas::in_turn_at_once))]
-#[inline(always)]
 pub(crate) fn parse_in_turn<E: FromReason>(
     first: &Reading,
     others: &[Reading],
@@ -249,7 +267,7 @@ pub(crate) fn parse_in_turn<E: FromReason>(
     if let Some(said) = fast::read_once(first, is_prefix, text, defaults) {
         return Ok(said);
     }
-    match parse(first, is_prefix, text, defaults) {
+    match parse_outlined(first, is_prefix, text, defaults) {
         Ok(said) => Ok(said),
         Err(reason) => read_further(first, others, is_prefix, text, defaults, reason),
     }

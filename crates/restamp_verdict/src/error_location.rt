@@ -46,7 +46,7 @@ fn range_name(error: Parse) -> Option<&'static str>
     }
 }
 
-// The index in the text where the component starts that the error reports as out of range.
+// The index in the text at which the component starts that the error reports as out of range.
 fn index_of_value<F: Locate>(format: &F, text: &[u8], error: Parse) -> Option<usize>
     ensures { located.IsValueAt (F.marks format.now) text.now empty (located.range_name (refusal_of error)) result }
 {
@@ -109,7 +109,7 @@ fn is_trailing(error: Parse) -> bool
     )
 }
 
-// Locates the bytes that follow a suffix, in a part of a line that has too many.
+// Locates the bytes that follow a suffix but aren't allowed, in a part of a line.
 fn find_tail<'f>(start: usize, text: &[u8], error: Parse) -> ErrorLocation<'f>
     requires { start + length text.now + 1 < 2 ^ 64 }
     ensures { spec.IsTailLocation greatest_year start text.now (refusal_of error) (spec.erased_location result) }
@@ -159,11 +159,12 @@ impl Reading {
 }
 
 impl<'a> Job<'a> {
-    /// Locates the error in the timestamp of a line that was rejected at this column for this reason. If no format matches,
-    /// that is the byte where the first format fails, or the start of the component whose value it rejects. If a suffix
-    /// rejects the moment, it is the start of the suffix. For any other reason it is `column`, where the timestamp starts.
+    /// Locates the error in the timestamp of a line that was rejected at `column` for `reason`. If no format matches,
+    /// the location is the byte at which the first format fails, or the start of the component whose value it rejects.
+    /// If a suffix rejects the moment, the location is the start of the suffix. For any other reason it is `column`,
+    /// where the timestamp starts.
     ///
-    /// Defaults don't count: they only supply what a timestamp omits.
+    /// Defaults have no effect: they only supply what a timestamp omits.
     #[inline(never)]
     pub fn find_location(&self, line: &[u8], column: usize, reason: Reason) -> ErrorLocation<'a>
         ensures { spec.IsErrorLocation greatest_year self.now line.now column (seen reason) (spec.erased_location result) }
@@ -200,7 +201,7 @@ impl<'a> Job<'a> {
             .find_location(place.is_prefix(), span.start, text, error)
     }
 
-    // The start of the suffix that rejects the moment; `otherwise` if there is none.
+    // The start of the suffix that rejects the moment; `otherwise` if no timestamp precedes a suffix.
     fn find_suffix(&self, line: &[u8], otherwise: ErrorLocation<'a>) -> ErrorLocation<'a>
         ensures { spec.IsRefusedBySuffix greatest_year self.now line.now (spec.erased_location otherwise.entry) (spec.erased_location result) }
     {
@@ -220,7 +221,7 @@ impl<'a> Job<'a> {
     }
 }
 
-/// The error of a rejected line has one location, where one thing was expected, or nothing is reported as expected.
+/// The error in a rejected line has one location, and one report of what was expected there, which may be `None`.
 #[tactic(auto, using(crate::proofs::OneErrorLocation::one_error_location))]
 pub fn law_one_error_location()
     ensures { spec.OneErrorLocation greatest_year }

@@ -106,7 +106,8 @@ fn wide_number(count: i128) -> Text
     text
 }
 
-// The whole seconds of the moment since 1970; `None` if it has no date in UTC. Much cheaper than its nanoseconds.
+// The whole seconds of the moment since 1970; `None` if it has no date in UTC. They cost much less to compute than its
+// nanoseconds.
 #[inline(always)]
 fn seconds_of(moment: OffsetDateTime) -> Option<i64>
     ensures { MatchOption result (¬ IsInstant greatest_year (offset_instant greatest_year moment))
@@ -135,7 +136,7 @@ fn stamp_of(moment: OffsetDateTime) -> Option<Timestamp>
     }
 }
 
-// The whole milliseconds of the moment since 1970, without numbers of more than 64 bits; `None` if it has no date in UTC.
+// The whole milliseconds of the moment since 1970, computed in 64 bits; `None` if it has no date in UTC.
 #[inline(always)]
 fn milliseconds_of(moment: OffsetDateTime) -> Option<i64>
     ensures { MatchOption result (¬ IsInstant greatest_year (offset_instant greatest_year moment))
@@ -146,8 +147,8 @@ fn milliseconds_of(moment: OffsetDateTime) -> Option<i64>
     Some(seconds * 1_000 + i64::from(moment.time().nanosecond() / 1_000_000))
 }
 
-// Stores the moment's milliseconds since 1970. This and the next two aren't inlined, so that their results need no
-// stack where seconds are written.
+// Stores the moment's milliseconds since 1970. This and the next two functions aren't inlined, so that their results
+// need no stack when seconds are written.
 #[inline(never)]
 fn write_milliseconds<E: FromReason>(moment: OffsetDateTime, text: &mut Text) -> Result<(), E>
     ensures { Stores E.is_of (spec.IsCounted greatest_year Milliseconds moment) result text.new }
@@ -208,7 +209,8 @@ fn write_count<E: FromReason>(moment: OffsetDateTime, unit: Unit, text: &mut Tex
     }
 }
 
-// Stores a mail date. Neither this nor the next is inlined, so that their texts need no stack beside one of RFC 3339.
+// Stores a mail date. This and the next function aren't inlined, so that their texts need no stack when RFC 3339 is
+// written.
 #[inline(never)]
 fn write_mail<E: FromReason>(
     moment: OffsetDateTime,
@@ -267,7 +269,8 @@ fn write_named<E: FromReason>(
     }
 }
 
-// Converts the moment to the clock, and stores its text by a description. Not inlined, so that its text needs no stack.
+// Converts the moment to the clock, and stores its text by a description. Not inlined, so that other formats need no
+// stack for its text.
 #[inline(never)]
 fn write_described<E: FromReason>(
     moment: OffsetDateTime,

@@ -3,7 +3,7 @@ ghost use Rattle.time_values.specs.Calendar.{greatest_year};
 ghost use Rattle.restamp_verdict.specs.Laws.{NeedsNamedZones, OneVerdict, AutoHasAll, ReadsRewrittenBack, ReadsSuffixedBack, ReadsZonedBack, WritesZonedSame, WritesSameText, ChangesNothing, KeepsMoment, AllValuesDetermine, SignsDetermine, OneTree, CommonReadsBack};
 ghost use Rattle.restamp_verdict.specs.MissingField.{ClocksHaveNoUse, HasNoUse, ParsesNoMoment};
 
-/// Each line has exactly one verdict, whatever the job.
+/// Each line has at most one verdict, whatever the job.
 #[tactic(auto, using(crate::proofs::OneVerdict::one_verdict))]
 pub fn law_one_verdict()
     ensures { OneVerdict greatest_year }
@@ -13,8 +13,8 @@ pub fn law_one_verdict()
 /// clock that it was converted to, provided that each nonzero digit of its fraction was written; and the match has all
 /// bytes of the text. [`Auto`](time_writing::FractionDigits::Auto) omits no such digit.
 ///
-/// A text written by a description parses so by a description with the same tree, provided that its components make a
-/// record of that moment, and that each component's text is followed by bytes that may follow it.
+/// A text written by a description parses likewise by a description with the same tree, provided that the values of its
+/// components make a record of that moment, and that each component's text is followed by bytes that may follow it.
 pub fn law_rewritten_read_back()
     ensures text { ReadsRewrittenBack greatest_year }
     ensures auto { AutoHasAll }
@@ -36,7 +36,8 @@ pub fn law_zoned_read_back()
 
 /// A second run changes nothing. If a text of [`law_rewritten_read_back`] is parsed and written in the same form, the
 /// result is the same text. A line with such a text at its place, in the job's form and by its first format, is
-/// rewritten to itself, or dropped because the moment lies outside the bounds.
+/// rewritten to itself, dropped because the moment lies outside the bounds, or rejected because the text ends too far
+/// from the start of the line.
 pub fn law_second_run()
     ensures text { WritesSameText greatest_year }
     ensures line { ChangesNothing greatest_year }
@@ -57,7 +58,7 @@ pub fn law_all_values()
     ensures signs { SignsDetermine }
 {}
 
-/// A text that names both a format to parse by and a description to write by has one tree.
+/// If a text names both a format to parse by and a description to write by, both have the same tree.
 #[tactic(auto, using(crate::proofs::CommonBack::one_tree))]
 pub fn law_one_tree()
     ensures { OneTree }
@@ -90,8 +91,8 @@ pub fn law_no_use()
     ensures { HasNoUse greatest_year }
 {}
 
-/// The zone for local times changes nothing if each text of a format has an offset, which is where
-/// [`Reading::can_default`](crate::Reading::can_default) returns false.
+/// The zone for local times changes nothing if each text of a format has an offset, that is, if
+/// [`Reading::can_default`](crate::Reading::can_default) returns false for the offset.
 #[tactic(auto, using(crate::proofs::MissingFieldUses::clocks_have_no_use))]
 pub fn law_no_clocks()
     ensures { ClocksHaveNoUse greatest_year }

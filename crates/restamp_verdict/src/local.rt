@@ -1,5 +1,5 @@
 //! Timestamps that omit their offset, parsed as local times in a zone.
-ghost use Rattle.std.specs.Prelude.{◌≡◌, ◌+◌, ◌≤◌, length, Err, IfOk};
+ghost use Rattle.std.specs.Prelude.{◌≡◌, ◌+◌, ◌≤◌, false, length, Err, IfOk, None};
 ghost use Rattle.time_values.specs.Calendar.{greatest_year};
 ghost use Rattle.restamp_verdict.specs.Zoned as spec;
 ghost use Rattle.restamp_verdict.specs.Reading.{ParsesAs, ParsesInZone, ParsesLocally, at_offset};
@@ -91,6 +91,14 @@ impl Clocks<'_> {
 }
 
 impl Defaults<'_> {
+    // Whether a text that a format rejects may still be a local time in a zone, or one without a year.
+    #[inline(always)]
+    pub(crate) fn tries_more(&self) -> bool
+        ensures { result ≡ false → (self.now.clocks ≡ None) × (self.now.latest ≡ None) }
+    {
+        self.clocks.is_some() || self.latest.is_some()
+    }
+
     // The defaults with that offset.
     pub(crate) fn at(&self, offset: UtcOffset) -> Defaults<'static>
         ensures { result ≡ at_offset offset self.now }

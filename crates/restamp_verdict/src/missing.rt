@@ -134,7 +134,7 @@ fn is_insufficient(reason: Reason) -> bool
 }
 
 impl<'a> Defaults<'a> {
-    // The defaults with the year of `latest`, where a timestamp without a year may not be after that moment.
+    // The defaults with the year of `latest`, if that is set: a timestamp without a year means no later moment.
     fn dated(&self) -> Defaults<'a>
         ensures { result ≡ spec.dated self.now }
     {
@@ -167,9 +167,9 @@ impl Reading {
 }
 
 impl Job<'_> {
-    /// The missing part of a line's timestamp that was rejected for that reason; `None` if no information is missing.
-    /// Of a day, its year, an hour, its half of the day, a minute, a second and an offset, it is the first that neither
-    /// the defaults nor the record of the first format have.
+    /// The missing part of a line's timestamp that was rejected for `reason`; `None` if no information is missing. It
+    /// is the first of a day, its year, an hour, its half of the day, a minute, a second and an offset that neither the
+    /// defaults nor the record of the first format have.
     #[inline(never)]
     pub fn find_missing_field(&self, line: &[u8], reason: Reason) -> Option<MissingField>
         ensures { spec.IsMissingField greatest_year self.now line.now (seen reason) result }

@@ -9,7 +9,7 @@ use crate::reading::Reading;
 use std::fmt;
 use time_components::{Component, Group, Step};
 
-/// A missing part, without which a text, or each text of a format, is no moment.
+/// A part that a text, or each text of a format, is missing, so that it is no moment.
 #[derive(Clone, Copy, Debug, PartialEq, Eq)]
 pub enum MissingField {
     /// A day of a year.
@@ -22,9 +22,9 @@ pub enum MissingField {
     Hour,
     /// The half of the day, for an hour from 1 to 12.
     Half,
-    /// The minute, where a second or a part of one is present.
+    /// The minute.
     Minute,
-    /// The second, where a part of one is present.
+    /// The second.
     Second,
     /// An offset.
     Offset,
@@ -147,7 +147,7 @@ fn kind_of(component: Component) -> Kind
     }
 }
 
-// Whether the step is a component that gives it.
+// Whether the step is a component of that kind.
 fn step_has(step: Step, kind: Kind) -> bool
     ensures { result ≡ step_has kind step }
 {
@@ -157,14 +157,14 @@ fn step_has(step: Step, kind: Kind) -> bool
     }
 }
 
-// Whether some component gives it.
+// Whether some component is of that kind.
 fn says(steps: &[Step], kind: Kind) -> bool
     ensures { result ≡ spec.says kind (steps_shape steps.now) }
 {
     steps.iter().any(|step| step_has(*step, kind))
 }
 
-// Whether each text of these items in turn has the part.
+// Whether each text of these items in sequence has the part.
 #[cycle(always)]
 fn one_always(steps: &[Step], part: Part) -> bool
     ensures { result ≡ spec.one_always part (steps_trees steps.now) }
@@ -186,7 +186,7 @@ fn each_always(steps: &[Step], part: Part) -> bool
     item_always(*step, behind, part) && each_always(steps_after(*step, behind), part)
 }
 
-// Whether each text of a step's item has the part, with the steps behind it that belong to it.
+// Whether each text of the item that the step starts has the part. Steps behind it may belong to that item.
 #[cycle(always)]
 fn item_always(step: Step, behind: &[Step], part: Part) -> bool
     ensures { result ≡ spec.always part (tree_at steps_trees step behind.now) }
@@ -272,7 +272,7 @@ fn has_whole_iso_year(steps: &[Step]) -> bool
         || (says(steps, Kind::IsoYearCentury) && says(steps, Kind::IsoYearLastTwo))
 }
 
-// Whether the steps give a day with its year. A default year counts where a text may have no part of a year.
+// Whether the steps give a day with its year. A default year counts if a text may have no part of a year.
 fn has_full_date(steps: &[Step], has_year: bool) -> bool
     ensures { result ≡ spec.has_full_date has_year (steps_shape steps.now) }
 {
@@ -316,7 +316,7 @@ impl Reading {
         }
     }
 
-    /// Whether a default for that part can count: some text may omit it.
+    /// Whether a default for that part can have an effect: some text may omit the part.
     pub fn can_default(&self, part: Part) -> bool
         ensures { result ≡ spec.can_default part self.now }
     {

@@ -1,4 +1,4 @@
-//! Formats by their names, and by descriptions.
+//! Finds formats by their names, and by descriptions.
 ghost use Rattle.std.specs.Prelude.{◌≡◌, MatchResult};
 ghost use Rattle.time_descriptions.specs.Description.{shape, version_of};
 ghost use Rattle.time_descriptions.specs.Grammar.{Describes};
@@ -51,7 +51,7 @@ enum FormatName<'a> {
     Unknown,
 }
 
-// A format by its description: in brackets if the text has a `[`, otherwise as in strftime if it has a `%`.
+// The format of a description: in brackets if the text has a `[`, otherwise as in strftime if it has a `%`.
 fn description_name(name: &[u8]) -> FormatName<'_>
     ensures { spec.erased_format_name result ≡ spec.description_name name.now }
 {

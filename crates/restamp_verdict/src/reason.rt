@@ -18,12 +18,13 @@ pub struct TwoOffsets {
     pub later: OffsetParts,
 }
 
-/// How far local time is ahead of UTC, or behind it. Each field has a word of memory, so that a [`Reason`] is copied by words.
+/// How far local time is ahead of UTC, or behind it. Each field has a word of memory, so that a [`Reason`] is copied by
+/// words.
 #[derive(Clone, Copy, Debug, PartialEq, Eq)]
 pub struct OffsetParts {
-    /// Whether it is behind.
+    /// Whether local time is behind.
     pub is_behind: bool,
-    /// How many seconds.
+    /// By how many seconds.
     pub seconds: u64,
 }
 
@@ -38,7 +39,7 @@ pub enum Reason {
     Nonexistent,
     /// The local time is ambiguous in its zone: the clocks moved back.
     Ambiguous(TwoOffsets),
-    /// It has no date at the output's offset, or none in UTC that a number could count from.
+    /// It has no date at the output's offset, or no date in UTC for an output that counts from 1970.
     OutOfRange,
     /// It is outside the range of time zones: before the year -9999 or after 9999, or in their first or last day.
     OutsideZoneRange,
@@ -102,7 +103,7 @@ impl fmt::Display for TwoOffsets {
     }
 }
 
-// The name of a zone that has no name.
+// What a report calls a zone without a name.
 const ITS_ZONE: &str = "its zone";
 
 // Displays a reason with the name of the time zone that it may be about.

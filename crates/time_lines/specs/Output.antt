@@ -8,9 +8,10 @@ use Rattle.programs_answers.specs.Output as output
 -- ---- The fields of a line
 
 -- The bytes before the first TAB and those after it, if there is one.
-abbrev pub cut_at_tab : List ℕ → Option (List ℕ × List ℕ)
-cut_at_tab [] = None
-cut_at_tab (b ∷ bytes) = if b == 9 then Some ([], bytes) else option_map (λ cut. (b ∷ cut.0, cut.1)) (cut_at_tab bytes)
+abbrev pub split_at_tab : List ℕ → Option (List ℕ × List ℕ)
+split_at_tab [] = None
+split_at_tab (b ∷ bytes) =
+    if b == 9 then Some ([], bytes) else option_map (λ split. (b ∷ split.0, split.1)) (split_at_tab bytes)
 
 -- The fields of a line.
 pub record Fields : Type 0 where
@@ -23,7 +24,7 @@ abbrev pub fields_of : List ℕ → Option Fields
 fields_of line =
     option_and_then
     (λ first. option_map (λ second. record { format = first.0; target = second.0; text = second.1 })
-    (cut_at_tab first.1)) (cut_at_tab line)
+    (split_at_tab first.1)) (split_at_tab line)
 
 -- The answer to a line: the outcome of its text, or the error of the line. A missing field is reported before any name
 -- is checked, and an unknown format is reported before its target is checked.
@@ -57,5 +58,5 @@ OneOutput Y =
 -- After the answers to one input, a writer of known contents holds at most one text.
 abbrev pub OneWriting : ℕ → Type 0
 OneWriting Y =
-    (input held new other : List ℕ)
-    → WritesAnswers Y (Some held) (Some new) input → WritesAnswers Y (Some held) (Some other) input → new ≡ other
+    (input before new other : List ℕ)
+    → WritesAnswers Y (Some before) (Some new) input → WritesAnswers Y (Some before) (Some other) input → new ≡ other

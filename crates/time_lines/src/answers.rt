@@ -1,6 +1,6 @@
 //! The answer to a line.
 //!
-//! `fast` splits lines with known names in one pass, and is tried first. `cut_request` handles every line, field by
+//! `fast` splits lines with known names in one pass, and is tried first. `split_request` handles every line, field by
 //! field. It has the same result for the lines that `fast` splits, so without `fast` each line has the same answer, in
 //! more steps.
 ghost use Rattle.std.specs.Prelude.{ℕ, List, OnOk, MatchResult};
@@ -11,10 +11,10 @@ ghost use Rattle.time_lines.specs.Output.{IsAnswer};
 
 mod fast;
 
-use crate::serving::cut_tab;
+use crate::serving::split_at_tab;
 use byte_streams::{Sink, Unwritten};
 use programs_answers::formats::{Format, Target, find_format, find_target};
-use programs_answers::{Answering, Named};
+use programs_answers::{LineHandler, Named};
 
 // The request of a line: a format, a target and a text; or else the error of the line.
 type Request<'a> = Result<(Format, Target, &'a [u8]), &'static [u8]>;
@@ -23,15 +23,16 @@ type Request<'a> = Result<(Format, Target, &'a [u8]), &'static [u8]>;
 #[cold]
 #[inline(never)]
 #[tactic(auto, unfolding(crate::specs::Output::IsAnswer))]
-fn cut_request(line: &[u8]) -> Request<'_>
+fn split_request(line: &[u8]) -> Request<'_>
     ensures { MatchResult result
-        (λ asked. (answer : List ℕ) → IsParsed greatest_year asked.0 asked.1 asked.2.now answer → IsAnswer greatest_year line.now answer)
-        (λ wrong. IsAnswer greatest_year line.now wrong.now) }
+        (λ request. (answer : List ℕ) → IsParsed greatest_year request.0 request.1 request.2.now answer
+        → IsAnswer greatest_year line.now answer)
+        (λ error. IsAnswer greatest_year line.now error.now) }
 {
-    let Some((format, rest)) = cut_tab(line) else {
+    let Some((format, rest)) = split_at_tab(line) else {
         return Err(b"error: line".as_slice());
     };
-    let Some((target, text)) = cut_tab(rest) else {
+    let Some((target, text)) = split_at_tab(rest) else {
         return Err(b"error: line".as_slice());
     };
     let Some(format) = find_format(format) else {
@@ -60,16 +61,16 @@ impl Fields {
     }
 }
 
-impl Answering for Fields {
+impl LineHandler for Fields {
     ghost is_answer = { λ _. IsAnswer greatest_year };
 
     #[inline(always)]
     fn write_answer<W: Sink>(&self, line: &[u8], out: &mut W) -> Result<(), Unwritten> {
         let (format, target, text) = match fast::request(line) {
-            Some(asked) => asked,
-            None => match cut_request(line) {
-                Ok(asked) => asked,
-                Err(wrong) => return out.write_all(wrong),
+            Some(request) => request,
+            None => match split_request(line) {
+                Ok(request) => request,
+                Err(error) => return out.write_all(error),
             },
         };
         self.named.write_parsed(format, target, text, out)

@@ -4,7 +4,7 @@ ghost use Rattle.time_values.specs.Calendar.{greatest_year};
 ghost use Rattle.byte_streams.specs.Faults.{HasCause};
 ghost use Rattle.programs_answers.specs.Output.{HasReadCause, HasWriteCause};
 ghost use Rattle.programs_answers.specs.declared.serving.Stop.TheVariants as Stop;
-ghost use Rattle.time_lines.specs.Output.{WritesAnswers, cut_at_tab};
+ghost use Rattle.time_lines.specs.Output.{WritesAnswers, split_at_tab};
 ghost use Rattle.std.specs.Option.{option_map};
 
 use crate::answers::Fields;
@@ -86,8 +86,8 @@ pub(crate) fn serve_to<R: Source, W: Sink, A: Allocator>(
 }
 
 /// The bytes before the first TAB, and those after it.
-pub fn cut_tab(bytes: &[u8]) -> Option<(&[u8], &[u8])>
-    ensures { option_map (λ cut. (cut.0.now, cut.1.now)) result ≡ cut_at_tab bytes.now }
+pub fn split_at_tab(bytes: &[u8]) -> Option<(&[u8], &[u8])>
+    ensures { option_map (λ split. (split.0.now, split.1.now)) result ≡ split_at_tab bytes.now }
 {
     for (i, b) in bytes.iter().enumerate() {
         if *b == b'\t' {

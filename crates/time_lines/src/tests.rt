@@ -159,7 +159,7 @@ impl Read for Source<'_> {
 }
 
 /// The result of a call, and the number of its writes.
-type Told = (Result<(), Stop>, usize);
+type Report = (Result<(), Stop>, usize);
 
 /// Accepts the expected text only, until a write fails.
 #[derive(Drop)]
@@ -171,7 +171,7 @@ struct Page<'a> {
 
 impl Page<'_> {
     /// The result with the number of writes, unless a successful call hasn't written all of the text.
-    fn told(&self, answer: Result<(), Stop>) -> Option<Told> {
+    fn report(&self, answer: Result<(), Stop>) -> Option<Report> {
         if answer.is_ok() && !self.rest.is_empty() {
             return None;
         }
@@ -263,36 +263,41 @@ mod refusing {
 const NEVER: usize = 1000000;
 
 /// The result of `run` if the write at this index fails.
-fn ran(input: &[u8], output: &[u8], fails_at: usize) -> Option<Told> {
+fn run_report(input: &[u8], output: &[u8], fails_at: usize) -> Option<Report> {
     let mut page = Page {
         rest: output,
         writes: 0,
         fails_at,
     };
     match run(input, &mut page) {
-        Ok(()) => page.told(Ok(())),
-        Err(_) => page.told(Err(Stop::Unwritten)),
+        Ok(()) => page.report(Ok(())),
+        Err(_) => page.report(Err(Stop::Unwritten)),
     }
 }
 
 /// The result of `serve` if the write at this index fails.
-fn served(alloc: Global, mut source: Source<'_>, output: &[u8], fails_at: usize) -> Option<Told> {
+fn serve_report(
+    alloc: Global,
+    mut source: Source<'_>,
+    output: &[u8],
+    fails_at: usize,
+) -> Option<Report> {
     let mut page = Page {
         rest: output,
         writes: 0,
         fails_at,
     };
     let answer = serve(alloc, &mut source, &mut page);
-    page.told(answer)
+    page.report(answer)
 }
 
 /// The result of `serve_in` with this many bytes of memory.
-fn served_within(
+fn serve_report_within(
     alloc: Global,
     size: usize,
     mut source: Source<'_>,
     output: &[u8],
-) -> Option<Told> {
+) -> Option<Report> {
     let heap = LocalHeap::new(alloc, size).ok()?;
     let mut page = Page {
         rest: output,
@@ -300,16 +305,16 @@ fn served_within(
         fails_at: NEVER,
     };
     let answer = serve_in(&heap, &mut source, &mut page);
-    page.told(answer)
+    page.report(answer)
 }
 
 /// The result of `serve_in` if one allocation fails after a given number of others, and whether it was reached.
-fn served_but_for(
+fn serve_report_but_for(
     alloc: Global,
     left: u64,
     mut source: Source<'_>,
     output: &[u8],
-) -> Option<(Told, bool)> {
+) -> Option<(Report, bool)> {
     let heap = Refusing::new(alloc, left);
     let mut page = Page {
         rest: output,
@@ -317,7 +322,7 @@ fn served_but_for(
         fails_at: NEVER,
     };
     let answer = serve_in(&heap, &mut source, &mut page);
-    Some((page.told(answer)?, heap.has_refused()))
+    Some((page.report(answer)?, heap.has_refused()))
 }
 
 /// Fails each allocation in turn, until a run without a failure completes the output.
@@ -329,7 +334,7 @@ fn try_allocations(rt: &(impl Abort + AllocGlobal), input: &[u8], output: &[u8],
             reads: 0,
             fails_at: NEVER,
         };
-        match served_but_for(rt.alloc(), left, source, output) {
+        match serve_report_but_for(rt.alloc(), left, source, output) {
             Some(((Err(Stop::Memory), 0), true)) => {}
             Some(((Ok(()), 1), false)) => {
                 assert!(rt; left > 0);
@@ -361,7 +366,7 @@ fn try_reads(
             (Ok(()), 1)
         };
         assert!(rt;
-            served(rt.alloc(), source, output, NEVER) == Some(wanted),
+            serve_report(rt.alloc(), source, output, NEVER) == Some(wanted),
             "{most} {fails_at}"
         );
     }
@@ -387,9 +392,9 @@ fn try_writes(
             Ok(())
         };
         let wanted = Some((answer, fails_at));
-        assert!(rt; ran(input, output, fails_at) == wanted, "{fails_at}");
+        assert!(rt; run_report(input, output, fails_at) == wanted, "{fails_at}");
         assert!(rt;
-            served(rt.alloc(), source, output, fails_at) == wanted,
+            serve_report(rt.alloc(), source, output, fails_at) == wanted,
             "{most} {fails_at}"
         );
     }
@@ -412,7 +417,7 @@ fn try_sizes(
             reads: 0,
             fails_at: NEVER,
         };
-        match served_within(rt.alloc(), unit.saturating_mul(size), source, output) {
+        match serve_report_within(rt.alloc(), unit.saturating_mul(size), source, output) {
             Some((Ok(()), 1)) => serves = true,
             Some((Err(Stop::Memory), 0)) => refuses = true,
             _ => panic!(rt; "{size}"),
@@ -446,7 +451,7 @@ fn fills(input: &[u8], output: &[u8]) -> bool {
 }
 
 #[test]
-fn takes_no_memory(rt: HostRuntime) {
+fn allocates_nothing(rt: HostRuntime) {
     assert!(rt; fills(INPUT, OUTPUT));
 }
 

@@ -15,14 +15,14 @@ use Rattle.time_locating.specs.declared.located.Located.{Located}
 use Rattle.programs_answers.specs.Output.{Writes}
 use Rattle.programs_answers.specs.declared.formats.Target.{Target}
 use Rattle.time_parse.specs.Place.{IsErrorPlace, IsPlace, IsRefusalFor, IsTreePlace, expected_text, index_text, place_text}
-use Rattle.time_parse.specs.Request.{shown}
+use Rattle.time_parse.specs.Request.{printable}
 
 -- one more byte is printed
-pub shown_more : (a b c : Option (List ℕ)) (bytes : List ℕ) (i d : ℕ) → i < length bytes → Appends a b (map shown (take i bytes))
-    → Appends b c (shown (get_or bytes i d) ∷ []) → Appends a c (map shown (take (i + 1) bytes))
-shown_more a b c bytes i d h before more =
-    let all = ap (λ s. map shown s) (take-suc bytes i d h) ∙ map-append shown (take i bytes) (get_or bytes i d ∷ []) in
-    rw add-one (subst (Appends a c) (sym all) (Appends-trans a b c (map shown (take i bytes)) (shown (get_or bytes i d) ∷ []) before more))
+pub printable_more : (a b c : Option (List ℕ)) (bytes : List ℕ) (i d : ℕ) → i < length bytes → Appends a b (map printable (take i bytes))
+    → Appends b c (printable (get_or bytes i d) ∷ []) → Appends a c (map printable (take (i + 1) bytes))
+printable_more a b c bytes i d h before more =
+    let all = ap (λ s. map printable s) (take-suc bytes i d h) ∙ map-append printable (take i bytes) (get_or bytes i d ∷ []) in
+    rw add-one (subst (Appends a c) (sym all) (Appends-trans a b c (map printable (take i bytes)) (printable (get_or bytes i d) ∷ []) before more))
 
 -- equal trees have equal locations
 pub Writes-tree : {E : Type 0} (r : Result (Unit {0}) E) (tree same : Tree) (target : Target) (bytes : List ℕ) (a b : Option (List ℕ))

@@ -26,13 +26,13 @@ use Rattle.programs_answers.specs.declared.formats.Format.{Format}
 use Rattle.programs_answers.specs.declared.formats.Format.TheVariants as format
 use Rattle.programs_answers.specs.declared.formats.Target.{Target}
 use Rattle.programs_answers.specs.declared.formats.Target.TheVariants as target
-use Rattle.time_parse.specs.Request.{shown, IsAnswer, Meaning, Means}
+use Rattle.time_parse.specs.Request.{printable, IsAnswer, Meaning, Means}
 use Rattle.time_parse.specs.Request as request
 use Rattle.time_parse.specs.declared.request.Version.{Version}
 
 -- What was expected, as text. The bytes of a literal are quoted, with `?` for each that isn't printable ASCII.
 abbrev pub expected_text : Wanted → List ℕ
-expected_text (these_bytes bytes) = codes "'" ++ map shown bytes ++ codes "'"
+expected_text (these_bytes bytes) = codes "'" ++ map printable bytes ++ codes "'"
 expected_text (named name) = name
 expected_text the_end = codes "the end"
 
@@ -76,22 +76,22 @@ IsRefusalFor Y target.Timestamp path = IsRefusal (IsTimestamp Y)
 
 -- The printed location of an error that isn't one of form: the index of the component that it names, if it has one.
 abbrev pub IsErrorPlace : Reading → Locating → Marking → List ℕ → Option Refusal → List ℕ → Type 0
-IsErrorPlace reads locates marks text None told = told ≡ []
-IsErrorPlace reads locates marks text (Some e) told =
-    (index : Option ℕ) × IsErrorAt reads locates marks text empty e index × (told ≡ index_text index)
+IsErrorPlace reads locates marks text None printed = printed ≡ []
+IsErrorPlace reads locates marks text (Some e) printed =
+    (index : Option ℕ) × IsErrorAt reads locates marks text empty e index × (printed ≡ index_text index)
 
 -- The printed location of a text's error, parsed over an empty record: its index and what was expected there. For a
 -- text that is parsed whole, the index of the component whose range is rejected for the target, or nothing.
 abbrev pub IsPlace : ℕ → Target → Path → Reading → Refusing → Locating → Marking → List ℕ → List ℕ → Type 0
-IsPlace Y target path reads refuses locates marks text told =
-    ((at : Located) × IsLocated reads locates text empty (Some at) × (told ≡ place_text (seen_place (Some at))))
+IsPlace Y target path reads refuses locates marks text printed =
+    ((at : Located) × IsLocated reads locates text empty (Some at) × (printed ≡ place_text (seen_place (Some at))))
     ⊎ (IsLocated reads locates text empty None
     × (refusal : Option Refusal) × IsRefusalFor Y target path reads refuses text refusal
-    × IsErrorPlace reads locates marks text refusal told)
+    × IsErrorPlace reads locates marks text refusal printed)
 
 abbrev pub IsTreePlace : ℕ → Telling → Tree → Target → List ℕ → List ℕ → Type 0
-IsTreePlace Y bytes_told tree target =
-    IsPlace Y target over_record (Description.Reads Y tree) (Description.Refuses Y tree) (LocatesTree Y bytes_told tree)
+IsTreePlace Y bytes tree target =
+    IsPlace Y target over_record (Description.Reads Y tree) (Description.Refuses Y tree) (LocatesTree Y bytes tree)
     (MarksTree Y tree)
 
 -- The printed location by a named format.
@@ -121,17 +121,17 @@ IsPlacedAnswer Y meaning target text answer =
     × IsAnswer Y meaning target text outcome × IsPlaceBy Y meaning target text place × (answer ≡ outcome ++ place)
 
 -- The answer to a text, with the error's location if requested.
-abbrev pub IsAnswerAsked : Bool → ℕ → Meaning → Target → List ℕ → List ℕ → Type 0
-IsAnswerAsked false = IsAnswer
-IsAnswerAsked true = IsPlacedAnswer
+abbrev pub IsRequestedAnswer : Bool → ℕ → Meaning → Target → List ℕ → List ℕ → Type 0
+IsRequestedAnswer false = IsAnswer
+IsRequestedAnswer true = IsPlacedAnswer
 
 -- The writer's contents are followed by the answers to the lines of the input, by the format and for the target with
 -- that name.
 abbrev pub WritesAnswers : ℕ → Bool → Version → List ℕ → List ℕ → Option (List ℕ) → Option (List ℕ) → List ℕ → Type 0
-WritesAnswers Y tells_places version format target old new input =
+WritesAnswers Y prints_places version format target old new input =
     (meaning : Meaning) × (value : Target)
     × Means version format meaning × (target_named target ≡ Some value)
-    × output.WritesAnswers (IsAnswerAsked tells_places Y meaning value) old new input
+    × output.WritesAnswers (IsRequestedAnswer prints_places Y meaning value) old new input
 
 -- ---- Laws of answers. `Y` is the greatest year.
 
@@ -144,13 +144,13 @@ OneMeaning =
 -- A text has at most one answer, with its place or without.
 abbrev pub OneAnswer : ℕ → Type 0
 OneAnswer Y =
-    (tells_places : Bool) (meaning : Meaning) (target : Target) (text answer other : List ℕ)
-    → IsAnswerAsked tells_places Y meaning target text answer
-    → IsAnswerAsked tells_places Y meaning target text other → answer ≡ other
+    (prints_places : Bool) (meaning : Meaning) (target : Target) (text answer other : List ℕ)
+    → IsRequestedAnswer prints_places Y meaning target text answer
+    → IsRequestedAnswer prints_places Y meaning target text other → answer ≡ other
 
 -- After the answers to one input, a writer of known contents holds at most one text.
 abbrev pub OneWriting : ℕ → Type 0
 OneWriting Y =
-    (tells_places : Bool) (version : Version) (format target input held new other : List ℕ)
-    → WritesAnswers Y tells_places version format target (Some held) (Some new) input
-    → WritesAnswers Y tells_places version format target (Some held) (Some other) input → new ≡ other
+    (prints_places : Bool) (version : Version) (format target input before new other : List ℕ)
+    → WritesAnswers Y prints_places version format target (Some before) (Some new) input
+    → WritesAnswers Y prints_places version format target (Some before) (Some other) input → new ≡ other

@@ -52,19 +52,19 @@ place_of (faulty format refusal) = option_map (λ index. (format, index)) (index
 place_of (unknown_target name) = Some (name, 0)
 
 -- A printable character of ASCII as itself, and `?` for any other byte.
-abbrev pub shown : ℕ → ℕ
-shown byte = if nat_le 32 byte && nat_le byte 126 then byte else 63
+abbrev pub printable : ℕ → ℕ
+printable byte = if nat_le 32 byte && nat_le byte 126 then byte else 63
 
 -- The bytes on a line, and on the next a caret below the byte at that index. Each byte is one column wide.
-abbrev pub pointed : List ℕ → ℕ → List ℕ
-pointed bytes index = codes "  " ++ map shown bytes ++ codes "\n  " ++ replicate index 32 ++ codes "^\n"
+abbrev pub caret_lines : List ℕ → ℕ → List ℕ
+caret_lines bytes index = codes "  " ++ map printable bytes ++ codes "\n  " ++ replicate index 32 ++ codes "^\n"
 
 -- The lines of a report: the message, and then the argument with a caret, if the fault has an index.
-abbrev pub IsTold : Reason → List ℕ → Type 0
-IsTold reason lines =
+abbrev pub IsReport : Reason → List ℕ → Type 0
+IsReport reason lines =
     (why : List ℕ) × IfSome (reason_text reason) (λ text. why ≡ text)
     × (lines ≡ codes "error: " ++ why ++ codes "\n"
-    ++ by_option [] (λ place. pointed place.0 place.1) (place_of reason))
+    ++ by_option [] (λ place. caret_lines place.0 place.1) (place_of reason))
 
 -- The meaning of a format: a named format, or the tree of a description.
 pub data Meaning : Type 0 where
@@ -134,35 +134,36 @@ IsAnswer Y (described tree) target = IsDescribed Y tree target
 
 -- What the command line requests: a page, or answers by a format, for a target, optionally with the locations of
 -- errors.
-pub data Asked : Type 0 where
-  help : Asked
-  program_version : Asked
-  answers : Bool → Version → List ℕ → List ℕ → Asked
-  unknown : Asked
+pub data CommandValue : Type 0 where
+  help : CommandValue
+  program_version : CommandValue
+  answers : Bool → Version → List ℕ → List ℕ → CommandValue
+  unknown : CommandValue
 
-abbrev pub seen : Command → Asked
-seen command.Help = help
-seen command.Version = program_version
-seen (command.Parse question) =
-    answers question.tells_places question.version question.format.now question.target.now
-seen command.Unknown = unknown
+-- The request of a command, with its words by value.
+abbrev pub value_of : Command → CommandValue
+value_of command.Help = help
+value_of command.Version = program_version
+value_of (command.Parse question) =
+    answers question.prints_places question.version question.format.now question.target.now
+value_of command.Unknown = unknown
 
 -- The request of a single word.
-abbrev pub page : List ℕ → Asked
+abbrev pub page : List ℕ → CommandValue
 page word =
     if bytes_eq word (codes "--help") then help else
     if bytes_eq word (codes "--version") then program_version else unknown
 
 -- The request of the words after `--place`, or of all words without it.
-abbrev pub question_of : Bool → List (List ℕ) → Asked
-question_of tells_places (format ∷ target ∷ []) =
-    if bytes_eq format (codes "--v1") then unknown else answers tells_places version.Two format target
-question_of tells_places (option ∷ format ∷ target ∷ []) =
-    if bytes_eq option (codes "--v1") then answers tells_places version.One format target else unknown
-question_of tells_places words = unknown
+abbrev pub question_of : Bool → List (List ℕ) → CommandValue
+question_of prints_places (format ∷ target ∷ []) =
+    if bytes_eq format (codes "--v1") then unknown else answers prints_places version.Two format target
+question_of prints_places (option ∷ format ∷ target ∷ []) =
+    if bytes_eq option (codes "--v1") then answers prints_places version.One format target else unknown
+question_of prints_places words = unknown
 
 -- The request of the words after the program's name.
-abbrev pub command_of : List (List ℕ) → Asked
+abbrev pub command_of : List (List ℕ) → CommandValue
 command_of [] = unknown
 command_of (word ∷ []) = page word
 command_of (option ∷ words) =

@@ -3,7 +3,7 @@ ghost use Rattle.std.specs.Prelude.{◌≡◌, map, string_bytes, IfOk};
 ghost use Rattle.time_parse.specs.Request as spec;
 ghost use Rattle.std.specs.Option.{option_map};
 ghost use Rattle.time_descriptions.specs.Refusal.{refusal_of};
-ghost use Rattle.time_parse.specs.Request.{IsTold, reason_of, reason_text};
+ghost use Rattle.time_parse.specs.Request.{IsReport, reason_of, reason_text};
 
 use crate::request::Version;
 use std::alloc::{AllocError, Global};
@@ -14,7 +14,7 @@ use time_descriptions::InvalidFormatDescription;
 #[derive(Clone, Copy)]
 pub struct Question<'a> {
     /// Whether an error is printed with its location.
-    pub tells_places: bool,
+    pub prints_places: bool,
     /// The version of a description in brackets.
     pub version: Version,
     /// The format.
@@ -38,7 +38,7 @@ pub enum Command<'a> {
 
 // The request of a single word.
 fn page<'a>(word: &str) -> Command<'a>
-    ensures { spec.seen result ≡ spec.page word.now }
+    ensures { spec.value_of result ≡ spec.page word.now }
 {
     match word {
         "--help" => Command::Help,
@@ -48,8 +48,8 @@ fn page<'a>(word: &str) -> Command<'a>
 }
 
 // The request of the words after `--place`, or of all words without it.
-fn question_of(tells_places: bool, words: &[String]) -> Command<'_>
-    ensures { spec.seen result ≡ spec.question_of tells_places (map string_bytes words.now) }
+fn question_of(prints_places: bool, words: &[String]) -> Command<'_>
+    ensures { spec.value_of result ≡ spec.question_of prints_places (map string_bytes words.now) }
 {
     match words {
         [format, target] => {
@@ -57,7 +57,7 @@ fn question_of(tells_places: bool, words: &[String]) -> Command<'_>
                 return Command::Unknown;
             }
             Command::Parse(Question {
-                tells_places,
+                prints_places,
                 version: Version::Two,
                 format: format.as_str(),
                 target: target.as_str(),
@@ -68,7 +68,7 @@ fn question_of(tells_places: bool, words: &[String]) -> Command<'_>
                 return Command::Unknown;
             }
             Command::Parse(Question {
-                tells_places,
+                prints_places,
                 version: Version::One,
                 format: format.as_str(),
                 target: target.as_str(),
@@ -80,7 +80,7 @@ fn question_of(tells_places: bool, words: &[String]) -> Command<'_>
 
 /// The request of the words after the program's name.
 pub fn command_of(words: &[String]) -> Command<'_>
-    ensures { spec.seen result ≡ spec.command_of (map string_bytes words.now) }
+    ensures { spec.value_of result ≡ spec.command_of (map string_bytes words.now) }
 {
     match words {
         [word] => page(word.as_str()),
@@ -148,8 +148,8 @@ impl<'a> Fault<'a> {
 }
 
 /// A byte as it is printed: itself if it is a printable character of ASCII, else `?`.
-pub fn shown(byte: u8) -> u8
-    ensures { result ≡ spec.shown byte }
+pub fn printable(byte: u8) -> u8
+    ensures { result ≡ spec.printable byte }
 {
     if b' ' <= byte && byte <= b'~' {
         byte
@@ -159,10 +159,10 @@ pub fn shown(byte: u8) -> u8
 }
 
 // The bytes on a line, and on the next a caret below the byte at that index. Each byte is one column wide.
-fn pointed(alloc: Global, bytes: &[u8], index: usize) -> Result<Vec<u8>, AllocError>
-    ensures { IfOk result (λ lines. lines.items ≡ spec.pointed bytes.now index) }
+fn caret_lines(alloc: Global, bytes: &[u8], index: usize) -> Result<Vec<u8>, AllocError>
+    ensures { IfOk result (λ lines. lines.items ≡ spec.caret_lines bytes.now index) }
 {
-    let line: Vec<u8> = bytes.iter().map(|byte| shown(*byte)).collect(alloc)?;
+    let line: Vec<u8> = bytes.iter().map(|byte| printable(*byte)).collect(alloc)?;
     let blanks = vec![in alloc; b' '; index]?;
     let mut lines = Vec::new(alloc);
     lines.extend_from_slice(b"  ")?;
@@ -175,8 +175,8 @@ fn pointed(alloc: Global, bytes: &[u8], index: usize) -> Result<Vec<u8>, AllocEr
 
 /// The report of a fault: a line with its message, and two lines that point at its index, if it has one. `Err`: out of
 /// memory.
-pub fn told(alloc: Global, fault: Fault<'_>) -> Result<Vec<u8>, AllocError>
-    ensures { IfOk result (λ lines. IsTold (reason_of fault.entry) lines.items) }
+pub fn report(alloc: Global, fault: Fault<'_>) -> Result<Vec<u8>, AllocError>
+    ensures { IfOk result (λ lines. IsReport (reason_of fault.entry) lines.items) }
 {
     let why = format!(in alloc; "{fault}")?;
     let mut lines = Vec::new(alloc);
@@ -184,7 +184,7 @@ pub fn told(alloc: Global, fault: Fault<'_>) -> Result<Vec<u8>, AllocError>
     lines.extend_from_slice(why.as_bytes())?;
     lines.extend_from_slice(b"\n")?;
     if let Some((bytes, index)) = fault.place() {
-        lines.extend_from_slice(pointed(alloc, bytes, index)?.as_slice())?;
+        lines.extend_from_slice(caret_lines(alloc, bytes, index)?.as_slice())?;
     }
     Ok(lines)
 }

@@ -9,7 +9,7 @@ mod place;
 mod request;
 mod serving;
 
-use arguments::{Command, Question, command_of, told};
+use arguments::{Command, Question, command_of, report};
 use byte_streams::{BufferedSink, Counted};
 use serving::{Failure, serve};
 use std::io::Write;
@@ -38,8 +38,8 @@ fn answer(rt: &HostRuntime, question: Question<'_>) -> io::Result<u8> {
     match serve(question, rt.alloc(), &mut input, &mut out) {
         Ok(()) => Ok(0),
         Err(Failure::Stopped(stop)) => Ok(stop.status()),
-        Err(Failure::Asked(fault)) => {
-            let Ok(lines) = told(rt.alloc(), fault) else {
+        Err(Failure::Arguments(fault)) => {
+            let Ok(lines) = report(rt.alloc(), fault) else {
                 return Ok(2);
             };
             rt.stderr().write_all(lines.as_slice())?;
@@ -49,7 +49,7 @@ fn answer(rt: &HostRuntime, question: Question<'_>) -> io::Result<u8> {
 }
 
 // Prints the usage to standard error.
-fn tell_usage(rt: &HostRuntime) -> io::Result<u8> {
+fn print_usage(rt: &HostRuntime) -> io::Result<u8> {
     eprintln!(rt; "{USAGE}")?;
     Ok(2)
 }
@@ -66,13 +66,13 @@ fn follow(rt: &HostRuntime, words: &[String]) -> io::Result<u8> {
             Ok(0)
         }
         Command::Parse(question) => answer(rt, question),
-        Command::Unknown => tell_usage(rt),
+        Command::Unknown => print_usage(rt),
     }
 }
 
 fn main(rt: HostRuntime) -> io::Result<ExitCode> {
     let Ok(arguments) = env::args(&rt) else {
-        return Ok(ExitCode::from(tell_usage(&rt)?));
+        return Ok(ExitCode::from(print_usage(&rt)?));
     };
     let words: Vec<String> = arguments.skip(1).collect(rt.alloc())?;
     Ok(ExitCode::from(follow(&rt, words.as_slice())?))

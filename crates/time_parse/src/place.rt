@@ -15,10 +15,10 @@ ghost use Rattle.time_parse.specs.Request as fault;
 ghost use Rattle.time_parse.specs.Place.{IsErrorPlace, IsNamedPlace, IsPlace, IsPlaceBy, IsPlacedAnswer, IsRefusalFor, IsTreePlace, expected_text, index_text, refusal_in};
 ghost use Rattle.time_parse.specs.Request.{meaning_of};
 
-use crate::arguments::shown;
+use crate::arguments::printable;
 use crate::request::{Chosen, Request};
 use byte_streams::{Sink, Unwritten};
-use programs_answers::Answering;
+use programs_answers::LineHandler;
 use programs_answers::formats::{
     Format, Target, clock_items, compound, date_items, first, fraction_items, local_items,
     second_items, unix,
@@ -36,13 +36,13 @@ pub struct Placing {
 }
 
 // Writes the bytes, with `?` for each that isn't printable.
-fn write_shown<W: Sink>(bytes: &[u8], out: &mut W) -> Result<(), Unwritten>
-    ensures bytes { OnOk result (Appends (W.contents out.old) (W.contents out.new) (map fault.shown bytes.now)) }
+fn write_printable<W: Sink>(bytes: &[u8], out: &mut W) -> Result<(), Unwritten>
+    ensures bytes { OnOk result (Appends (W.contents out.old) (W.contents out.new) (map fault.printable bytes.now)) }
     ensures cause { HasCause result (W.faults out.old) (W.faults out.new) }
     ensures through { W.through out.new ≡ W.through out.old }
 {
     for byte in bytes {
-        out.write_all(&[shown(*byte)])?;
+        out.write_all(&[printable(*byte)])?;
     }
     Ok(())
 }
@@ -53,16 +53,16 @@ fn write_expected<W: Sink>(expected: Expected<'_>, out: &mut W) -> Result<(), Un
     ensures cause { HasCause result (W.faults out.old) (W.faults out.new) }
     ensures through { W.through out.new ≡ W.through out.old }
 {
-    let told: &[u8] = match expected {
+    let last: &[u8] = match expected {
         Expected::Component(name) => name.as_bytes(),
         Expected::End => b"the end",
         Expected::Literal(bytes) => {
             out.write_all(b"'")?;
-            write_shown(bytes, out)?;
+            write_printable(bytes, out)?;
             b"'"
         }
     };
-    out.write_all(told)
+    out.write_all(last)
 }
 
 // The error of an outcome, if it has one.
@@ -242,7 +242,7 @@ fn write_chosen_place<W: Sink>(
     }
 }
 
-impl Answering for Placing {
+impl LineHandler for Placing {
     ghost is_answer = { λ placing. IsPlacedAnswer greatest_year (meaning_of placing.request.chosen) placing.request.target };
 
     fn write_answer<W: Sink>(&self, line: &[u8], out: &mut W) -> Result<(), Unwritten> {

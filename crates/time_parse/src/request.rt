@@ -10,13 +10,13 @@ ghost use Rattle.time_parsing.specs.Outcome.{over_record};
 ghost use Rattle.time_record.specs.Reading as description;
 ghost use Rattle.byte_streams.specs.Faults.{HasCause};
 ghost use Rattle.programs_answers.specs.Formats.{target_named};
-ghost use Rattle.programs_answers.specs.Output.{IsDescribed, PrintsSuch, Writes};
+ghost use Rattle.programs_answers.specs.Output.{IsDescribed, PrintsOutcome, Writes};
 ghost use Rattle.time_parse.specs.Request.{reason_of, IsAnswer, IsFault, IsFaultBy, IsFaulty, Means, MeansTree, meaning_of, number_of, writing_of};
 
 use crate::arguments::Fault;
 use byte_streams::{Sink, Unwritten};
 use programs_answers::formats::{Format, Target, find_format, find_target};
-use programs_answers::{Answering, Layout, Named, write_outcome};
+use programs_answers::{Layout, LineHandler, Named, write_outcome};
 use time_descriptions::{Description, InvalidFormatDescription, parse_borrowed, parse_strftime};
 use time_parsing::Parsable;
 use time_preparing::Prepared;
@@ -97,7 +97,7 @@ fn read_brackets(
 }
 
 // The format of a description in brackets.
-fn bracketed(version: Version, format: &[u8]) -> Result<Chosen, Fault<'_>>
+fn bracket_format(version: Version, format: &[u8]) -> Result<Chosen, Fault<'_>>
     ensures { MatchResult result
         (λ chosen. MeansTree (Describes (version_of (number_of version)) format.now) (meaning_of chosen))
         (λ fault. IsFaulty (IsRefused MOST_STEPS (version_of (number_of version)) format.now) format.now (reason_of fault)) }
@@ -109,7 +109,7 @@ fn bracketed(version: Version, format: &[u8]) -> Result<Chosen, Fault<'_>>
 }
 
 // The format of a description in strftime's syntax.
-fn lettered(format: &[u8]) -> Result<Chosen, Fault<'_>>
+fn strftime_format(format: &[u8]) -> Result<Chosen, Fault<'_>>
     ensures { MatchResult result
         (λ chosen. MeansTree (DescribesStrftime format.now) (meaning_of chosen))
         (λ fault. IsFaulty (IsRefusedStrftime MOST_STEPS format.now) format.now (reason_of fault)) }
@@ -128,8 +128,8 @@ fn choose(version: Version, format: &[u8]) -> Result<Chosen, Fault<'_>>
 {
     match find_writing(format) {
         Writing::Name(format) => Ok(Chosen::Named(format, Named::new())),
-        Writing::Brackets => bracketed(version, format),
-        Writing::Strftime => lettered(format),
+        Writing::Brackets => bracket_format(version, format),
+        Writing::Strftime => strftime_format(format),
         Writing::Unknown => Err(Fault::UnknownFormat { name: format }),
     }
 }
@@ -165,7 +165,7 @@ fn write_as<V: time_parsing::Target + Layout, W: Sink>(
     text: &[u8],
     out: &mut W,
 ) -> Result<(), Unwritten>
-    ensures bytes { OnOk result (Writes (PrintsSuch (V.outcome over_record (description.Reads greatest_year (steps_shape prepared.now))
+    ensures bytes { OnOk result (Writes (PrintsOutcome (V.outcome over_record (description.Reads greatest_year (steps_shape prepared.now))
         (description.Refuses greatest_year (steps_shape prepared.now)) text.now) V.text) (W.contents out.old) (W.contents out.new)) }
     ensures cause { HasCause result (W.faults out.old) (W.faults out.new) }
     ensures through { W.through out.new ≡ W.through out.old }
@@ -216,7 +216,7 @@ fn write_described<W: Sink>(
     }
 }
 
-impl Answering for Request {
+impl LineHandler for Request {
     ghost is_answer = { λ request. IsAnswer greatest_year (meaning_of request.chosen) request.target };
 
     #[inline(always)]

@@ -1,12 +1,12 @@
 //! Answers all lines of an input.
 ghost use Rattle.std.specs.Prelude.{◌≡◌, Err, OnOk, IfSome};
 ghost use Rattle.time_values.specs.Calendar.{greatest_year};
-ghost use Rattle.programs_answers.specs.Output.{HasReadCause, HasWriteCause, IsCounted, IsReadCounted};
+ghost use Rattle.programs_answers.specs.Output.{HasReadCause, HasWriteCause, IsWriteCounted, IsReadCounted};
 ghost use Rattle.programs_answers.specs.Output as output;
 ghost use Rattle.programs_answers.specs.declared.serving.Stop.{Stop as Stop_};
 ghost use Rattle.programs_answers.specs.declared.serving.Stop.TheVariants as Stop;
 ghost use Rattle.time_parse.specs.Request.{reason_of, IsFault, meaning_of};
-ghost use Rattle.time_parse.specs.Place.{IsAnswerAsked, WritesAnswers};
+ghost use Rattle.time_parse.specs.Place.{IsRequestedAnswer, WritesAnswers};
 ghost use Rattle.time_parse.specs.declared.arguments.Fault.{Fault as Fault_};
 ghost use Rattle.time_parse.specs.declared.serving.Failure.TheVariants as failure;
 
@@ -21,28 +21,29 @@ use std::alloc::Global;
 #[derive(Clone, Copy)]
 pub enum Failure<'a> {
     /// The format or the target has a fault.
-    Asked(Fault<'a>),
+    Arguments(Fault<'a>),
     /// Reading, writing or allocating failed.
     Stopped(Stop),
 }
 
 // Writes the answer to each line of the input, with the locations of errors where those are requested.
-fn serve_asked<R: Source, W: Sink>(
+fn serve_request<R: Source, W: Sink>(
     request: Request,
-    tells_places: bool,
+    prints_places: bool,
     alloc: Global,
     input: &mut R,
     out: &mut BufferedSink<W>,
 ) -> Result<(), Stop>
     ensures ok { OnOk result (IfSome (R.remaining input.old)
-        (λ bytes. output.WritesAnswers (IsAnswerAsked tells_places greatest_year (meaning_of request.chosen) request.target)
+        (λ bytes. output.WritesAnswers (IsRequestedAnswer prints_places greatest_year (meaning_of request.chosen)
+        request.target)
         (W.contents out.old.sink) (W.contents out.new.sink) bytes)) }
     ensures unread { result ≡ Err Stop.Unread → out.new ≡ out.old }
     ensures memory { result ≡ Err Stop.Memory → out.new ≡ out.old }
     ensures read { HasReadCause result (R.faults input.old) (R.faults input.new) (R.given input.old) (R.given input.new) }
     ensures cause { HasWriteCause result (W.faults out.old.sink) (W.faults out.new.sink) }
 {
-    if tells_places {
+    if prints_places {
         programs_answers::serve(&Placing { request }, alloc, input, out)
     } else {
         programs_answers::serve(&request, alloc, input, out)
@@ -61,9 +62,10 @@ pub fn serve<'a, R: Source, W: Sink>(
     out: &mut BufferedSink<W>,
 ) -> Result<(), Failure<'a>>
     ensures ok { OnOk result (IfSome (R.remaining input.old)
-        (λ bytes. WritesAnswers greatest_year question.entry.tells_places question.entry.version question.entry.format.now question.entry.target.now
+        (λ bytes. WritesAnswers greatest_year question.entry.prints_places question.entry.version
+        question.entry.format.now question.entry.target.now
         (W.contents out.old.sink) (W.contents out.new.sink) bytes)) }
-    ensures fault { (f : Fault_) → result ≡ Err (failure.Asked f)
+    ensures fault { (f : Fault_) → result ≡ Err (failure.Arguments f)
         → IsFault question.entry.version question.entry.format.now question.entry.target.now (reason_of f)
         × (input.new ≡ input.old) × (out.new ≡ out.old) }
     ensures unread { result ≡ Err (failure.Stopped Stop.Unread) → out.new ≡ out.old }
@@ -71,15 +73,15 @@ pub fn serve<'a, R: Source, W: Sink>(
     ensures read { (stop : Stop_) → result ≡ Err (failure.Stopped stop)
         → IsReadCounted stop (R.faults input.old) (R.faults input.new) (R.given input.old) (R.given input.new) }
     ensures cause { (stop : Stop_) → result ≡ Err (failure.Stopped stop)
-        → IsCounted stop (W.faults out.old.sink) (W.faults out.new.sink) }
+        → IsWriteCounted stop (W.faults out.old.sink) (W.faults out.new.sink) }
     ensures whole { OnOk result ((R.faults input.new ≡ R.faults input.old) × (W.faults out.new.sink ≡ W.faults out.old.sink)) }
 {
     let format = question.format.as_bytes();
     let request = match Request::new(question.version, format, question.target.as_bytes()) {
         Ok(request) => request,
-        Err(fault) => return Err(Failure::Asked(fault)),
+        Err(fault) => return Err(Failure::Arguments(fault)),
     };
-    match serve_asked(request, question.tells_places, alloc, input, out) {
+    match serve_request(request, question.prints_places, alloc, input, out) {
         Ok(()) => Ok(()),
         Err(stop) => Err(Failure::Stopped(stop)),
     }

@@ -106,10 +106,10 @@ mod texts {
     /// Whether the text was written, and is this one.
     pub fn is_text<const N: usize>(
         text: Result<DescriptionText<N>, NoText>,
-        wanted: &[u8],
+        expected: &[u8],
     ) -> bool {
         match text {
-            Ok(text) => text.as_bytes() == wanted,
+            Ok(text) => text.as_bytes() == expected,
             Err(_) => false,
         }
     }
@@ -134,9 +134,9 @@ mod texts {
     }
 
     // Whether the item's description has this many steps, and fits them.
-    fn has_steps(item: &BorrowedFormatItem<'_>, wanted: usize) -> bool {
+    fn has_steps(item: &BorrowedFormatItem<'_>, expected: usize) -> bool {
         match description_of::<28, _>(item) {
-            Ok(description) => description.steps().len() == wanted,
+            Ok(description) => description.steps().len() == expected,
             Err(_) => false,
         }
     }

@@ -57,9 +57,9 @@ mod moments {
     /// Whether the text was written, or rejected for that reason.
     pub fn is_answer(
         answer: Result<Text, Unformattable>,
-        wanted: Result<&[u8], Unformattable>,
+        expected: Result<&[u8], Unformattable>,
     ) -> bool {
-        match (answer, wanted) {
+        match (answer, expected) {
             (Ok(text), Ok(bytes)) => text.as_bytes() == bytes,
             (Err(why), Err(reason)) => why == reason,
             _ => false,
@@ -67,9 +67,9 @@ mod moments {
     }
 
     /// Whether the moment has that text by a description as text.
-    pub fn is_text(value: OffsetDateTime, description: &[u8], wanted: &[u8]) -> bool {
+    pub fn is_text(value: OffsetDateTime, description: &[u8], expected: &[u8]) -> bool {
         match parse_borrowed::<2, 64>(description) {
-            Ok(steps) => is_answer(format(value, steps.steps()), Ok(wanted)),
+            Ok(steps) => is_answer(format(value, steps.steps()), Ok(expected)),
             Err(_) => false,
         }
     }
@@ -83,8 +83,8 @@ mod moments {
     }
 
     /// Whether the moment has that text by a row of steps.
-    pub fn is_row(value: OffsetDateTime, steps: &[Step], wanted: &[u8]) -> bool {
-        is_answer(format(value, steps), Ok(wanted))
+    pub fn is_row(value: OffsetDateTime, steps: &[Step], expected: &[u8]) -> bool {
+        is_answer(format(value, steps), Ok(expected))
     }
 
     // Texts of single components, and of dates and times.
@@ -289,7 +289,7 @@ mod moments {
             ),
         ];
 
-        static LATER: [(&[u8], &[u8]); 4] = [
+        static AFTER: [(&[u8], &[u8]); 4] = [
             (b"[unix_timestamp]", b"1000000000"),
             (b"[unix_timestamp sign:mandatory]", b"+1000000000"),
             (b"[unix_timestamp precision:millisecond]", b"1000000000000"),
@@ -311,7 +311,7 @@ mod moments {
             }
             // 2001-09-09T01:46:40Z at +01:00.
             let value = moment((2001, 252), (2, 46, 40, 0), (1, 0, 0))?;
-            for (description, text) in &LATER {
+            for (description, text) in &AFTER {
                 assert!(rt;
                     is_text(value, description, text),
                     "{}",

@@ -96,7 +96,7 @@ fn invalid(value: &[u8], index: usize) -> InvalidFormatDescription<'_> {
 }
 
 // The value of the name in the table, in letters of either case.
-fn beside<V: Copy>(rows: &[(&str, V)], name: &[u8]) -> Option<V> {
+fn value_of_name<V: Copy>(rows: &[(&str, V)], name: &[u8]) -> Option<V> {
     for (own, value) in rows {
         if own.as_bytes().eq_ignore_ascii_case(name) {
             return Some(*value);
@@ -107,7 +107,7 @@ fn beside<V: Copy>(rows: &[(&str, V)], name: &[u8]) -> Option<V> {
 
 // The keys of the component with that name.
 fn keys_of(name: &[u8]) -> Option<&'static [Key]> {
-    beside(&NAMES, name)
+    value_of_name(&NAMES, name)
 }
 
 // Whether the bytes are the digits of 1 to 65535.
@@ -325,7 +325,7 @@ impl<'a> Slow<'a> {
             return Err(invalid(self.between(from, to), from));
         };
         let key = self.between(from, colon);
-        let Some(values) = beside(keys, key) else {
+        let Some(values) = value_of_name(keys, key) else {
             return Err(invalid(key, from));
         };
         let begin = colon.saturating_add(1);

@@ -5,7 +5,7 @@ use time_descriptions::{Description, Group, InvalidFormatDescription, Step, pars
 
 /// An expected step, in plain form.
 #[derive(Clone, Copy)]
-pub enum Wanted {
+pub enum ExpectedStep {
     /// A byte of a literal.
     Byte(u8),
     /// A further byte of the literal before it.
@@ -28,7 +28,7 @@ pub enum Wanted {
     OffsetMinute,
 }
 
-impl Wanted {
+impl ExpectedStep {
     fn step(self) -> Step {
         let padding = Padding::Zero;
         let component = match self {
@@ -50,79 +50,79 @@ impl Wanted {
     }
 }
 
-fn are_steps(steps: &[Step], wanted: &[Wanted]) -> bool {
-    for (step, wanted) in steps.iter().zip(wanted) {
-        if *step != wanted.step() {
+fn are_steps(steps: &[Step], expected: &[ExpectedStep]) -> bool {
+    for (step, expected) in steps.iter().zip(expected) {
+        if *step != expected.step() {
             return false;
         }
     }
-    steps.len() == wanted.len()
+    steps.len() == expected.len()
 }
 
 /// Whether a description was parsed, and has these steps.
 pub fn has_steps(
     answer: Result<Description<64>, InvalidFormatDescription<'_>>,
-    wanted: &[Wanted],
+    expected: &[ExpectedStep],
 ) -> bool {
     match answer {
-        Ok(description) => are_steps(description.steps(), wanted),
+        Ok(description) => are_steps(description.steps(), expected),
         Err(_) => false,
     }
 }
 
-const DAY: Wanted = Wanted::Day(Padding::Zero);
+const DAY: ExpectedStep = ExpectedStep::Day(Padding::Zero);
 
 // Texts of version 2, each with its steps.
-static TEXTS: [(&[u8], &[Wanted]); 6] = [
+static TEXTS: [(&[u8], &[ExpectedStep]); 6] = [
     (b"", &[]),
     (b"[day]", &[DAY]),
     (b"[ DAY  Padding:NONE padding:zero ]", &[DAY]),
     (
         b"a][day]\\[",
         &[
-            Wanted::Byte(b'a'),
-            Wanted::More(b']'),
+            ExpectedStep::Byte(b'a'),
+            ExpectedStep::More(b']'),
             DAY,
-            Wanted::Byte(b'['),
+            ExpectedStep::Byte(b'['),
         ],
     ),
     (
         b"[optional [/[day]]]",
-        &[Wanted::Optional(2), Wanted::Byte(b'/'), DAY],
+        &[ExpectedStep::Optional(2), ExpectedStep::Byte(b'/'), DAY],
     ),
     (
         b"[first [[day]] [-]]",
         &[
-            Wanted::First(4),
-            Wanted::List(1),
+            ExpectedStep::First(4),
+            ExpectedStep::List(1),
             DAY,
-            Wanted::List(1),
-            Wanted::Byte(b'-'),
+            ExpectedStep::List(1),
+            ExpectedStep::Byte(b'-'),
         ],
     ),
 ];
 
 // Texts of version 1, each with its steps.
-static TEXTS_OF_VERSION_1: [(&[u8], &[Wanted]); 2] = [
+static TEXTS_OF_VERSION_1: [(&[u8], &[ExpectedStep]); 2] = [
     (
         b"[[[day]\\",
-        &[Wanted::Byte(b'['), DAY, Wanted::Byte(b'\\')],
+        &[ExpectedStep::Byte(b'['), DAY, ExpectedStep::Byte(b'\\')],
     ),
-    (b"[optional [[day]]]", &[Wanted::Optional(1), DAY]),
+    (b"[optional [[day]]]", &[ExpectedStep::Optional(1), DAY]),
 ];
 
 #[test]
 fn steps_of_texts(rt: HostRuntime) {
-    for (text, wanted) in &TEXTS {
+    for (text, expected) in &TEXTS {
         assert!(rt;
-            has_steps(parse_borrowed::<2, 64>(text), wanted),
+            has_steps(parse_borrowed::<2, 64>(text), expected),
             "{}",
             text.escape_ascii()
         );
     }
-    for (text, wanted) in &TEXTS_OF_VERSION_1 {
+    for (text, expected) in &TEXTS_OF_VERSION_1 {
         assert!(rt;
-            has_steps(parse_borrowed::<1, 64>(text), wanted),
+            has_steps(parse_borrowed::<1, 64>(text), expected),
             "{}",
             text.escape_ascii()
         );
@@ -256,31 +256,44 @@ fn each_fault(rt: HostRuntime) {
 
 // Descriptions in strftime's syntax, and each error with its index.
 mod strftime {
-    use super::{Wanted, has_steps};
+    use super::{ExpectedStep, has_steps};
     use time_components::Padding;
     use time_descriptions::{InvalidFormatDescription, parse_borrowed, parse_strftime};
 
     // Texts, each with its steps.
-    static STEPS: [(&[u8], &[Wanted]); 5] = [
+    static STEPS: [(&[u8], &[ExpectedStep]); 5] = [
         (b"", &[]),
-        (b"a%%", &[Wanted::Byte(b'a'), Wanted::Byte(b'%')]),
+        (
+            b"a%%",
+            &[ExpectedStep::Byte(b'a'), ExpectedStep::Byte(b'%')],
+        ),
         (
             b"%_d.d",
             &[
-                Wanted::Day(Padding::Space),
-                Wanted::Byte(b'.'),
-                Wanted::Byte(b'd'),
+                ExpectedStep::Day(Padding::Space),
+                ExpectedStep::Byte(b'.'),
+                ExpectedStep::Byte(b'd'),
             ],
         ),
-        (b"%R", &[Wanted::Hour, Wanted::Byte(b':'), Wanted::Minute]),
-        (b"%z", &[Wanted::OffsetHour, Wanted::OffsetMinute]),
+        (
+            b"%R",
+            &[
+                ExpectedStep::Hour,
+                ExpectedStep::Byte(b':'),
+                ExpectedStep::Minute,
+            ],
+        ),
+        (
+            b"%z",
+            &[ExpectedStep::OffsetHour, ExpectedStep::OffsetMinute],
+        ),
     ];
 
     #[test]
     fn steps_of_texts(rt: HostRuntime) {
-        for (text, wanted) in &STEPS {
+        for (text, expected) in &STEPS {
             assert!(rt;
-                has_steps(parse_strftime::<64>(text), wanted),
+                has_steps(parse_strftime::<64>(text), expected),
                 "{}",
                 text.escape_ascii()
             );
@@ -470,9 +483,9 @@ mod owned {
     use time_descriptions::{InvalidFormatDescription, OwnedError, parse_owned};
 
     // Whether the text was written, and is this one.
-    fn is_text(text: Result<String, AllocError>, wanted: &str) -> bool {
+    fn is_text(text: Result<String, AllocError>, expected: &str) -> bool {
         match text {
-            Ok(text) => text.as_str() == wanted,
+            Ok(text) => text.as_str() == expected,
             Err(_) => false,
         }
     }
@@ -496,17 +509,17 @@ mod owned {
     ];
 
     // Whether this is the debug output of the items.
-    fn has_items(alloc: Global, text: &[u8], wanted: &str) -> bool {
+    fn has_items(alloc: Global, text: &[u8], expected: &str) -> bool {
         match parse_owned::<2>(alloc, text) {
-            Ok(item) => is_text(format!(in alloc; "{item:?}"), wanted),
+            Ok(item) => is_text(format!(in alloc; "{item:?}"), expected),
             Err(_) => false,
         }
     }
 
     #[test]
     fn owned_items(rt: HostRuntime) {
-        for (text, wanted) in &ITEMS {
-            assert!(rt; has_items(rt.alloc(), text, wanted), "{wanted}");
+        for (text, expected) in &ITEMS {
+            assert!(rt; has_items(rt.alloc(), text, expected), "{expected}");
         }
     }
 
@@ -553,9 +566,9 @@ mod owned {
     ];
 
     #[test]
-    fn shown_errors(rt: HostRuntime) {
-        for (error, wanted) in &ERRORS {
-            assert!(rt; is_text(format!(in rt.alloc(); "{error}"), wanted));
+    fn displayed_errors(rt: HostRuntime) {
+        for (error, expected) in &ERRORS {
+            assert!(rt; is_text(format!(in rt.alloc(); "{error}"), expected));
         }
     }
 }

@@ -7,7 +7,7 @@ use time_descriptions::{OwnedError, parse_borrowed, parse_owned};
 
 // Whether the text has the slow parser's error in that version, in room for 128 steps, and as an item that owns its
 // parts.
-fn is_told_in<const VERSION: usize>(alloc: Global, text: &[u8]) -> bool
+fn errors_agree_in<const VERSION: usize>(alloc: Global, text: &[u8]) -> bool
     requires { (VERSION ≡ 1) ⊎ (VERSION ≡ 2) }
 {
     let version = VERSION;
@@ -16,9 +16,9 @@ fn is_told_in<const VERSION: usize>(alloc: Global, text: &[u8]) -> bool
         && parse_owned::<VERSION>(alloc, text).err() == fault.map(OwnedError::Invalid)
 }
 
-// Whether it has, in both versions.
-fn is_told(alloc: Global, text: &[u8]) -> bool {
-    is_told_in::<1>(alloc, text) && is_told_in::<2>(alloc, text)
+// Whether the text has the slow parser's error in both versions.
+fn errors_agree(alloc: Global, text: &[u8]) -> bool {
+    errors_agree_in::<1>(alloc, text) && errors_agree_in::<2>(alloc, text)
 }
 
 // The alphabet of the short texts.
@@ -43,7 +43,7 @@ fn short_texts(rt: HostRuntime) {
         for number in 0..texts {
             let text = short_text(number, len);
             assert!(rt;
-                is_told(rt.alloc(), &text[..len.min(6)]),
+                errors_agree(rt.alloc(), &text[..len.min(6)]),
                 "number {number} of {len} bytes"
             );
         }
@@ -54,7 +54,7 @@ fn short_texts(rt: HostRuntime) {
 }
 
 // Whether the text has the slow parser's error with each letter of the alphabet at the place.
-fn is_told_changed(alloc: Global, text: &[u8], place: usize) -> bool {
+fn errors_agree_if_changed(alloc: Global, text: &[u8], place: usize) -> bool {
     let mut bytes = [0u8; 64];
     let Some(changed) = bytes.get_mut(..text.len()) else {
         return false;
@@ -64,7 +64,7 @@ fn is_told_changed(alloc: Global, text: &[u8], place: usize) -> bool {
         if let Some(it) = changed.get_mut(place) {
             *it = *byte;
         }
-        if !is_told(alloc, changed) {
+        if !errors_agree(alloc, changed) {
             return false;
         }
     }
@@ -75,13 +75,13 @@ fn is_told_changed(alloc: Global, text: &[u8], place: usize) -> bool {
 // another error than that of the slow parser.
 fn tried_around(alloc: Global, text: &[u8]) -> Option<usize> {
     let mut tried = 1usize;
-    for cut in 0..text.len() {
-        if !(is_told(alloc, &text[..cut]) && is_told_changed(alloc, text, cut)) {
+    for end in 0..text.len() {
+        if !(errors_agree(alloc, &text[..end]) && errors_agree_if_changed(alloc, text, end)) {
             return None;
         }
         tried = tried.saturating_add(8);
     }
-    if is_told(alloc, text) {
+    if errors_agree(alloc, text) {
         Some(tried)
     } else {
         None
@@ -143,6 +143,6 @@ fn nested(levels: usize) -> &'static [u8] {
 #[test]
 fn deep_lists(rt: HostRuntime) {
     for levels in 1..12usize {
-        assert!(rt; is_told(rt.alloc(), nested(levels)), "{levels} levels");
+        assert!(rt; errors_agree(rt.alloc(), nested(levels)), "{levels} levels");
     }
 }

@@ -69,7 +69,7 @@ mod formats {
     }
 
     /// The numbers of a part of the text over the defaults, or the error.
-    pub(super) fn said_by<F: Parsable>(
+    pub(super) fn parse_part_by<F: Parsable>(
         format: &F,
         part: Part,
         text: &[u8],
@@ -100,32 +100,37 @@ mod formats {
         }
     }
 
-    // Those numbers by a description.
-    fn said_as_described(
+    // The numbers of a part of the text by a description, over the defaults, or the error.
+    fn parse_part_as_described(
         description: &[u8],
         part: Part,
         text: &[u8],
         defaults: Option<Parsed>,
     ) -> Result<Numbers, Parse> {
         match described(description) {
-            Some(description) => said_by(&description, part, text, defaults),
+            Some(description) => parse_part_by(&description, part, text, defaults),
             None => Err(DESCRIPTION),
         }
     }
 
-    /// Those numbers by a format.
-    pub(super) fn said(
+    /// The numbers of a part of the text by one of the formats, over the defaults, or the error.
+    pub(super) fn parse_part(
         format: Format,
         part: Part,
         text: &[u8],
         defaults: Option<Parsed>,
     ) -> Result<Numbers, Parse> {
         match format {
-            Format::Stamp => said_by(&Rfc3339, part, text, defaults),
-            Format::StampByReference => said_by(&&Rfc3339, part, text, defaults),
-            Format::Mail => said_by(&Rfc2822, part, text, defaults),
-            Format::Iso => said_by(&Iso8601, part, text, defaults),
-            Format::Described(description) => said_as_described(description, part, text, defaults),
+            Format::Stamp => parse_part_by(&Rfc3339, part, text, defaults),
+            Format::StampByReference => parse_part_by(&&Rfc3339, part, text, defaults),
+            Format::Mail => parse_part_by(&Rfc2822, part, text, defaults),
+            Format::Iso => parse_part_by(&Iso8601, part, text, defaults),
+            Format::Described(description) => parse_part_as_described(
+                description,
+                part,
+                text,
+                defaults,
+            ),
         }
     }
 
@@ -155,7 +160,7 @@ mod refusals {
     use time_values::error::{ComponentRange, Parse, ParseFromDescription, TryFromParsed};
 
     // The error of a component that can't be parsed.
-    macro_rules! unread {
+    macro_rules! invalid {
         ($name:literal) => {
             Parse::ParseFromDescription(ParseFromDescription::InvalidComponent($name))
         };
@@ -185,29 +190,29 @@ mod refusals {
     pub(super) const MISSING: Parse = Parse::TryFromParsed(TryFromParsed::InsufficientInformation);
 
     // Components that can't be parsed.
-    pub(super) const YEAR: Parse = unread!("year");
+    pub(super) const YEAR: Parse = invalid!("year");
 
-    pub(super) const MONTH: Parse = unread!("month");
+    pub(super) const MONTH: Parse = invalid!("month");
 
-    pub(super) const DAY: Parse = unread!("day");
+    pub(super) const DAY: Parse = invalid!("day");
 
-    pub(super) const ORDINAL: Parse = unread!("ordinal");
+    pub(super) const ORDINAL: Parse = invalid!("ordinal");
 
-    pub(super) const WEEK: Parse = unread!("week");
+    pub(super) const WEEK: Parse = invalid!("week");
 
-    pub(super) const WEEKDAY: Parse = unread!("weekday");
+    pub(super) const WEEKDAY: Parse = invalid!("weekday");
 
-    pub(super) const HOUR: Parse = unread!("hour");
+    pub(super) const HOUR: Parse = invalid!("hour");
 
-    pub(super) const MINUTE: Parse = unread!("minute");
+    pub(super) const MINUTE: Parse = invalid!("minute");
 
-    pub(super) const SECOND: Parse = unread!("second");
+    pub(super) const SECOND: Parse = invalid!("second");
 
-    pub(super) const OFFSET_HOUR: Parse = unread!("offset hour");
+    pub(super) const OFFSET_HOUR: Parse = invalid!("offset hour");
 
-    pub(super) const OFFSET_MINUTE: Parse = unread!("offset minute");
+    pub(super) const OFFSET_MINUTE: Parse = invalid!("offset minute");
 
-    pub(super) const DESCRIPTION: Parse = unread!("description");
+    pub(super) const DESCRIPTION: Parse = invalid!("description");
 
     // Components that are out of range.
     pub(super) const NO_MONTH: Parse = out!("month", false);
@@ -237,7 +242,7 @@ mod refusals {
 mod answers {
     use self::Answer::{Moment, Refused};
     use super::formats::Format::{self, Mail, Stamp};
-    use super::formats::{Numbers, Part, numbers, said};
+    use super::formats::{Numbers, Part, numbers, parse_part};
     use super::refusals::{
         DAY, HOUR, LITERAL, MINUTE, MONTH, NO_DAY, NO_HOUR, NO_HOURS, NO_LEAP_SECOND, NO_MINUTE,
         NO_MINUTES, NO_MONTH, NO_SECOND, OFFSET_HOUR, OFFSET_MINUTE, SECOND, TRAILING, YEAR,
@@ -257,18 +262,18 @@ mod answers {
     }
 
     /// The result without a record, and the result over an empty one.
-    pub(super) fn both_ways(answer: Answer) -> (Result<Numbers, Parse>, Result<Numbers, Parse>) {
+    pub(super) fn both_results(answer: Answer) -> (Result<Numbers, Parse>, Result<Numbers, Parse>) {
         match answer {
             Moment(date, time, (hours, minutes)) => {
-                let said = Ok((date, time, (hours, minutes, 0)));
-                (said, said)
+                let parsed = Ok((date, time, (hours, minutes, 0)));
+                (parsed, parsed)
             }
             Refused(without, over) => (Err(without), Err(over)),
         }
     }
 
     // The result on the direct path, without a record.
-    fn directly(format: Format, text: &[u8]) -> Result<Numbers, Parse> {
+    fn direct_result(format: Format, text: &[u8]) -> Result<Numbers, Parse> {
         match format {
             Stamp => Ok(numbers(direct::rfc3339(text)?)),
             Mail => Ok(numbers(direct::rfc2822(text)?)),
@@ -278,18 +283,18 @@ mod answers {
     }
 
     /// Whether the text has this result without defaults, on the direct path, and over an empty record.
-    pub(super) fn is_answered(format: Format, text: &[u8], wanted: Answer) -> bool {
-        let (wanted, wanted_over_a_record) = both_ways(wanted);
-        let staged = said(format, Part::Moment, text, Some(Parsed::new()));
-        said(format, Part::Moment, text, None) == wanted
-            && directly(format, text) == wanted
-            && staged == wanted_over_a_record
+    pub(super) fn is_answered(format: Format, text: &[u8], expected: Answer) -> bool {
+        let (expected, expected_over_a_record) = both_results(expected);
+        let staged = parse_part(format, Part::Moment, text, Some(Parsed::new()));
+        parse_part(format, Part::Moment, text, None) == expected
+            && direct_result(format, text) == expected
+            && staged == expected_over_a_record
     }
 
     /// The first text whose result differs, if there is one.
-    pub(super) fn unanswered(format: Format, rows: &[Row]) -> Option<&'static [u8]> {
-        for (text, wanted) in rows {
-            if !is_answered(format, text, *wanted) {
+    pub(super) fn first_difference(format: Format, rows: &[Row]) -> Option<&'static [u8]> {
+        for (text, expected) in rows {
+            if !is_answered(format, text, *expected) {
                 return Some(*text);
             }
         }
@@ -297,12 +302,12 @@ mod answers {
     }
 
     /// The first mail date whose result differs, if there is one. A function for each table keeps its rows apart.
-    pub(super) fn unanswered_mail_date() -> Option<&'static [u8]> {
+    pub(super) fn first_mail_difference() -> Option<&'static [u8]> {
         for text in [
-            unanswered_moment(),
-            unanswered_refusal(),
-            unanswered_form(),
-            unanswered_return(),
+            first_moment_difference(),
+            first_refusal_difference(),
+            first_form_difference(),
+            first_return_difference(),
         ] {
             if text.is_some() {
                 return text;
@@ -311,20 +316,20 @@ mod answers {
         None
     }
 
-    fn unanswered_moment() -> Option<&'static [u8]> {
-        unanswered(Mail, &MAIL_DATES)
+    fn first_moment_difference() -> Option<&'static [u8]> {
+        first_difference(Mail, &MAIL_DATES)
     }
 
-    fn unanswered_refusal() -> Option<&'static [u8]> {
-        unanswered(Mail, &MAIL_REFUSED)
+    fn first_refusal_difference() -> Option<&'static [u8]> {
+        first_difference(Mail, &MAIL_REFUSED)
     }
 
-    fn unanswered_form() -> Option<&'static [u8]> {
-        unanswered(Mail, &MAIL_NOT_IN_FORM)
+    fn first_form_difference() -> Option<&'static [u8]> {
+        first_difference(Mail, &MAIL_NOT_IN_FORM)
     }
 
-    fn unanswered_return() -> Option<&'static [u8]> {
-        unanswered(Mail, &MAIL_RETURNS)
+    fn first_return_difference() -> Option<&'static [u8]> {
+        first_difference(Mail, &MAIL_RETURNS)
     }
 
     /// A text and its result.
@@ -601,14 +606,14 @@ mod answers {
 
 // The direct paths of RFC 3339 and RFC 2822, compared with parses over an empty record.
 mod two_paths {
-    use super::answers::{STAMPS, unanswered, unanswered_mail_date};
+    use super::answers::{STAMPS, first_difference, first_mail_difference};
     use super::formats::Format::Stamp;
 
     #[test]
     fn two_paths(rt: HostRuntime) {
-        let text = unanswered(Stamp, &STAMPS);
+        let text = first_difference(Stamp, &STAMPS);
         assert!(rt; text == None, "{text:?}");
-        let text = unanswered_mail_date();
+        let text = first_mail_difference();
         assert!(rt; text == None, "{text:?}");
     }
 }

@@ -204,7 +204,7 @@ fn leap_second(parsed: &Parsed) -> Option<Parsed> {
 
 // Whether a second of 60 is allowed as a leap second. A conversion shows it, since no getter returns the flag. A
 // timestamp would take precedence over it.
-fn takes_leap_second(parsed: &Parsed) -> bool {
+fn allows_leap_second(parsed: &Parsed) -> bool {
     leap_second(parsed).is_some_and(|leap| OffsetDateTime::try_from(leap).is_ok())
 }
 
@@ -218,7 +218,7 @@ pub fn same_record(a: &Parsed, b: &Parsed) -> bool {
     a.year_century_is_negative() == b.year_century_is_negative()
         && a.iso_year_century_is_negative() == b.iso_year_century_is_negative()
         && negates_offset(a) == negates_offset(b)
-        && takes_leap_second(a) == takes_leap_second(b)
+        && allows_leap_second(a) == allows_leap_second(b)
 }
 
 // The setters and builders of a record by a field's name.

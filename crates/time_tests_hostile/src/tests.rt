@@ -79,12 +79,12 @@ mod readme {
 
         #[test]
         fn clocks(rt: HostRuntime) {
-            for (text, seen) in [
+            for (text, expected) in [
                 (b"23:59".as_slice(), Ok((23, 59, 0, 0))),
                 (b"2359", Err(NO_COLON)),
                 (b"23:60", Err(NO_MINUTE)),
             ] {
-                assert!(rt; numbers(text) == seen, "{text:?}");
+                assert!(rt; numbers(text) == expected, "{text:?}");
             }
         }
     }
@@ -109,12 +109,12 @@ mod readme {
 
         #[test]
         fn moments(rt: HostRuntime) {
-            let seen = (
+            let expected = (
                 (1985, Month::April, 12),
                 (23, 20, 50, 520_000_000),
                 (0, 0, 0),
             );
-            assert!(rt; moment(b"1985-04-12T23:20:50.52Z").map(parts) == Ok(seen));
+            assert!(rt; moment(b"1985-04-12T23:20:50.52Z").map(parts) == Ok(expected));
             assert!(rt; moment(b"") == Err(NO_YEAR));
         }
     }

@@ -166,7 +166,7 @@ mod rfc3339 {
     ];
 
     // `2021-01-02T03:04:05.25+06:07` truncated at each byte fails at the start of the truncated place.
-    static CUTS: [Row<'static>; 28] = [
+    static TRUNCATED: [Row<'static>; 28] = [
         (b"", 0, Component("year")),
         (b"2", 0, Component("year")),
         (b"20", 0, Component("year")),
@@ -218,7 +218,7 @@ mod rfc3339 {
     #[test]
     fn rfc3339(rt: HostRuntime) {
         assert_located(&rt, &Rfc3339, &PLACES, &WHOLE);
-        assert_located(&rt, &Rfc3339, &CUTS, &[]);
+        assert_located(&rt, &Rfc3339, &TRUNCATED, &[]);
         assert!(rt; is_at(&&Rfc3339, &MONTH, Parsed::new().with_year(2021)));
     }
 }
@@ -313,7 +313,7 @@ mod rfc2822 {
 
     // `Sat, 02 Jan 2021 03:04:05 +0607` truncated at each byte fails at the start of the truncated part. A day of 0 is
     // invalid, and a year of two digits is valid.
-    static CUTS: [Row<'static>; 31] = [
+    static TRUNCATED: [Row<'static>; 31] = [
         (b"", 0, Component("day")),
         (b"S", 0, Component("day")),
         (b"Sa", 0, Component("day")),
@@ -370,7 +370,7 @@ mod rfc2822 {
     #[test]
     fn rfc2822(rt: HostRuntime) {
         assert_located(&rt, &Rfc2822, &PLACES, &WHOLE);
-        assert_located(&rt, &Rfc2822, &CUTS, &[]);
+        assert_located(&rt, &Rfc2822, &TRUNCATED, &[]);
     }
 }
 
@@ -476,7 +476,7 @@ mod iso8601 {
     ];
 
     // `2021-01-02T03:04:05+06:07` truncated at each byte where it isn't parsed whole.
-    static CUTS: [Row<'static>; 17] = [
+    static TRUNCATED: [Row<'static>; 17] = [
         (b"", 0, Component("year")),
         (b"2", 0, Component("year")),
         (b"202", 2, End),
@@ -520,7 +520,7 @@ mod iso8601 {
         for rows in [&DATES[..], &TIMES, &MOMENTS] {
             assert_located(&rt, &Iso8601, rows, &[]);
         }
-        assert_located(&rt, &Iso8601, &CUTS, &WHOLE);
+        assert_located(&rt, &Iso8601, &TRUNCATED, &WHOLE);
         assert!(rt; is_at(&&Iso8601, &HOUR, Parsed::new().with_year(2021)));
     }
 }
@@ -530,7 +530,7 @@ mod shown {
     use std::test::Fail;
     use time_locating::Expected;
 
-    static SHOWN: [(Expected<'static>, &str); 5] = [
+    static DISPLAYED: [(Expected<'static>, &str); 5] = [
         (Expected::Component("month"), "expected month"),
         (Expected::Literal(b":"), "expected ':'"),
         (Expected::Literal(b"noon"), "expected 'noon'"),
@@ -540,9 +540,9 @@ mod shown {
 
     #[test]
     fn shown(rt: HostRuntime) -> Result<(), Fail> {
-        for (expected, text) in &SHOWN {
-            let shown = format!(in rt.alloc(); "{expected}")?;
-            assert!(rt; shown.as_str() == *text, "{text}");
+        for (expected, text) in &DISPLAYED {
+            let printed = format!(in rt.alloc(); "{expected}")?;
+            assert!(rt; printed.as_str() == *text, "{text}");
         }
         Ok(())
     }

@@ -439,9 +439,9 @@ mod alike {
 
     // Whether both parse the text equally: the rest and the record are equal, or the error is, and the record is
     // unchanged.
-    fn is_alike(both: &Both, text: &[u8], begun: Parsed) -> bool {
-        let mut by_walk = begun;
-        let mut at_once = begun;
+    fn has_equal_results(both: &Both, text: &[u8], record: Parsed) -> bool {
+        let mut by_walk = record;
+        let mut at_once = record;
         let walked = by_walk.parse_steps(text, both.description.steps());
         let read = both.prepared.parse_front_into(text, &mut at_once);
         walked == read && is_same(&by_walk, &at_once)
@@ -466,20 +466,20 @@ mod alike {
     }
 
     // Whether both parse the whole text over the record into an equal date and time.
-    fn is_alike_over(both: &Both, text: &[u8], known: Parsed) -> bool {
+    fn has_equal_date_time(both: &Both, text: &[u8], known: Parsed) -> bool {
         let walked = both.description.parse_plain_date_time(text, Some(known));
         walked == both.prepared.parse_plain_date_time(text, Some(known))
     }
 
     // Whether both parse the text equally over the last of the records, and have equal results for the whole text over
     // each and without one.
-    fn is_alike_in_all(both: &Both, text: &[u8], records: &[Parsed; 4]) -> bool {
+    fn has_equal_results_over_all(both: &Both, text: &[u8], records: &[Parsed; 4]) -> bool {
         for known in records {
-            if !is_alike_over(both, text, *known) {
+            if !has_equal_date_time(both, text, *known) {
                 return false;
             }
         }
-        is_alike(both, text, records[3])
+        has_equal_results(both, text, records[3])
             && values_of(&both.description, text) == values_of(&both.prepared, text)
     }
 
@@ -487,7 +487,7 @@ mod alike {
     const ROOM: usize = 32;
 
     // Whether both parse equally each text that differs from the first one in that byte alone.
-    fn are_alike_at(both: &Both, text: &[u8], at: usize, records: &[Parsed; 4]) -> bool {
+    fn have_equal_results_at(both: &Both, text: &[u8], at: usize, records: &[Parsed; 4]) -> bool {
         let mut bytes = [0; ROOM];
         let Some(changed) = bytes.get_mut(..text.len()) else {
             return false;
@@ -498,7 +498,7 @@ mod alike {
                 return false;
             };
             *place = byte;
-            if !is_alike_in_all(both, changed, records) {
+            if !has_equal_results_over_all(both, changed, records) {
                 return false;
             }
         }
@@ -517,52 +517,53 @@ mod alike {
     }
 
     // Whether both parse equally each text that differs from the first one in one byte, and each of its prefixes.
-    fn are_alike(both: &Both, text: &[u8]) -> bool {
+    fn have_equal_results(both: &Both, text: &[u8]) -> bool {
         let Some(records) = known_records() else {
             return false;
         };
         for at in 0..text.len() {
-            if !is_alike_in_all(both, &text[..at], &records)
-                || !are_alike_at(both, text, at, &records)
+            if !has_equal_results_over_all(both, &text[..at], &records)
+                || !have_equal_results_at(both, text, at, &records)
             {
                 return false;
             }
         }
-        is_alike_in_all(both, text, &records) && is_alike(both, text, Parsed::new())
+        has_equal_results_over_all(both, text, &records)
+            && has_equal_results(both, text, Parsed::new())
     }
 
-    fn assert_alike(rt: &impl Abort, rows: &[Row]) {
+    fn assert_equal_results(rt: &impl Abort, rows: &[Row]) {
         for (description, text) in rows {
-            let alike = match read(description) {
-                Some(both) => are_alike(&both, text),
+            let is_equal = match read(description) {
+                Some(both) => have_equal_results(&both, text),
                 None => false,
             };
-            assert!(rt; alike, "{text:?}");
+            assert!(rt; is_equal, "{text:?}");
         }
     }
 
     #[test]
     fn dates(rt: HostRuntime) {
-        assert_alike(&rt, &DATES);
+        assert_equal_results(&rt, &DATES);
     }
 
     #[test]
     fn times(rt: HostRuntime) {
-        assert_alike(&rt, &TIMES);
+        assert_equal_results(&rt, &TIMES);
     }
 
     #[test]
     fn groups(rt: HostRuntime) {
-        assert_alike(&rt, &GROUPS);
+        assert_equal_results(&rt, &GROUPS);
     }
 
     #[test]
     fn moments(rt: HostRuntime) {
-        assert_alike(&rt, &MOMENTS);
+        assert_equal_results(&rt, &MOMENTS);
     }
 
     #[test]
     fn components(rt: HostRuntime) {
-        assert_alike(&rt, &COMPONENTS);
+        assert_equal_results(&rt, &COMPONENTS);
     }
 }

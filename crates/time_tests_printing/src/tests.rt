@@ -217,8 +217,8 @@ mod texts {
 
     #[test]
     fn moments_without_a_text(rt: HostRuntime) {
-        for (numbers, wanted) in &REASONS {
-            assert!(rt; reasons(*numbers) == Ok(*wanted));
+        for (numbers, expected) in &REASONS {
+            assert!(rt; reasons(*numbers) == Ok(*expected));
         }
     }
 

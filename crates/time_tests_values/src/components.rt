@@ -10,9 +10,9 @@ pub type Answer<T> = Option<(T, &'static [u8])>;
 // Whether the reader's result is the value and rest, or nothing.
 pub fn answers<T: PartialEq + Copy>(
     answer: Option<ParsedItem<'_, T>>,
-    wanted: Option<(T, &[u8])>,
+    expected: Option<(T, &[u8])>,
 ) -> bool {
-    match (answer, wanted) {
+    match (answer, expected) {
         (Some(found), Some(value)) => found.1 == value.0 && found.0 == value.1,
         (None, None) => true,
         _ => false,
@@ -55,11 +55,11 @@ fn components(rt: HostRuntime) {
         padding,
         sign_is_mandatory: false,
     };
-    for (input, wanted) in &CENTURIES_OF_FOUR_DIGITS {
+    for (input, expected) in &CENTURIES_OF_FOUR_DIGITS {
         assert!(rt;
             answers(
                 parse_calendar_year_century_standard_range(input, century),
-                *wanted
+                *expected
             )
         );
     }
@@ -67,11 +67,11 @@ fn components(rt: HostRuntime) {
         padding,
         sign_is_mandatory: false,
     };
-    for (input, wanted) in &WIDE_YEARS {
+    for (input, expected) in &WIDE_YEARS {
         assert!(rt;
             answers(
                 parse_calendar_year_full_extended_range(input, year),
-                *wanted
+                *expected
             )
         );
     }
@@ -132,9 +132,9 @@ static TWO_PLACES: [(&[u8], Padding, Answer<u8>); 12] = [
 
 #[test]
 fn components_in_two_places(rt: HostRuntime) {
-    for (input, padding, wanted) in &TWO_PLACES {
+    for (input, padding, expected) in &TWO_PLACES {
         for answer in two_places(input, *padding) {
-            assert!(rt; answers(answer, *wanted));
+            assert!(rt; answers(answer, *expected));
         }
     }
 }
@@ -168,17 +168,17 @@ static MONTHS: [(&[u8], Padding, Answer<Month>); 6] = [
 
 #[test]
 fn components_from_one(rt: HostRuntime) {
-    for (input, padding, wanted) in &DAYS {
+    for (input, padding, expected) in &DAYS {
         let day = parse_day(input, modifier::Day { padding: *padding });
-        assert!(rt; answers(small(day), *wanted));
+        assert!(rt; answers(small(day), *expected));
     }
-    for (input, padding, wanted) in &ORDINALS {
+    for (input, padding, expected) in &ORDINALS {
         let ordinal = parse_ordinal(input, modifier::Ordinal { padding: *padding });
-        assert!(rt; answers(large(ordinal), *wanted));
+        assert!(rt; answers(large(ordinal), *expected));
     }
-    for (input, padding, wanted) in &MONTHS {
+    for (input, padding, expected) in &MONTHS {
         let month = parse_month_numerical(input, modifier::MonthNumerical { padding: *padding });
-        assert!(rt; answers(month, *wanted));
+        assert!(rt; answers(month, *expected));
     }
 }
 
@@ -233,9 +233,9 @@ fn years(
 
 #[test]
 fn components_of_years(rt: HostRuntime) {
-    for (input, padding, sign_is_mandatory, wanted) in &YEARS {
+    for (input, padding, sign_is_mandatory, expected) in &YEARS {
         for answer in years(input, *padding, *sign_is_mandatory) {
-            assert!(rt; answers(answer, *wanted));
+            assert!(rt; answers(answer, *expected));
         }
     }
     let [_, _, extended, standard] = years(b"+20215", ZERO, true);
@@ -295,9 +295,9 @@ fn centuries(
 
 #[test]
 fn components_of_centuries(rt: HostRuntime) {
-    for (input, padding, sign_is_mandatory, wanted) in &CENTURIES {
+    for (input, padding, sign_is_mandatory, expected) in &CENTURIES {
         for answer in centuries(input, *padding, *sign_is_mandatory) {
-            assert!(rt; answers(answer, *wanted));
+            assert!(rt; answers(answer, *expected));
         }
     }
     let [_, _, extended, standard] = centuries(b"+9999", ZERO, true);
@@ -325,14 +325,14 @@ static OFFSET_MINUTES: [(&[u8], Padding, Answer<i8>); 5] = [
 
 #[test]
 fn components_of_offsets(rt: HostRuntime) {
-    for (input, padding, sign_is_mandatory, wanted) in &OFFSET_HOURS {
-        assert!(rt; answers(offset_hour(input, *padding, *sign_is_mandatory), *wanted));
+    for (input, padding, sign_is_mandatory, expected) in &OFFSET_HOURS {
+        assert!(rt; answers(offset_hour(input, *padding, *sign_is_mandatory), *expected));
     }
-    for (input, padding, wanted) in &OFFSET_MINUTES {
+    for (input, padding, expected) in &OFFSET_MINUTES {
         let minute = parse_offset_minute(input, modifier::OffsetMinute { padding: *padding });
-        assert!(rt; answers(minute, *wanted));
+        assert!(rt; answers(minute, *expected));
         let second = parse_offset_second(input, modifier::OffsetSecond { padding: *padding });
-        assert!(rt; answers(second, *wanted));
+        assert!(rt; answers(second, *expected));
     }
 }
 
@@ -354,11 +354,11 @@ static SECONDS: [(&[u8], bool, Answer<i128>); 6] = [
 
 #[test]
 fn components_of_timestamps_in_seconds(rt: HostRuntime) {
-    for (input, sign_is_mandatory, wanted) in &SECONDS {
+    for (input, sign_is_mandatory, expected) in &SECONDS {
         let modifiers = modifier::UnixTimestampSecond {
             sign_is_mandatory: *sign_is_mandatory,
         };
-        assert!(rt; answers(parse_unix_timestamp_second(input, modifiers), *wanted));
+        assert!(rt; answers(parse_unix_timestamp_second(input, modifiers), *expected));
     }
 }
 
@@ -370,14 +370,14 @@ static MILLISECONDS: [(&[u8], (i128, &[u8])); 3] = [
 
 #[test]
 fn components_of_timestamps_in_milliseconds(rt: HostRuntime) {
-    for (input, wanted) in &MILLISECONDS {
+    for (input, expected) in &MILLISECONDS {
         let modifiers = modifier::UnixTimestampMillisecond {
             sign_is_mandatory: false,
         };
         assert!(rt;
             answers(
                 parse_unix_timestamp_millisecond(input, modifiers),
-                Some(*wanted)
+                Some(*expected)
             )
         );
     }
@@ -391,14 +391,14 @@ static MICROSECONDS: [(&[u8], (i128, &[u8])); 3] = [
 
 #[test]
 fn components_of_timestamps_in_microseconds(rt: HostRuntime) {
-    for (input, wanted) in &MICROSECONDS {
+    for (input, expected) in &MICROSECONDS {
         let modifiers = modifier::UnixTimestampMicrosecond {
             sign_is_mandatory: false,
         };
         assert!(rt;
             answers(
                 parse_unix_timestamp_microsecond(input, modifiers),
-                Some(*wanted)
+                Some(*expected)
             )
         );
     }
@@ -413,14 +413,14 @@ static NANOSECONDS: [(&[u8], (i128, &[u8])); 4] = [
 
 #[test]
 fn components_of_timestamps_in_nanoseconds(rt: HostRuntime) {
-    for (input, wanted) in &NANOSECONDS {
+    for (input, expected) in &NANOSECONDS {
         let modifiers = modifier::UnixTimestampNanosecond {
             sign_is_mandatory: false,
         };
         assert!(rt;
             answers(
                 parse_unix_timestamp_nanosecond(input, modifiers),
-                Some(*wanted)
+                Some(*expected)
             )
         );
     }
@@ -555,7 +555,7 @@ static WEEKDAY_NUMBERS: [(&[u8], bool, Answer<Weekday>, Answer<Weekday>); 8] = [
 
 #[test]
 fn components_of_letters(rt: HostRuntime) {
-    for (input, is_uppercase, case_sensitive, wanted) in &PERIODS {
+    for (input, is_uppercase, case_sensitive, expected) in &PERIODS {
         let period = parse_period(
             input,
             modifier::Period {
@@ -563,7 +563,7 @@ fn components_of_letters(rt: HostRuntime) {
                 case_sensitive: *case_sensitive,
             },
         );
-        assert!(rt; answers(period, *wanted));
+        assert!(rt; answers(period, *expected));
     }
     for (input, one_indexed, sunday, monday) in &WEEKDAY_NUMBERS {
         let one_indexed = *one_indexed;
@@ -611,9 +611,9 @@ static SUBSECONDS: [(&[u8], SubsecondDigits, Answer<u32>); 16] = [
 
 #[test]
 fn components_of_subseconds(rt: HostRuntime) {
-    for (input, digits, wanted) in &SUBSECONDS {
+    for (input, digits, expected) in &SUBSECONDS {
         let subsecond = parse_subsecond(input, modifier::Subsecond { digits: *digits });
-        assert!(rt; answers(subsecond, *wanted));
+        assert!(rt; answers(subsecond, *expected));
     }
 }
 
@@ -627,9 +627,9 @@ static SKIPPED: [(&[u8], u16, Answer<()>); 4] = [
 
 #[test]
 fn components_of_bytes(rt: HostRuntime) {
-    for (input, count, wanted) in &SKIPPED {
+    for (input, count, expected) in &SKIPPED {
         let count = NonZero::<u16>::new(*count).expect(&rt, "a count");
-        assert!(rt; answers(parse_ignore(input, modifier::Ignore { count }), *wanted));
+        assert!(rt; answers(parse_ignore(input, modifier::Ignore { count }), *expected));
     }
 }
 
@@ -642,11 +642,11 @@ static ENDS: [(&[u8], TrailingInput, Answer<()>); 4] = [
 
 #[test]
 fn components_of_ends(rt: HostRuntime) {
-    for (input, trailing_input, wanted) in &ENDS {
+    for (input, trailing_input, expected) in &ENDS {
         let end = modifier::End {
             trailing_input: *trailing_input,
         };
-        assert!(rt; answers(parse_end(input, end), *wanted));
+        assert!(rt; answers(parse_end(input, end), *expected));
     }
 }
 
@@ -664,9 +664,9 @@ mod debug_texts {
     });
 
     // Whether this is the value's debug output.
-    fn prints<T: Debug>(alloc: Global, value: &T, wanted: &str) -> bool {
+    fn prints<T: Debug>(alloc: Global, value: &T, expected: &str) -> bool {
         match format!(in alloc; "{value:?}") {
-            Ok(text) => text.as_str() == wanted,
+            Ok(text) => text.as_str() == expected,
             Err(_) => false,
         }
     }
@@ -680,9 +680,9 @@ mod debug_texts {
         ];
         let list = BorrowedFormatItem::Compound(&parts);
         let item = BorrowedFormatItem::Optional(&list);
-        let wanted = "Optional(Compound([Literal([45]), StringLiteral(\"T\"), \
+        let expected = "Optional(Compound([Literal([45]), StringLiteral(\"T\"), \
                       Component(Day(Day { padding: Zero }))]))";
-        assert!(rt; prints(rt.alloc(), &item, wanted));
+        assert!(rt; prints(rt.alloc(), &item, expected));
     }
 
     // A text, followed by an optional day.
@@ -699,10 +699,10 @@ mod debug_texts {
 
     #[test]
     fn version_three_as_derived(rt: HostRuntime) {
-        let wanted = "FormatDescriptionV3 { inner: OwnedCompound([BorrowedLiteral(\"T\"), \
+        let expected = "FormatDescriptionV3 { inner: OwnedCompound([BorrowedLiteral(\"T\"), \
                       OwnedOptional { format: true, item: Component(Day(Day { padding: Zero })) }]) }";
         let is_printed = match version_three(rt.alloc()) {
-            Some(description) => prints(rt.alloc(), &description, wanted),
+            Some(description) => prints(rt.alloc(), &description, expected),
             None => false,
         };
         assert!(rt; is_printed);

@@ -44,8 +44,8 @@ static PADDED: [(&[u8], Padding, Answer<u8>); 3] = [
 fn digits_and_record(rt: HostRuntime) {
     assert!(rt; reads_as_many_as_fit());
     assert!(rt; reads_behind_spaces());
-    for (input, padding, wanted) in &PADDED {
-        assert!(rt; answers(exactly_n_digits_padded::<2, u8>(input, *padding), *wanted));
+    for (input, padding, expected) in &PADDED {
+        assert!(rt; answers(exactly_n_digits_padded::<2, u8>(input, *padding), *expected));
     }
     assert!(rt; reads(exactly_n_digits::<9>(b"9999999990"), 999_999_999, b"0"));
     assert!(rt; exactly_n_digits::<9>(b"/234567891").is_none());
@@ -98,16 +98,16 @@ fn pushed<T: Integer>(number: T, digit: u8) -> Option<T>
 }
 
 // Whether the greatest number's first digits accept its last digit, and none above it.
-fn takes_the_last_digit<T: Integer + PartialEq + Copy>(first: T, greatest: T) -> bool {
+fn accepts_last_digit<T: Integer + PartialEq + Copy>(first: T, greatest: T) -> bool {
     pushed(first, 5) == Some(greatest) && pushed(first, 6).is_none()
 }
 
 #[test]
 fn greatest_numbers(rt: HostRuntime) {
-    assert!(rt; takes_the_last_digit(25u8, 255));
-    assert!(rt; takes_the_last_digit(6_553u16, 65_535));
-    assert!(rt; takes_the_last_digit(429_496_729u32, u32::MAX));
-    assert!(rt; takes_the_last_digit(u128::MAX / 10, u128::MAX));
+    assert!(rt; accepts_last_digit(25u8, 255));
+    assert!(rt; accepts_last_digit(6_553u16, 65_535));
+    assert!(rt; accepts_last_digit(429_496_729u32, u32::MAX));
+    assert!(rt; accepts_last_digit(u128::MAX / 10, u128::MAX));
     assert!(rt; reads(n_to_m_digits::<5, 5, u16>(b"65535"), 65_535, b""));
     assert!(rt; n_to_m_digits::<5, 5, u16>(b"65536").is_none());
 }

@@ -28,14 +28,14 @@ static WEEKDAYS: [(&[u8], Answer<Weekday>); 4] = [
 
 #[test]
 fn iso_pieces_of_dates(rt: HostRuntime) {
-    for (text, wanted) in &YEARS {
-        assert!(rt; answers(year(text), *wanted), "{text:?}");
+    for (text, expected) in &YEARS {
+        assert!(rt; answers(year(text), *expected), "{text:?}");
     }
-    for (text, wanted) in &MONTHS {
-        assert!(rt; answers(month(text), *wanted), "{text:?}");
+    for (text, expected) in &MONTHS {
+        assert!(rt; answers(month(text), *expected), "{text:?}");
     }
-    for (text, wanted) in &WEEKDAYS {
-        assert!(rt; answers(dayk(text), *wanted), "{text:?}");
+    for (text, expected) in &WEEKDAYS {
+        assert!(rt; answers(dayk(text), *expected), "{text:?}");
     }
 }
 
@@ -51,14 +51,14 @@ static ORDINALS: [(&[u8], Answer<u16>); 3] = [
 
 #[test]
 fn iso_pieces_that_are_positive(rt: HostRuntime) {
-    for (text, wanted) in &WEEKS {
-        assert!(rt; answers(small(week(text)), *wanted), "{text:?}");
+    for (text, expected) in &WEEKS {
+        assert!(rt; answers(small(week(text)), *expected), "{text:?}");
     }
-    for (text, wanted) in &DAYS {
-        assert!(rt; answers(small(day(text)), *wanted), "{text:?}");
+    for (text, expected) in &DAYS {
+        assert!(rt; answers(small(day(text)), *expected), "{text:?}");
     }
-    for (text, wanted) in &ORDINALS {
-        assert!(rt; answers(large(dayo(text)), *wanted), "{text:?}");
+    for (text, expected) in &ORDINALS {
+        assert!(rt; answers(large(dayo(text)), *expected), "{text:?}");
     }
 }
 
@@ -76,21 +76,21 @@ static NUMBERS: [(&[u8], Answer<(u8, Option<&[u8]>)>); 6] = [
 
 #[test]
 fn iso_pieces_of_times(rt: HostRuntime) {
-    for (text, wanted) in &HOURS {
-        assert!(rt; answers(hour(text), *wanted), "{text:?}");
+    for (text, expected) in &HOURS {
+        assert!(rt; answers(hour(text), *expected), "{text:?}");
     }
     assert!(rt; answers(min(b"60"), Some((60, b""))));
-    for (text, wanted) in &NUMBERS {
-        assert!(rt; answers(float(text), *wanted), "{text:?}");
+    for (text, expected) in &NUMBERS {
+        assert!(rt; answers(float(text), *expected), "{text:?}");
     }
 }
 
 // Whether the text starts with that day of a month in extended form, before this rest.
-fn begins_with_day(text: &[u8], wanted: (i32, Month, u8), rest: &[u8]) -> bool {
+fn begins_with_day(text: &[u8], expected: (i32, Month, u8), rest: &[u8]) -> bool {
     match date(text) {
         Ok(found) => match found.value {
             DateNumbers::Calendar(year, month, day) => {
-                (year, month, day.get()) == wanted
+                (year, month, day.get()) == expected
                     && found.rest == rest
                     && found.kind == ExtendedKind::Extended
             }
@@ -101,11 +101,11 @@ fn begins_with_day(text: &[u8], wanted: (i32, Month, u8), rest: &[u8]) -> bool {
 }
 
 // Whether the text starts with that day of a year in basic form.
-fn begins_with_ordinal(text: &[u8], wanted: (i32, u16)) -> bool {
+fn begins_with_ordinal(text: &[u8], expected: (i32, u16)) -> bool {
     match date(text) {
         Ok(found) => match found.value {
             DateNumbers::Ordinal(year, ordinal) => {
-                (year, ordinal.get()) == wanted && found.kind == ExtendedKind::Basic
+                (year, ordinal.get()) == expected && found.kind == ExtendedKind::Basic
             }
             _ => false,
         },
@@ -201,7 +201,7 @@ mod iso_dates_and_times {
         }
     }
 
-    // Whether they do with each byte at the place.
+    // Whether both ways do so with each byte at the place.
     fn is_right_at(text: &[u8], place: usize) -> bool {
         let mut bytes = [0; 40];
         let Some(changed) = bytes.get_mut(..text.len()) else {
@@ -241,8 +241,8 @@ mod iso_time_kinds {
     type Row = (&'static [u8], ExtendedKind, Option<Found>);
 
     // Whether the text parses as that under the kind.
-    fn reads(text: &[u8], kind: ExtendedKind, wanted: Option<Found>) -> bool {
-        match (time(text, kind, false), wanted) {
+    fn reads(text: &[u8], kind: ExtendedKind, expected: Option<Found>) -> bool {
+        match (time(text, kind, false), expected) {
             (Some(found), Some((hour, minute, second, subsecond, rest, after))) => {
                 let numbers = found.value;
                 (numbers.hour, numbers.minute, numbers.second) == (hour, minute, second)
@@ -354,8 +354,8 @@ mod iso_time_kinds {
 
     #[test]
     fn iso_times_by_kind(rt: HostRuntime) {
-        for (text, kind, wanted) in &TIMES {
-            assert!(rt; reads(text, *kind, *wanted), "{text:?} {kind:?}");
+        for (text, kind, expected) in &TIMES {
+            assert!(rt; reads(text, *kind, *expected), "{text:?} {kind:?}");
         }
     }
 
@@ -437,7 +437,7 @@ mod places {
     }
 
     // Whether the text parses as these numbers, before that rest.
-    fn says(text: &[u8], numbers: &Numbers, rest: &[u8]) -> bool {
+    fn parses_as(text: &[u8], numbers: &Numbers, rest: &[u8]) -> bool {
         match read::<true>(text) {
             Ok(found) => found.0 == rest && are_equal(&found.1, numbers),
             Err(_) => false,
@@ -447,7 +447,7 @@ mod places {
     #[test]
     fn rfc3339_places(rt: HostRuntime) {
         for (text, numbers, rest) in &READ {
-            assert!(rt; says(text, numbers, rest), "{text:?}");
+            assert!(rt; parses_as(text, numbers, rest), "{text:?}");
         }
     }
 

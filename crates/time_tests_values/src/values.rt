@@ -87,9 +87,9 @@ fn month_of(number: u8, year: i32) -> Option<Result<(Month, u8), ComponentRange>
 
 #[test]
 fn months(rt: HostRuntime) {
-    for (number, year, wanted) in &MONTHS {
+    for (number, year, expected) in &MONTHS {
         assert!(rt;
-            month_of(*number, *year) == Some(*wanted),
+            month_of(*number, *year) == Some(*expected),
             "{number} in {year}"
         );
     }
@@ -138,8 +138,8 @@ static CALENDAR_DATES: [(Day, Result<bool, ComponentRange>); 12] = [
 
 #[test]
 fn calendar_dates(rt: HostRuntime) {
-    for (day, wanted) in &CALENDAR_DATES {
-        assert!(rt; keeps_its_parts(*day) == *wanted);
+    for (day, expected) in &CALENDAR_DATES {
+        assert!(rt; keeps_its_parts(*day) == *expected);
     }
 }
 
@@ -167,8 +167,8 @@ static ORDINAL_DATES: [(i32, u16, Result<Parts, ComponentRange>); 10] = [
 
 #[test]
 fn ordinal_dates(rt: HostRuntime) {
-    for (year, ordinal, wanted) in &ORDINAL_DATES {
-        assert!(rt; parts_of_day(*year, *ordinal) == *wanted);
+    for (year, ordinal, expected) in &ORDINAL_DATES {
+        assert!(rt; parts_of_day(*year, *ordinal) == *expected);
     }
 }
 
@@ -241,8 +241,8 @@ static TIMES: [(Clock, Result<Clock, ComponentRange>); 6] = [
 
 #[test]
 fn times(rt: HostRuntime) {
-    for (given, wanted) in &TIMES {
-        assert!(rt; time_of(*given) == *wanted);
+    for (numbers, expected) in &TIMES {
+        assert!(rt; time_of(*numbers) == *expected);
     }
 }
 
@@ -272,8 +272,8 @@ static OFFSETS: [(Offset, Result<Offset, ComponentRange>); 13] = [
 
 #[test]
 fn offsets(rt: HostRuntime) {
-    for (given, wanted) in &OFFSETS {
-        assert!(rt; offset_of(*given) == *wanted);
+    for (numbers, expected) in &OFFSETS {
+        assert!(rt; offset_of(*numbers) == *expected);
     }
 }
 
@@ -308,13 +308,14 @@ fn is_utc_after(nanos: i128, date: Date, time: Time) -> bool {
     }
 }
 
-// Whether the timestamp of that moment does.
+// Whether the moment in UTC converts to the timestamp of these nanoseconds.
 fn is_timestamp_after(nanos: i128, utc: UtcDateTime) -> bool {
     let stamp = Timestamp::from(utc);
     stamp.nanoseconds() == nanos && Timestamp::from_nanoseconds(nanos) == Ok(stamp)
 }
 
-// Whether the moment with the offset of UTC does.
+// Whether the moment with the offset of UTC is the one after these nanoseconds, returns them, and converts to that in
+// UTC.
 fn is_moment_after(nanos: i128, moment: OffsetDateTime, utc: UtcDateTime) -> bool {
     OffsetDateTime::from_unix_timestamp_nanos(nanos) == Ok(moment)
         && moment.unix_timestamp_nanos() == nanos
@@ -440,7 +441,7 @@ fn offset_moments(rt: HostRuntime) {
 }
 
 // Whether the moment may be a leap second, by itself and in UTC.
-fn is_stand_in(day: Day, clock: Clock, offset: Offset) -> Option<bool> {
+fn may_be_leap_second(day: Day, clock: Clock, offset: Offset) -> Option<bool> {
     let moment = moment(day, clock, offset)?;
     let valid = moment.is_valid_leap_second_stand_in();
     match moment.checked_to_utc() {
@@ -499,7 +500,7 @@ static LEAP_SECONDS: [(Day, Clock, Offset, bool); 7] = [
 #[test]
 fn leap_seconds(rt: HostRuntime) {
     for (day, clock, offset, valid) in &LEAP_SECONDS {
-        assert!(rt; is_stand_in(*day, *clock, *offset) == Some(*valid));
+        assert!(rt; may_be_leap_second(*day, *clock, *offset) == Some(*valid));
     }
 }
 
@@ -611,7 +612,7 @@ mod system_clock {
     }
 
     // Whether the clock's second after 999999-12-31T23:59:59 is out of the range of moments.
-    fn goes_past_the_last_moment() -> bool {
+    fn rejects_time_past_last_moment() -> bool {
         match UNIX_EPOCH.checked_add(Duration::new(31_494_784_780_800, 0)) {
             Some(past) => {
                 UtcDateTime::try_from(past) == Err(OUT)
@@ -624,7 +625,7 @@ mod system_clock {
     #[test]
     fn the_ends(rt: HostRuntime) {
         assert!(rt; starts_at_the_epoch());
-        assert!(rt; goes_past_the_last_moment());
+        assert!(rt; rejects_time_past_last_moment());
     }
 }
 

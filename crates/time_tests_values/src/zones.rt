@@ -42,7 +42,7 @@ enum Answer {
     At(i32),
     Gap,
     Fold(i32, i32),
-    Untold,
+    OutsideZoneRange,
 }
 
 fn answer_of(zone: &TimeZone<'_>, minute: Minute) -> Option<Answer> {
@@ -53,7 +53,7 @@ fn answer_of(zone: &TimeZone<'_>, minute: Minute) -> Option<Answer> {
             earlier.offset().whole_seconds(),
             later.offset().whole_seconds(),
         ),
-        Err(NotOne::Untold) => Answer::Untold,
+        Err(NotOne::Untold) => Answer::OutsideZoneRange,
     })
 }
 
@@ -197,12 +197,12 @@ mod clocks {
 
     #[test]
     fn clocks_of_zones(rt: HostRuntime) {
-        for (setting, minute, wanted) in &CLOCKS {
+        for (setting, minute, expected) in &CLOCKS {
             let found = match by_setting(rt.alloc(), setting) {
                 Some(zone) => answer_of(&zone.time_zone(), *minute),
                 None => None,
             };
-            assert!(rt; found == Some(*wanted), "{setting}");
+            assert!(rt; found == Some(*expected), "{setting}");
         }
     }
 
@@ -210,20 +210,20 @@ mod clocks {
     static ENDS: [(Minute, Answer); 5] = [
         ((9999, December, 30, 12, 0), Answer::At(HOUR)),
         ((9999, December, 30, 23, 0), Answer::At(HOUR)),
-        ((9999, December, 30, 23, 1), Answer::Untold),
-        ((9999, December, 31, 23, 59), Answer::Untold),
-        ((10000, July, 1, 12, 0), Answer::Untold),
+        ((9999, December, 30, 23, 1), Answer::OutsideZoneRange),
+        ((9999, December, 31, 23, 59), Answer::OutsideZoneRange),
+        ((10000, July, 1, 12, 0), Answer::OutsideZoneRange),
     ];
 
     #[test]
-    fn ends_of_what_is_told(rt: HostRuntime) {
+    fn ends_of_zone_range(rt: HostRuntime) {
         let zone = by_setting(rt.alloc(), BERLIN);
-        for (minute, wanted) in &ENDS {
+        for (minute, expected) in &ENDS {
             let found = match &zone {
                 Some(zone) => answer_of(&zone.time_zone(), *minute),
                 None => None,
             };
-            assert!(rt; found == Some(*wanted));
+            assert!(rt; found == Some(*expected));
         }
     }
 }
@@ -254,17 +254,17 @@ mod moments {
 
     #[test]
     fn offsets(rt: HostRuntime) {
-        for (setting, minute, wanted) in &OFFSETS {
+        for (setting, minute, expected) in &OFFSETS {
             let found = match by_setting(rt.alloc(), setting) {
                 Some(zone) => Some(offset_then(&zone.time_zone(), *minute)),
                 None => None,
             };
-            assert!(rt; found == Some(*wanted), "{setting}");
+            assert!(rt; found == Some(*expected), "{setting}");
         }
     }
 
     // Moments in UTC, and their local times: 12:00 + 2:00 = 14:00, and 02:00 - 5:00 = 21:00 of the day before.
-    static SHOWN: [(&str, Minute, Minute); 2] = [
+    static LOCAL_TIMES: [(&str, Minute, Minute); 2] = [
         (BERLIN, (2021, July, 1, 12, 0), (2021, July, 1, 14, 0)),
         (
             NEW_YORK,
@@ -274,17 +274,17 @@ mod moments {
     ];
 
     // Whether that is the local time in the zone.
-    fn is_shown(zone: &TimeZone<'_>, minute: Minute, shown: Minute) -> Option<bool> {
+    fn is_local_time(zone: &TimeZone<'_>, minute: Minute, local: Minute) -> Option<bool> {
         let moment = checked_to_zone(utc(minute)?, zone)?;
-        let shown = clock(shown)?;
-        Some(moment.date() == shown.date() && moment.time() == shown.time())
+        let local = clock(local)?;
+        Some(moment.date() == local.date() && moment.time() == local.time())
     }
 
     #[test]
     fn moments_in_zones(rt: HostRuntime) {
-        for (setting, minute, shown) in &SHOWN {
+        for (setting, minute, local) in &LOCAL_TIMES {
             let found = match by_setting(rt.alloc(), setting) {
-                Some(zone) => is_shown(&zone.time_zone(), *minute, *shown),
+                Some(zone) => is_local_time(&zone.time_zone(), *minute, *local),
                 None => None,
             };
             assert!(rt; found == Some(true), "{setting}");
@@ -335,9 +335,9 @@ mod finding {
 
     #[test]
     fn zones_by_name(rt: HostRuntime) -> Result<(), AllocError> {
-        for (setting, name, wanted) in &FOUND {
+        for (setting, name, expected) in &FOUND {
             let found = found(rt.alloc(), *setting, name)?;
-            assert!(rt; found.as_str() == *wanted, "{name}: {found}");
+            assert!(rt; found.as_str() == *expected, "{name}: {found}");
         }
         Ok(())
     }
@@ -455,7 +455,7 @@ mod checking {
 
     // Berlin is at +01:00 in winter and +02:00 in summer, New York at -04:00 in summer. RFC 9557, sections 3.3 and 3.4,
     // rejects an offset that isn't the zone's, and an unknown critical key.
-    static TOLD: [Row; 24] = [
+    static WITH_LOCAL_OFFSET: [Row; 24] = [
         (WINTER, 1, b"", None),
         (WINTER, 1, b"[Europe/Berlin]", None),
         (WINTER, 1, b"[!Europe/Berlin]", None),
@@ -498,7 +498,7 @@ mod checking {
     ];
 
     // Suffixes after `Z` and `-00:00`, which don't state the local offset.
-    static UNTOLD: [Row; 6] = [
+    static WITHOUT_LOCAL_OFFSET: [Row; 6] = [
         (WINTER, 0, b"[Europe/Berlin]", None),
         (WINTER, 0, b"[!Europe/Berlin]", None),
         (WINTER, 0, b"[+05:00]", None),
@@ -508,16 +508,20 @@ mod checking {
     ];
 
     // The error of a suffix, if it has one; or `None` where the row has no moment.
-    fn refused(row: &Row, tells_offset: bool, zones: &Zones) -> Option<Option<SuffixFault>> {
+    fn suffix_error(
+        row: &Row,
+        has_local_offset: bool,
+        zones: &Zones,
+    ) -> Option<Option<SuffixFault>> {
         let (minute, hours, text, _) = *row;
         let moment = moment(minute, hours)?;
-        Some(check_suffix(&read_suffix(text), moment, tells_offset, zones).err())
+        Some(check_suffix(&read_suffix(text), moment, has_local_offset, zones).err())
     }
 
     // Whether each row of the table is right.
-    fn all_hold(rows: &[Row], tells_offset: bool, zones: &Zones) -> bool {
+    fn all_rows_match(rows: &[Row], has_local_offset: bool, zones: &Zones) -> bool {
         for row in rows {
-            if refused(row, tells_offset, zones) != Some(row.3) {
+            if suffix_error(row, has_local_offset, zones) != Some(row.3) {
                 return false;
             }
         }
@@ -530,8 +534,8 @@ mod checking {
             assert!(rt; false);
             return;
         };
-        assert!(rt; all_hold(&TOLD, true, &zones));
-        assert!(rt; all_hold(&UNTOLD, false, &zones));
+        assert!(rt; all_rows_match(&WITH_LOCAL_OFFSET, true, &zones));
+        assert!(rt; all_rows_match(&WITHOUT_LOCAL_OFFSET, false, &zones));
     }
 
     #[test]

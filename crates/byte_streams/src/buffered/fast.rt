@@ -1,10 +1,10 @@
-//! Spliced bytes, appended at once where there is room.
+//! Appends spliced bytes at once if they fit.
 ghost use Rattle.std.specs.Prelude.{◌≡◌, ◌+◌, ◌≤◌, ◌++◌, length, take, drop, MatchOption};
 
 use super::CAPACITY;
 use crate::buffer::ArrayBuf;
 
-// Puts N to 2 N bytes from that place on, in two halves that may overlap: no call copies them.
+// Writes N to 2 N bytes at index `at`, in two halves that may overlap, so that copying them needs no call.
 #[inline(always)]
 fn put_halves<const N: usize>(array: &mut [u8; CAPACITY], at: usize, bytes: &[u8])
     requires least { N ≤ length bytes.now }
@@ -18,7 +18,7 @@ fn put_halves<const N: usize>(array: &mut [u8; CAPACITY], at: usize, bytes: &[u8
     array[middle..middle + N].copy_from_slice(&bytes[behind..]);
 }
 
-// Puts bytes from that place on.
+// Writes bytes at index `at`.
 #[inline(always)]
 fn put_all(array: &mut [u8; CAPACITY], at: usize, bytes: &[u8])
     requires { at + length bytes.now ≤ CAPACITY }
@@ -30,7 +30,7 @@ fn put_all(array: &mut [u8; CAPACITY], at: usize, bytes: &[u8])
     array[at..at + bytes.len()].copy_from_slice(bytes);
 }
 
-// Puts a block from that place on, of which so many bytes count.
+// Writes a block at index `at`. Only its first `count` bytes matter.
 #[inline(always)]
 fn put_block<const N: usize>(array: &mut [u8; CAPACITY], at: usize, block: [u8; N], count: usize)
     requires few { count ≤ N }
@@ -40,8 +40,8 @@ fn put_block<const N: usize>(array: &mut [u8; CAPACITY], at: usize, block: [u8; 
     array[at..at + N].copy_from_slice(&block);
 }
 
-// Puts the first bytes from that place on. No call copies a few of them: a whole block is put, and what comes next overwrites
-// those that are too many.
+// Writes the first `count` bytes at index `at`. A few bytes are written as a whole block, since that needs no call, and
+// the next write overwrites the extra bytes.
 #[inline(always)]
 fn put_first(array: &mut [u8; CAPACITY], at: usize, bytes: &[u8], count: usize)
     requires within { count ≤ length bytes.now }
@@ -59,7 +59,7 @@ fn put_first(array: &mut [u8; CAPACITY], at: usize, bytes: &[u8], count: usize)
     array[at..at + count].copy_from_slice(&bytes[..count]);
 }
 
-// Puts a text that has fewer than 16 bytes or more than 32.
+// Writes a text of fewer than 16 bytes or more than 32.
 #[inline(always)]
 fn put_rare(array: &mut [u8; CAPACITY], at: usize, bytes: &[u8])
     requires { at + length bytes.now ≤ CAPACITY }
@@ -71,7 +71,7 @@ fn put_rare(array: &mut [u8; CAPACITY], at: usize, bytes: &[u8])
     }
 }
 
-// Puts a text, most often of a time.
+// Writes a text, usually that of a time.
 #[inline(always)]
 fn put_text(array: &mut [u8; CAPACITY], at: usize, bytes: &[u8])
     requires { at + length bytes.now ≤ CAPACITY }

@@ -17,7 +17,7 @@ ghost use Rattle.time_readers.specs.declared.rfc3339.Place.TheVariants as place;
 ghost use Rattle.time_parsing.specs.Outcome.{direct};
 ghost use Rattle.time_parsing.specs.Rfc3339.{Reads, Refuses};
 ghost use Rattle.pelzaune_ffi.specs.Columns.{EndsLine, IsFirstLine};
-ghost use Rattle.pelzaune_ffi.specs.Handed.{of_moment};
+ghost use Rattle.pelzaune_ffi.specs.Results.{of_moment};
 
 use std::num::NonZero;
 use time_readers::combinator::fraction;
@@ -49,7 +49,7 @@ fn offset(numbers: Numbers, rest: &[u8]) -> Option<Numbers>
     requires utc { numbers.is_utc ≡ false }
     requires hour { numbers.offset_hour ≡ 0 }
     requires minute { numbers.offset_minute ≡ 0 }
-    ensures stands { IfSome result (λ found. Stand (Asks false) offset_places numbers rest.now [] found) }
+    ensures matches { IfSome result (λ found. Stand (Asks false) offset_places numbers rest.now [] found) }
     ensures second { IfSome result (λ found. found.second ≡ numbers.second) }
     ensures hour { IfSome result (λ found. found.offset_hour ≤ 23) }
     ensures minute { IfSome result (λ found. found.offset_minute ≤ 59) }
@@ -85,27 +85,27 @@ fn offset(numbers: Numbers, rest: &[u8]) -> Option<Numbers>
 
 // The offset with these numbers. That of UTC is a constant. `None`: a number is out of range.
 #[inline(always)]
-fn offset_of(said: Said) -> Option<UtcOffset>
-    ensures { IfSome result (λ o. Constructs (offset_refusal said.offset_hour said.offset_minute (pos 0))
-        (HasOffset said.offset_hour said.offset_minute (pos 0)) (Ok o)) }
+fn offset_of(parts: Said) -> Option<UtcOffset>
+    ensures { IfSome result (λ o. Constructs (offset_refusal parts.offset_hour parts.offset_minute (pos 0))
+        (HasOffset parts.offset_hour parts.offset_minute (pos 0)) (Ok o)) }
 {
-    if said.offset_hour == 0 && said.offset_minute == 0 {
+    if parts.offset_hour == 0 && parts.offset_minute == 0 {
         return Some(UtcOffset::UTC);
     }
-    UtcOffset::from_hms(said.offset_hour, said.offset_minute, 0).ok()
+    UtcOffset::from_hms(parts.offset_hour, parts.offset_minute, 0).ok()
 }
 
 // The date with these numbers. `None`: a number is out of range.
 #[inline(always)]
 #[tactic(auto, using(crate::proofs::IsoInPlace::date_of))]
-fn date_of(said: Said) -> Option<Date>
-    ensures { IfSome result (λ d. Constructs (date_refusal greatest_year said) (HasDate said) (Ok d)) }
+fn date_of(parts: Said) -> Option<Date>
+    ensures { IfSome result (λ d. Constructs (date_refusal greatest_year parts) (HasDate parts) (Ok d)) }
 {
-    let number = NonZero::<u8>::new(said.month)?;
+    let number = NonZero::<u8>::new(parts.month)?;
     let Ok(month) = Month::from_number(number) else {
         return None;
     };
-    match Date::from_calendar_date(i32::from(said.year), month, said.day) {
+    match Date::from_calendar_date(i32::from(parts.year), month, parts.day) {
         Ok(date) => Some(date),
         Err(_) => None,
     }
@@ -113,22 +113,22 @@ fn date_of(said: Said) -> Option<Date>
 
 // The time with these numbers. `None`: a number is out of range.
 #[inline(always)]
-fn clock_of(said: Said) -> Option<Time>
-    ensures { IfSome result (λ t. Constructs (time_refusal said.hour said.minute said.second said.nanosecond)
-        (HasClock said.hour said.minute said.second said.nanosecond) (Ok t)) }
+fn clock_of(parts: Said) -> Option<Time>
+    ensures { IfSome result (λ t. Constructs (time_refusal parts.hour parts.minute parts.second parts.nanosecond)
+        (HasClock parts.hour parts.minute parts.second parts.nanosecond) (Ok t)) }
 {
-    Time::from_hms_nano(said.hour, said.minute, said.second, said.nanosecond).ok()
+    Time::from_hms_nano(parts.hour, parts.minute, parts.second, parts.nanosecond).ok()
 }
 
 // The moment with these numbers, whose second isn't 60. `None`: a number is out of range.
 #[inline(always)]
-fn made(said: Said) -> Option<OffsetDateTime>
-    requires { said.second < 60 }
-    ensures { IfSome result (λ v. IsMade greatest_year said v) }
+fn moment_from(parts: Said) -> Option<OffsetDateTime>
+    requires { parts.second < 60 }
+    ensures { IfSome result (λ v. IsMade greatest_year parts v) }
 {
-    let offset = offset_of(said)?;
-    let date = date_of(said)?;
-    let time = clock_of(said)?;
+    let offset = offset_of(parts)?;
+    let date = date_of(parts)?;
+    let time = clock_of(parts)?;
     Some(OffsetDateTime::new_in_offset(date, time, offset))
 }
 
@@ -145,7 +145,7 @@ pub(super) fn moment(text: &[u8]) -> Option<OffsetDateTime>
     let mut numbers = Numbers::NONE;
     let rest = to_second::<false>(text, &mut numbers)?;
     let (numbers, rest) = subsecond(numbers, rest)?;
-    made(said_rfc3339(offset(numbers, rest)?))
+    moment_from(said_rfc3339(offset(numbers, rest)?))
 }
 
 // The bytes after an LF, or none at the end of the text. `None`: another byte follows.
@@ -166,7 +166,7 @@ fn front_offset(numbers: Numbers, rest: &[u8]) -> Option<(Numbers, &[u8])>
     requires utc { numbers.is_utc ≡ false }
     requires hour { numbers.offset_hour ≡ 0 }
     requires minute { numbers.offset_minute ≡ 0 }
-    ensures stands { IfSome result (λ found. (end : List ℕ) × Stand (Asks false) offset_places numbers rest.now end found.0
+    ensures matches { IfSome result (λ found. (end : List ℕ) × Stand (Asks false) offset_places numbers rest.now end found.0
         × EndsLine end found.1.now) }
     ensures second { IfSome result (λ found. found.0.second ≡ numbers.second) }
     ensures hour { IfSome result (λ found. found.0.offset_hour ≤ 23) }
@@ -246,6 +246,6 @@ pub(super) fn line(text: &[u8]) -> Option<(OffsetDateTime, &[u8])>
     if breaks_at_separator(text) {
         return None;
     }
-    let value = made(said_rfc3339(numbers))?;
+    let value = moment_from(said_rfc3339(numbers))?;
     Some((value, after))
 }

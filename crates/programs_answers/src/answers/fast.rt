@@ -1,10 +1,10 @@
-//! The commonest errors of parses, whose texts need no `Display`.
+//! Fast paths for the commonest parse errors, whose texts don't need `Display`.
 ghost use Rattle.std.specs.Prelude.{◌≡◌, ◌++◌, codes, IfSome};
 ghost use Rattle.time_values.specs.Refusal.{refusal_of, refusal_text};
 
 use time_values::error::{Parse, ParseFromDescription, TryFromParsed};
 
-/// The name of the component that isn't there, if that is the error.
+/// The name of the component that couldn't be parsed, if that is the error.
 #[inline(always)]
 pub(super) fn missing_component(error: Parse) -> Option<&'static str>
     ensures { IfSome result (λ name. refusal_text (refusal_of error) ≡ codes "the '" ++ name.now ++ codes "' component could not be parsed") }
@@ -15,9 +15,9 @@ pub(super) fn missing_component(error: Parse) -> Option<&'static str>
     }
 }
 
-/// The line of the error, if it says that the text says too little.
+/// The line of the error, if the text has too few components for the value.
 #[inline(always)]
-pub(super) fn lack(error: Parse) -> Option<&'static str>
+pub(super) fn insufficient_information(error: Parse) -> Option<&'static str>
     ensures { IfSome result (λ line. codes "error: " ++ refusal_text (refusal_of error) ≡ line.now) }
 {
     match error {

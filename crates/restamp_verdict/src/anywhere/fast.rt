@@ -49,7 +49,7 @@ const ALL: Firsts = Firsts {
     others: true,
 };
 
-// These bytes, or any if spaces pad the text.
+// These bytes, or any byte if spaces pad the text.
 #[inline(always)]
 fn padded(padding: Padding, firsts: Firsts) -> Firsts
     ensures { result ≡ begins.padded padding firsts }
@@ -199,7 +199,7 @@ fn may_begin(firsts: Firsts, line: &[u8], place: usize) -> bool
     !(is_alphanumeric(line[place - 1]) & is_alphanumeric(line[place])) & is_in(firsts, line[place])
 }
 
-// How many of sixteen places come before the first at which a text may start; 16 if there is none.
+// How many of sixteen places come before the first at which a text may start; 16 if no text may start at any.
 #[inline(always)]
 fn first_within(firsts: Firsts, line: &[u8], from: usize) -> u8
     requires some { 0 < from }
@@ -237,7 +237,7 @@ fn find_within(firsts: Firsts, line: &[u8], from: usize, to: usize) -> usize
     to
 }
 
-// The first place from that one on at which a text may start, or the end of the line.
+// The first place from `from` on at which a text may start, or the end of the line.
 #[inline(always)]
 fn find_beginning(firsts: Firsts, line: &[u8], from: usize) -> usize
     requires some { 0 < from }
@@ -257,7 +257,7 @@ fn find_beginning(firsts: Firsts, line: &[u8], from: usize) -> usize
     find_within(firsts, line, at, line.len())
 }
 
-/// The first place from that one on at which a timestamp may start, or the end of the line.
+/// The first place from `from` on at which a timestamp may start, or the end of the line; `None` if unknown.
 #[inline(always)]
 pub(super) fn next_start(firsts: Firsts, line: &[u8], from: usize) -> Option<usize>
     requires { from ≤ length line.now }
@@ -320,7 +320,7 @@ fn may_be_of(reading: &Reading, bytes: &[u8]) -> bool
     }
 }
 
-/// Whether no prefix of the line from a byte on parses by that format; `None` if unknown.
+/// Returns `Some` if no prefix of the line from `start` on parses by that format; `None` if unknown.
 #[inline(always)]
 pub(super) fn matches_nothing(
     job: &Job<'_>,

@@ -57,8 +57,7 @@ fn only_offset(clocks: &Clocks<'_>, shown: OffsetDateTime) -> Option<UtcOffset>
     }
 }
 
-// Parses a text as a local time in that zone. Not inlined, so that it needs no stack where a line needs no
-// zone.
+// Parses a text as a local time in that zone. Not inlined, so that lines that need no zone need no stack for it.
 #[inline(never)]
 fn read_on(
     clocks: Clocks<'_>,
@@ -89,7 +88,7 @@ fn read_on(
 }
 
 /// Parses a text without an offset as a local time in the zone of the defaults; `None` if it has an offset or a leap
-/// second. It parses the text once, instead of as it is, in UTC and at the zone's offset.
+/// second. It parses the text once, instead of three times: as it is, in UTC and at the zone's offset.
 #[inline(always)]
 pub(super) fn read_once(
     reading: &Reading,

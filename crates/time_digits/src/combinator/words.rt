@@ -70,19 +70,19 @@ fn join_word(word: u64, n: u8) -> Option<u32>
         (¬ AllDigits (first_bytes word n))
         (λ value. AllDigits (first_bytes word n) × (value ≡ digits_value (first_bytes word n))) }
 {
-    // The text ends at the highest byte, and what stands after it falls away.
     let absent = 64 - 8 * u32::from(n);
-    let bytes = word << absent;
-    let zeros = 0x3030_3030_3030_3030_u64 << absent;
-    // A digit is one of `0` to `?`, and so is the byte six places on.
-    let kinds = bytes & 0xf0f0_f0f0_f0f0_f0f0;
-    let kinds_of_sums = bytes.wrapping_add(0x0606_0606_0606_0606) & 0xf0f0_f0f0_f0f0_f0f0;
-    let are_digits = (kinds == zeros) & (kinds_of_sums == zeros);
+    // Each digit becomes its value. A byte below `0` borrows from the next one, but itself becomes more than 9.
+    let values = word.wrapping_sub(0x3030_3030_3030_3030);
+    // A value is below 10 where it is below 16, and six more is too.
+    let high = 0xf0f0_f0f0_f0f0_f0f0 >> absent;
+    let are_digits = (values & high == 0)
+        & (values.wrapping_add(0x0606_0606_0606_0606) & high == 0);
     if !are_digits {
         return None;
     }
+    // The last digit moves to the highest byte, and the bytes after it fall away.
+    let digits = values << absent;
     // Two, then four, then eight digits are joined in each step.
-    let digits = bytes - zeros;
     let pairs = (digits * 10 + (digits >> 8)) & 0x00ff_00ff_00ff_00ff;
     let fours = (pairs * 100 + (pairs >> 16)) & 0x0000_ffff_0000_ffff;
     let value = (fours * 10_000 + (fours >> 32)) & 0xffff_ffff;

@@ -1,11 +1,11 @@
 //! Matches the names of a line by patterns.
 //!
-//! `request` returns what `cut_request` does for the lines that it splits. `None`: not this form.
+//! `request` returns what `split_request` does for the lines that it splits. `None`: not this form.
 ghost use Rattle.std.specs.Prelude.{◌≡◌, ℕ, List, ◌++◌, IfSome};
 ghost use Rattle.time_values.specs.Calendar.{greatest_year};
 ghost use Rattle.programs_answers.specs.Formats as formats;
 ghost use Rattle.programs_answers.specs.Output.{IsParsed};
-ghost use Rattle.time_lines.specs.Pieces.{BeginsNamed};
+ghost use Rattle.time_lines.specs.Pieces.{StartsWithName};
 ghost use Rattle.time_lines.specs.Output.{IsAnswer};
 
 use programs_answers::formats::{Format, Target};
@@ -21,7 +21,7 @@ fn after<'a>(bytes: &'a [u8], name: &[u8]) -> Option<&'a [u8]>
 // The format whose name and TAB start the line, and the bytes after them. `None`: not this form.
 #[inline(always)]
 fn format(line: &[u8]) -> Option<(Format, &[u8])>
-    ensures { IfSome result (λ read. BeginsNamed formats.format_named line.now read.0 read.1.now) }
+    ensures { IfSome result (λ read. StartsWithName formats.format_named line.now read.0 read.1.now) }
 {
     match line {
         [b'r', ..] => match after(line, b"rfc3339\t") {
@@ -40,7 +40,7 @@ fn format(line: &[u8]) -> Option<(Format, &[u8])>
 // The target whose name and TAB start the bytes, and the bytes after them. `None`: not this form.
 #[inline(always)]
 fn target(bytes: &[u8]) -> Option<(Target, &[u8])>
-    ensures { IfSome result (λ read. BeginsNamed formats.target_named bytes.now read.0 read.1.now) }
+    ensures { IfSome result (λ read. StartsWithName formats.target_named bytes.now read.0 read.1.now) }
 {
     match bytes {
         [b'd', ..] => match after(bytes, b"date\t") {
@@ -63,7 +63,8 @@ fn target(bytes: &[u8]) -> Option<(Target, &[u8])>
 #[inline(always)]
 pub(super) fn request(line: &[u8]) -> Option<(Format, Target, &[u8])>
     ensures { IfSome result
-        (λ asked. (answer : List ℕ) → IsParsed greatest_year asked.0 asked.1 asked.2.now answer → IsAnswer greatest_year line.now answer) }
+        (λ request. (answer : List ℕ) → IsParsed greatest_year request.0 request.1 request.2.now answer
+        → IsAnswer greatest_year line.now answer) }
 {
     let (format, rest) = format(line)?;
     let (target, text) = target(rest)?;

@@ -444,7 +444,7 @@ mod two_paths {
 // Lines of the described formats, parsed by the trees of their items instead of the prepared descriptions.
 mod walks {
     use super::DESCRIBED;
-    use crate::serving::cut_tab;
+    use crate::serving::split_at_tab;
     use crate::tests::hostile::RANGE_ENDS;
     use crate::tests::hostile::wide_years::DESCRIBED_YEARS;
     use crate::tests::{Row, are_answered};
@@ -474,8 +474,8 @@ mod walks {
 
     /// Writes the answer to a line, or nothing where its format isn't a description or its target is unknown.
     fn write_walked<W: Sink>(line: &[u8], out: &mut W) -> Option<()> {
-        let (format, rest) = cut_tab(line)?;
-        let (target, text) = cut_tab(rest)?;
+        let (format, rest) = split_at_tab(line)?;
+        let (target, text) = split_at_tab(rest)?;
         let target = find_target(target)?;
         let written = match format {
             b"ymd" => write_value(&compound(&date_items()), target, text, out),

@@ -1,6 +1,6 @@
 //! Whole texts of ISO 8601.
 use super::formats::Part::{Date, Offset, Plain, Time, Utc};
-use super::formats::{Format, NO_DATE, NO_OFFSET, NO_TIME, Numbers, Part, said};
+use super::formats::{Format, NO_DATE, NO_OFFSET, NO_TIME, Numbers, Part, parse_part};
 use super::refusals::{
     DAY, LITERAL, MISSING, MONTH, NO_DAY, NO_LEAP_SECOND, NO_ORDINAL, NO_SECOND, NO_WEEK,
     NO_WEEKDAY, ORDINAL, TRAILING, WEEK, WEEKDAY, YEAR,
@@ -30,9 +30,9 @@ macro_rules! offset {
 type Row = (Part, &'static [u8], Result<Numbers, Parse>);
 
 // The first text whose result differs, if there is one.
-fn unlike(rows: &[Row]) -> Option<&'static [u8]> {
-    for (part, text, wanted) in rows {
-        if said(Format::Iso, *part, text, None) != *wanted {
+fn first_difference(rows: &[Row]) -> Option<&'static [u8]> {
+    for (part, text, expected) in rows {
+        if parse_part(Format::Iso, *part, text, None) != *expected {
             return Some(*text);
         }
     }
@@ -61,7 +61,7 @@ static TIMES: [Row; 17] = [
 
 #[test]
 fn iso_times(rt: HostRuntime) {
-    let text = unlike(&TIMES);
+    let text = first_difference(&TIMES);
     assert!(rt; text == None, "{text:?}");
 }
 
@@ -85,7 +85,7 @@ static DATES: [Row; 15] = [
 
 #[test]
 fn iso_dates(rt: HostRuntime) {
-    let text = unlike(&DATES);
+    let text = first_difference(&DATES);
     assert!(rt; text == None, "{text:?}");
 }
 
@@ -126,7 +126,7 @@ static DATES_REFUSED: [Row; 29] = [
 
 #[test]
 fn iso_dates_refused(rt: HostRuntime) {
-    let text = unlike(&DATES_REFUSED);
+    let text = first_difference(&DATES_REFUSED);
     assert!(rt; text == None, "{text:?}");
 }
 
@@ -150,7 +150,7 @@ static OFFSETS: [Row; 14] = [
 
 #[test]
 fn iso_offsets(rt: HostRuntime) {
-    let text = unlike(&OFFSETS);
+    let text = first_difference(&OFFSETS);
     assert!(rt; text == None, "{text:?}");
 }
 
@@ -192,7 +192,7 @@ static DATES_WITH_TIMES: [Row; 12] = [
 
 #[test]
 fn iso_dates_with_times(rt: HostRuntime) {
-    let text = unlike(&DATES_WITH_TIMES);
+    let text = first_difference(&DATES_WITH_TIMES);
     assert!(rt; text == None, "{text:?}");
 }
 
@@ -300,9 +300,9 @@ mod fractions {
 
     #[test]
     fn iso_fractions(rt: HostRuntime) {
-        for (rounding, digits, unit, wanted) in &FRACTIONS {
+        for (rounding, digits, unit, expected) in &FRACTIONS {
             assert!(rt;
-                whole(*rounding, digits, *unit) == Some(*wanted),
+                whole(*rounding, digits, *unit) == Some(*expected),
                 "{digits:?}"
             );
         }
@@ -403,7 +403,7 @@ mod offsets {
 // Each row of the table of times under each kind before it, parsed into a record after a date of that kind, and offsets
 // after times.
 mod time_records {
-    use crate::tests::records::{NO_OFFSET, NO_TIME, OffsetCells, TimeCells, stored_by};
+    use crate::tests::records::{NO_OFFSET, NO_TIME, OffsetCells, TimeCells, parse_cells_by};
     use time_parsing::Iso8601;
     use time_record::Parsed;
 
@@ -605,7 +605,7 @@ mod time_records {
     fn iso_times_in_records(rt: HostRuntime) {
         for (text, left, time, offset) in &TIMES {
             let mut record = Parsed::new();
-            let (found, cells) = stored_by(&Iso8601, text, &mut record);
+            let (found, cells) = parse_cells_by(&Iso8601, text, &mut record);
             assert!(rt;
                 found == Ok(*left) && cells.2 == *time && cells.3 == *offset,
                 "{text:?}"
@@ -617,7 +617,7 @@ mod time_records {
 // Texts of ISO 8601 with each byte at each place, compared with the same text with a year of six digits, which has no
 // fast path.
 mod iso_fronts {
-    use crate::tests::formats::{Format, Numbers, Part, said};
+    use crate::tests::formats::{Format, Numbers, Part, parse_part};
     use time_record::Parsed;
 
     static TEXTS: [&[u8]; 3] = [
@@ -628,7 +628,7 @@ mod iso_fronts {
 
     // The part of the text over the defaults, if it parses.
     fn value(part: Part, text: &[u8], defaults: Option<Parsed>) -> Option<Numbers> {
-        said(Format::Iso, part, text, defaults).ok()
+        parse_part(Format::Iso, part, text, defaults).ok()
     }
 
     // Whether both texts have equal values, or none.

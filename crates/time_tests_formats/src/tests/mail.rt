@@ -2,7 +2,7 @@
 
 // Whole mail dates, their places without a check of ranges, and zone names.
 mod mail_dates {
-    use crate::tests::answers::unanswered_mail_date;
+    use crate::tests::answers::first_mail_difference;
     use time_readers::rfc2822::{Place, place_fault, read, zone_literal};
     use time_values::error::ParseFromDescription;
 
@@ -32,7 +32,7 @@ mod mail_dates {
     // Each mail date has its moment, or its error, without a record and over an empty one.
     #[test]
     fn mail_dates(rt: HostRuntime) {
-        let text = unanswered_mail_date();
+        let text = first_mail_difference();
         assert!(rt; text == None, "{text:?}");
     }
 
@@ -68,8 +68,8 @@ mod mail_dates {
 
     #[test]
     fn mail_zones(rt: HostRuntime) {
-        for (text, wanted) in &ZONES {
-            assert!(rt; zone(text) == *wanted, "{text:?}");
+        for (text, expected) in &ZONES {
+            assert!(rt; zone(text) == *expected, "{text:?}");
         }
     }
 }
@@ -104,7 +104,7 @@ mod mail_blanks {
     }
 
     /// How many bytes remain after the part.
-    pub(super) fn left(reader: Reader, text: &[u8]) -> Option<usize> {
+    pub(super) fn remaining_len(reader: Reader, text: &[u8]) -> Option<usize> {
         match rest(reader, text) {
             Some(found) => Some(found.0.len()),
             None => None,
@@ -170,8 +170,8 @@ mod mail_blanks {
 
     #[test]
     fn mail_blanks(rt: HostRuntime) {
-        for (reader, text, wanted) in &TEXTS {
-            assert!(rt; left(*reader, text) == *wanted, "{text:?}");
+        for (reader, text, expected) in &TEXTS {
+            assert!(rt; remaining_len(*reader, text) == *expected, "{text:?}");
         }
     }
 }
@@ -270,16 +270,16 @@ mod mail_fronts {
 // Mail dates by the fast paths of their blanks, and blanks before each byte.
 mod short_cuts {
     use super::mail_blanks::Reader::{self, Cfws, Colon, Fws, OptionalCfws};
-    use super::mail_blanks::left;
-    use crate::tests::answers::unanswered_mail_date;
+    use super::mail_blanks::remaining_len;
+    use crate::tests::answers::first_mail_difference;
 
     static READERS: [Reader; 4] = [Fws, Cfws, OptionalCfws, Colon];
 
-    // Whether the reader takes a blank, and the byte after it only if it is one too, where that byte and an `x` follow.
-    fn takes_blanks(reader: Reader, blank: u8, byte: u8) -> bool {
+    // Whether the reader parses the blank, and the byte between it and an `x` only if that is a blank too.
+    fn parses_blanks(reader: Reader, blank: u8, byte: u8) -> bool {
         let text = [b':', blank, byte, b'x'];
         let rest = if byte == b' ' || byte == b'\t' { 1 } else { 2 };
-        left(reader, behind_colon(reader, &text)) == Some(rest)
+        remaining_len(reader, behind_colon(reader, &text)) == Some(rest)
     }
 
     // Only the reader of a colon gets the colon.
@@ -290,14 +290,15 @@ mod short_cuts {
         }
     }
 
-    // Whether the reader rejects a byte that isn't a blank, with a blank after it.
-    fn takes_nothing(reader: Reader, byte: u8) -> bool {
+    // Whether the reader parses no blank at a byte that isn't one, with a blank after it. `Fws` and `Cfws` reject the
+    // text, `OptionalCfws` parses nothing, and `Colon` the colon alone.
+    fn parses_no_blank(reader: Reader, byte: u8) -> bool {
         let text = [b':', byte, b' ', b'x'];
-        let wanted = match reader {
+        let expected = match reader {
             Fws | Cfws => None,
             OptionalCfws | Colon => Some(3),
         };
-        left(reader, behind_colon(reader, &text)) == wanted
+        remaining_len(reader, behind_colon(reader, &text)) == expected
     }
 
     // Texts that start with one blank or none, and how many bytes remain after it: by `Fws`, and by `Cfws`.
@@ -331,7 +332,7 @@ mod short_cuts {
     fn one_blank_before_each_kind_of_byte(rt: HostRuntime) {
         for (text, fws, cfws) in &ONE_BLANK {
             assert!(rt;
-                left(Fws, text) == *fws && left(Cfws, text) == *cfws,
+                remaining_len(Fws, text) == *fws && remaining_len(Cfws, text) == *cfws,
                 "{text:?}"
             );
         }
@@ -339,16 +340,16 @@ mod short_cuts {
 
     #[test]
     fn short_cuts(rt: HostRuntime) {
-        let text = unanswered_mail_date();
+        let text = first_mail_difference();
         assert!(rt; text == None, "{text:?}");
         for reader in &READERS {
             for byte in 0..=u8::MAX {
                 assert!(rt;
-                    takes_blanks(*reader, b' ', byte) && takes_blanks(*reader, b'\t', byte),
+                    parses_blanks(*reader, b' ', byte) && parses_blanks(*reader, b'\t', byte),
                     "{byte}"
                 );
                 let is_blank = byte == b' ' || byte == b'\t';
-                assert!(rt; is_blank || takes_nothing(*reader, byte), "{byte}");
+                assert!(rt; is_blank || parses_no_blank(*reader, byte), "{byte}");
             }
         }
     }

@@ -5,7 +5,7 @@ mod whole_parses {
     use self::Defaults::{Epoch, FirstDay, OffsetSecond, Seconds, Signed, Stamped};
     use crate::tests::formats::Part::{Date, Moment, Offset, Time, Utc};
     use crate::tests::formats::{
-        Format, NO_DATE, NO_OFFSET, NO_TIME, Numbers, Part, date_items, said, said_by,
+        Format, NO_DATE, NO_OFFSET, NO_TIME, Numbers, Part, date_items, parse_part, parse_part_by,
     };
     use crate::tests::refusals::{MISSING, MONTH, NO_SECOND, TRAILING, YEAR};
     use std::alloc::{AllocError, Global};
@@ -111,9 +111,9 @@ mod whole_parses {
 
     #[test]
     fn whole_parses(rt: HostRuntime) {
-        for (format, part, text, wanted) in &WHOLE {
-            let said = said(*format, *part, text, None);
-            assert!(rt; said == *wanted, "{text:?}");
+        for (format, part, text, expected) in &WHOLE {
+            let parsed = parse_part(*format, *part, text, None);
+            assert!(rt; parsed == *expected, "{text:?}");
         }
     }
 
@@ -135,9 +135,9 @@ mod whole_parses {
     // A format and a reference to it have equal results.
     #[test]
     fn timestamps(rt: HostRuntime) {
-        for (text, wanted) in &TIMESTAMPS {
+        for (text, expected) in &TIMESTAMPS {
             let both = (timestamp(&Rfc3339, text), timestamp(&&Rfc3339, text));
-            assert!(rt; both == (Some(*wanted), Some(*wanted)), "{text:?}");
+            assert!(rt; both == (Some(*expected), Some(*expected)), "{text:?}");
         }
     }
 
@@ -240,10 +240,10 @@ mod whole_parses {
 
     #[test]
     fn whole_parses_over_defaults(rt: HostRuntime) {
-        for (format, part, text, defaults, wanted) in &OVER_DEFAULTS {
+        for (format, part, text, defaults, expected) in &OVER_DEFAULTS {
             let defaults = record(*defaults);
             assert!(rt;
-                defaults.is_some() && said(*format, *part, text, defaults) == Ok(*wanted),
+                defaults.is_some() && parse_part(*format, *part, text, defaults) == Ok(*expected),
                 "{text:?}"
             );
         }
@@ -266,27 +266,27 @@ mod whole_parses {
 
     // Whether the format parses `2021-03-04`, and rejects a trailing byte.
     fn reads_a_date<F: Parsable>(format: &F) -> bool {
-        let date = said_by(format, Date, b"2021-03-04", None);
+        let date = parse_part_by(format, Date, b"2021-03-04", None);
         date == Ok(((2021, March, 4), NO_TIME, NO_OFFSET))
-            && said_by(format, Date, b"2021-03-04 ", None) == Err(TRAILING)
+            && parse_part_by(format, Date, b"2021-03-04 ", None) == Err(TRAILING)
     }
 
     // Whether the items have too few components for a date.
-    fn know_too_little(items: &[BorrowedFormatItem<'_>], text: &[u8]) -> bool {
+    fn have_too_few_components(items: &[BorrowedFormatItem<'_>], text: &[u8]) -> bool {
         Items(items).parse_date(text, None) == Err(MISSING)
     }
 
     // Each type of description, with equal items, has equal results.
     #[test]
-    fn descriptions_alike(rt: HostRuntime) {
+    fn equal_descriptions(rt: HostRuntime) {
         let items = date_items(YEAR_COMPONENT, BorrowedFormatItem::StringLiteral("-"));
         let compound = BorrowedFormatItem::Compound(&items);
         assert!(rt;
             reads_a_date(&compound) && reads_a_date(&&compound) && reads_a_date(&Items(&items))
         );
         // The first three are a year and a month, and the last three a month and a day.
-        assert!(rt; know_too_little(&items[..3], b"2021-03"));
-        assert!(rt; know_too_little(&items[2..], b"03-04"));
+        assert!(rt; have_too_few_components(&items[..3], b"2021-03"));
+        assert!(rt; have_too_few_components(&items[2..], b"03-04"));
     }
 
     fn owned_hyphen(alloc: Global) -> Result<OwnedFormatItem, AllocError> {
@@ -307,7 +307,7 @@ mod whole_parses {
     }
 
     #[test]
-    fn descriptions_alike_if_owned(rt: HostRuntime) -> Result<(), Fail> {
+    fn equal_owned_descriptions(rt: HostRuntime) -> Result<(), Fail> {
         let items = owned_items(rt.alloc())?;
         assert!(rt; reads_a_date(&items));
         Ok(())
@@ -327,7 +327,7 @@ mod whole_parses {
     }
 
     #[test]
-    fn descriptions_alike_in_version_3(rt: HostRuntime) -> Result<(), Fail> {
+    fn equal_descriptions_in_version_3(rt: HostRuntime) -> Result<(), Fail> {
         let description = version_3(rt.alloc())?;
         assert!(rt; reads_a_date(&description));
         Ok(())
@@ -365,7 +365,7 @@ mod whole_parses {
 mod described {
     use crate::tests::formats::Part::{Date, Offset, Time};
     use crate::tests::formats::{
-        Format, NO_DATE, NO_OFFSET, NO_TIME, Numbers, Part, date_items, described, said,
+        Format, NO_DATE, NO_OFFSET, NO_TIME, Numbers, Part, date_items, described, parse_part,
     };
     use crate::tests::refusals::{DAY, LITERAL, MONTH, TRAILING, YEAR};
     use time_descriptions::Description;
@@ -402,11 +402,16 @@ mod described {
     #[test]
     fn dates(rt: HostRuntime) {
         let items = date_items(YEAR_COMPONENT, BorrowedFormatItem::Literal(b"-"));
-        for (text, wanted) in &DATES {
-            let by_description = said(Format::Described(b"[year]-[month]-[day]"), Date, text, None);
+        for (text, expected) in &DATES {
+            let by_description = parse_part(
+                Format::Described(b"[year]-[month]-[day]"),
+                Date,
+                text,
+                None,
+            );
             let by_items = date_by(&items, text);
             assert!(rt;
-                (by_description, by_items) == (*wanted, *wanted),
+                (by_description, by_items) == (*expected, *expected),
                 "{text:?}"
             );
         }
@@ -453,9 +458,9 @@ mod described {
 
     #[test]
     fn texts(rt: HostRuntime) {
-        for (description, part, text, wanted) in &TEXTS {
-            let said = said(Format::Described(description), *part, text, None);
-            assert!(rt; said == *wanted, "{text:?}");
+        for (description, part, text, expected) in &TEXTS {
+            let parsed = parse_part(Format::Described(description), *part, text, None);
+            assert!(rt; parsed == *expected, "{text:?}");
         }
     }
 
@@ -484,7 +489,7 @@ mod described {
 mod long_texts {
     use crate::tests::answers::Answer::{self, Moment, Refused};
     use crate::tests::answers::is_answered;
-    use crate::tests::formats::{Format, NO_DATE, NO_OFFSET, Part, said};
+    use crate::tests::formats::{Format, NO_DATE, NO_OFFSET, Part, parse_part};
     use crate::tests::refusals::HOUR;
     use std::alloc::{AllocError, Global};
     use std::test::Fail;
@@ -517,9 +522,9 @@ mod long_texts {
 
     #[test]
     fn long_mail_dates(rt: HostRuntime) -> Result<(), Fail> {
-        for (part, wanted) in &PARTS {
+        for (part, expected) in &PARTS {
             let text = repeated(rt.alloc(), b"1 Jan 21 ", part, b"03:04 GMT")?;
-            assert!(rt; is_answered(Format::Mail, &text, *wanted), "{part:?}");
+            assert!(rt; is_answered(Format::Mail, &text, *expected), "{part:?}");
         }
         Ok(())
     }
@@ -527,8 +532,8 @@ mod long_texts {
     #[test]
     fn iso_fractions_of_many_digits(rt: HostRuntime) -> Result<(), Fail> {
         let text = repeated(rt.alloc(), b"03:04:05,", b"4", b"")?;
-        let wanted = (NO_DATE, (3, 4, 5, 444_444_444), NO_OFFSET);
-        assert!(rt; said(Format::Iso, Part::Time, &text, None) == Ok(wanted));
+        let expected = (NO_DATE, (3, 4, 5, 444_444_444), NO_OFFSET);
+        assert!(rt; parse_part(Format::Iso, Part::Time, &text, None) == Ok(expected));
         Ok(())
     }
 }
@@ -552,7 +557,7 @@ mod front_moments {
         Ok((numbers(moment), rest))
     }
 
-    // That moment by a format.
+    // The moment at the start of the text by one of the formats, and the unread rest.
     fn front(format: Format, text: &[u8]) -> Result<(Numbers, &[u8]), Parse> {
         match format {
             Format::Stamp => front_by(&Rfc3339, text, None),
@@ -644,8 +649,8 @@ mod front_moments {
 
     #[test]
     fn fronts(rt: HostRuntime) {
-        for (format, text, wanted) in &FRONTS {
-            assert!(rt; front(*format, text) == *wanted, "{text:?}");
+        for (format, text, expected) in &FRONTS {
+            assert!(rt; front(*format, text) == *expected, "{text:?}");
         }
     }
 
@@ -661,8 +666,8 @@ mod front_moments {
 
     #[test]
     fn mail_dates(rt: HostRuntime) {
-        for (text, wanted) in &MAIL_DATES {
-            assert!(rt; front(Format::Mail, text) == *wanted, "{text:?}");
+        for (text, expected) in &MAIL_DATES {
+            assert!(rt; front(Format::Mail, text) == *expected, "{text:?}");
         }
     }
 
@@ -686,7 +691,7 @@ mod front_moments {
     fn front_over_defaults(rt: HostRuntime) {
         let format = described(MONTH_TO_MINUTE).expect(&rt, "a description");
         let found = front_by(&format, b"01-02T03:04 start", march_in_2021());
-        let wanted = ((2021, January, 2), (3, 4, 0, 0), (-5, 0, 0));
-        assert!(rt; found == Ok((wanted, b" start".as_slice())));
+        let expected = ((2021, January, 2), (3, 4, 0, 0), (-5, 0, 0));
+        assert!(rt; found == Ok((expected, b" start".as_slice())));
     }
 }

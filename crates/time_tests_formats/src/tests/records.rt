@@ -68,7 +68,7 @@ fn time_cells(record: &Parsed) -> TimeCells {
 }
 
 /// The rest of the text, or its error, and the cells of the record after the parse.
-pub(super) fn stored_by<'a, F: Parsable>(
+pub(super) fn parse_cells_by<'a, F: Parsable>(
     format: &F,
     text: &'a [u8],
     record: &mut Parsed,
@@ -84,18 +84,18 @@ pub(super) fn stored_by<'a, F: Parsable>(
     (left, cells)
 }
 
-// Those by a format.
-fn stored<'a>(
+// The rest of the text, or its error, and the cells of the record after the parse, by one of the formats.
+fn parse_cells<'a>(
     format: Format,
     text: &'a [u8],
     record: &mut Parsed,
 ) -> (Result<&'a [u8], Parse>, Cells) {
     match format {
-        Format::Stamp => stored_by(&Rfc3339, text, record),
-        Format::Mail => stored_by(&Rfc2822, text, record),
-        Format::Iso => stored_by(&Iso8601, text, record),
+        Format::Stamp => parse_cells_by(&Rfc3339, text, record),
+        Format::Mail => parse_cells_by(&Rfc2822, text, record),
+        Format::Iso => parse_cells_by(&Iso8601, text, record),
         Format::Described(description) => match described(description) {
-            Some(description) => stored_by(&description, text, record),
+            Some(description) => parse_cells_by(&description, text, record),
             None => (Err(DESCRIPTION), NOTHING),
         },
         _ => (Err(DESCRIPTION), NOTHING),
@@ -293,25 +293,25 @@ fn same_record(alloc: Global, a: &Parsed, b: &Parsed) -> Result<bool, AllocError
 }
 
 // The record before the row's text is parsed into it.
-fn begun(row: &Row) -> Option<Parsed> {
+fn record_before(row: &Row) -> Option<Parsed> {
     let (format, month, before, _, _, _) = *row;
     let mut record = Parsed::new();
     if let Some(month) = month {
         record.set_month(month)?;
     }
     // The empty text is rejected, and leaves the record unchanged.
-    let _ = stored(format, before, &mut record);
+    let _ = parse_cells(format, before, &mut record);
     Some(record)
 }
 
 // Whether the row's text stores these cells, or is rejected and stores nothing.
 fn is_stored(alloc: Global, row: &Row) -> Result<bool, AllocError> {
     let (format, _, _, text, left, cells) = *row;
-    let Some(before) = begun(row) else {
+    let Some(before) = record_before(row) else {
         return Ok(false);
     };
     let mut record = before;
-    let is_right = stored(format, text, &mut record) == (left, cells);
+    let is_right = parse_cells(format, text, &mut record) == (left, cells);
     Ok(is_right && (left.is_ok() || same_record(alloc, &record, &before)?))
 }
 

@@ -3,8 +3,8 @@
 // Texts of RFC 3339 with each byte at each place, compared with a slow reader.
 mod fronts {
     use super::slow_stamps::{moment, tail};
-    use crate::tests::answers::{STAMPS, both_ways};
-    use crate::tests::formats::{Format, Numbers, Part, numbers, said};
+    use crate::tests::answers::{STAMPS, both_results};
+    use crate::tests::formats::{Format, Numbers, Part, numbers, parse_part};
     use time_readers::{direct, rfc3339};
     use time_record::Parsed;
     use time_values::error::{Parse, ParseFromDescription};
@@ -24,16 +24,16 @@ mod fronts {
     }
 
     // The result of the text on the direct path.
-    fn directly(text: &[u8]) -> Result<Numbers, Parse> {
+    fn direct_result(text: &[u8]) -> Result<Numbers, Parse> {
         Ok(numbers(direct::rfc3339(text)?))
     }
 
     // Whether the text has the slow reader's result: on the direct path, over an empty record, and by its places.
     fn is_right(text: &[u8]) -> bool {
-        let wanted = moment(text, false);
-        let staged = said(Format::Stamp, Part::Moment, text, Some(Parsed::new()));
-        directly(text) == wanted
-            && said(Format::Stamp, Part::Moment, text, None) == wanted
+        let expected = moment(text, false);
+        let staged = parse_part(Format::Stamp, Part::Moment, text, Some(Parsed::new()));
+        direct_result(text) == expected
+            && parse_part(Format::Stamp, Part::Moment, text, None) == expected
             && staged == moment(text, true)
             && has_right_places(text)
     }
@@ -55,9 +55,9 @@ mod fronts {
     // The slow reader has the results of the table.
     #[test]
     fn slow_stamps(rt: HostRuntime) {
-        for (text, wanted) in &STAMPS {
-            let said = (moment(text, false), moment(text, true));
-            assert!(rt; said == both_ways(*wanted), "{text:?}");
+        for (text, expected) in &STAMPS {
+            let parsed = (moment(text, false), moment(text, true));
+            assert!(rt; parsed == both_results(*expected), "{text:?}");
         }
     }
 
@@ -120,9 +120,9 @@ mod fronts {
 
     #[test]
     fn tails(rt: HostRuntime) {
-        for (text, wanted) in &TAILS {
+        for (text, expected) in &TAILS {
             assert!(rt;
-                behind_second(text) == *wanted && is_right(text),
+                behind_second(text) == *expected && is_right(text),
                 "{text:?}"
             );
             for place in SECOND_END..text.len() {
@@ -189,7 +189,7 @@ mod slow_stamps {
 
     // The error of the place in the text, with a check of its range or of its form alone.
     fn fault_at(text: &[u8], place: Place, ranged: bool) -> Option<ParseFromDescription> {
-        let (stands, fault) = match place {
+        let (is_match, fault) = match place {
             Place::Byte(at, byte) => (text.get(at) == Some(&byte), LITERAL),
             Place::Any(at, name) => (
                 at < text.len(),
@@ -201,14 +201,14 @@ mod slow_stamps {
                 } else {
                     (least_form, 9999)
                 };
-                let stands = match number(text, begin, end) {
+                let is_match = match number(text, begin, end) {
                     Some(number) => least <= number && number <= greatest,
                     None => false,
                 };
-                (stands, ParseFromDescription::InvalidComponent(name))
+                (is_match, ParseFromDescription::InvalidComponent(name))
             }
         };
-        if stands { None } else { Some(fault) }
+        if is_match { None } else { Some(fault) }
     }
 
     // The error of the first place up to the second that fails.

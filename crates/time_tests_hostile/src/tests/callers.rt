@@ -48,8 +48,8 @@ const NO_DAY: ComponentRange = ComponentRange {
 
 #[test]
 fn callers_of_values(rt: HostRuntime) {
-    for (year, seen) in [(2024, Ok((60, 12))), (2023, Err(NO_DAY))] {
-        assert!(rt; noon_of_leap_day(year) == seen, "{year}");
+    for (year, expected) in [(2024, Ok((60, 12))), (2023, Err(NO_DAY))] {
+        assert!(rt; noon_of_leap_day(year) == expected, "{year}");
     }
 }
 
@@ -76,8 +76,8 @@ fn hour_minute_and_rest(input: &[u8]) -> Option<((u32, u32), &[u8])> {
 
 #[test]
 fn callers_of_digits(rt: HostRuntime) {
-    for (text, seen) in &HOURS {
-        assert!(rt; hour_minute_and_rest(text) == *seen);
+    for (text, expected) in &HOURS {
+        assert!(rt; hour_minute_and_rest(text) == *expected);
     }
 }
 
@@ -102,8 +102,8 @@ fn day_and_rest(input: &[u8]) -> Option<(u8, &[u8])> {
 
 #[test]
 fn callers_of_readers(rt: HostRuntime) {
-    for (text, seen) in &STAMPS {
-        assert!(rt; day_and_rest(text) == *seen);
+    for (text, expected) in &STAMPS {
+        assert!(rt; day_and_rest(text) == *expected);
     }
 }
 
@@ -153,12 +153,12 @@ fn calendar_date(text: &[u8]) -> Option<(i32, Month, u8)> {
 
 #[test]
 fn callers_of_records(rt: HostRuntime) {
-    for (text, seen) in [
+    for (text, expected) in [
         (b"2021-03-04".as_slice(), Some(MARCH)),
         (b"2021-03-32", None),
         (b"2021-03-04x", None),
     ] {
-        assert!(rt; calendar_date(text) == seen, "{text:?}");
+        assert!(rt; calendar_date(text) == expected, "{text:?}");
     }
 }
 
@@ -179,13 +179,13 @@ fn calendar_date_in(year: i32, text: &[u8]) -> Option<(i32, Month, u8)> {
 
 #[test]
 fn callers_of_formats(rt: HostRuntime) {
-    for (year, text, seen) in [
+    for (year, text, expected) in [
         (2021, b"03-04".as_slice(), Some(MARCH)),
         (2021, b"02-29", None),
         (2024, b"02-29", Some((2024, Month::February, 29))),
         (1_000_000, b"03-04", None),
     ] {
-        assert!(rt; calendar_date_in(year, text) == seen, "{year}");
+        assert!(rt; calendar_date_in(year, text) == expected, "{year}");
     }
     assert!(rt; date_in(1999, b"2021-03-04T00:00:00Z", &Rfc3339).is_ok());
 }

@@ -159,8 +159,11 @@ fn dated(parsed: Parsed) -> Result<Day, TryFromParsed> {
 
 #[test]
 fn conversions(rt: HostRuntime) {
-    for (numbers, seen) in &DATES {
-        assert!(rt; record_of(numbers).map(dated) == Some(*seen), "{seen:?}");
+    for (numbers, expected) in &DATES {
+        assert!(rt;
+            record_of(numbers).map(dated) == Some(*expected),
+            "{expected:?}"
+        );
     }
 }
 
@@ -248,8 +251,11 @@ fn timed(parsed: Parsed) -> Result<Clock, TryFromParsed> {
 
 #[test]
 fn conversions_to_times(rt: HostRuntime) {
-    for (numbers, seen) in &TIMES {
-        assert!(rt; record_of(numbers).map(timed) == Some(*seen), "{seen:?}");
+    for (numbers, expected) in &TIMES {
+        assert!(rt;
+            record_of(numbers).map(timed) == Some(*expected),
+            "{expected:?}"
+        );
     }
 }
 
@@ -287,10 +293,10 @@ fn offset_by(parsed: Parsed) -> Result<Offset, TryFromParsed> {
 
 #[test]
 fn conversions_to_offsets(rt: HostRuntime) {
-    for (numbers, seen) in &OFFSETS {
+    for (numbers, expected) in &OFFSETS {
         assert!(rt;
-            record_of(numbers).map(offset_by) == Some(*seen),
-            "{seen:?}"
+            record_of(numbers).map(offset_by) == Some(*expected),
+            "{expected:?}"
         );
     }
 }
@@ -333,8 +339,11 @@ fn stamped(parsed: Parsed) -> Result<i128, TryFromParsed> {
 
 #[test]
 fn conversions_to_timestamps(rt: HostRuntime) {
-    for (numbers, seen) in &STAMPS {
-        assert!(rt; record_of(numbers).map(stamped) == Some(*seen), "{seen:?}");
+    for (numbers, expected) in &STAMPS {
+        assert!(rt;
+            record_of(numbers).map(stamped) == Some(*expected),
+            "{expected:?}"
+        );
     }
 }
 
@@ -443,9 +452,9 @@ static MOMENTS: [(&[(Field, i128)], bool, Moments); 8] = [
     ),
 ];
 
-fn moments(numbers: &[(Field, i128)], takes_leap_seconds: bool) -> Option<Moments> {
+fn moments(numbers: &[(Field, i128)], allows_leap_seconds: bool) -> Option<Moments> {
     let mut parsed = record_of(numbers)?;
-    if takes_leap_seconds {
+    if allows_leap_seconds {
         parsed.allow_leap_second();
     }
     Some((plain(parsed), in_utc(parsed), at_offset(parsed)))
@@ -453,10 +462,10 @@ fn moments(numbers: &[(Field, i128)], takes_leap_seconds: bool) -> Option<Moment
 
 #[test]
 fn conversions_to_moments(rt: HostRuntime) {
-    for (numbers, takes_leap_seconds, seen) in &MOMENTS {
+    for (numbers, allows_leap_seconds, expected) in &MOMENTS {
         assert!(rt;
-            moments(numbers, *takes_leap_seconds) == Some(*seen),
-            "{seen:?}"
+            moments(numbers, *allows_leap_seconds) == Some(*expected),
+            "{expected:?}"
         );
     }
 }

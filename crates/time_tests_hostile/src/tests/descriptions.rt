@@ -43,7 +43,7 @@ macro_rules! indexed {
 // A text is parsed up to the rest, and the record has these fields afterwards.
 macro_rules! read {
     ($rest:expr, $after:expr) => {
-        Seen {
+        Expected {
             before: NOTHING,
             answer: Ok($rest),
             after: $after,
@@ -54,17 +54,17 @@ macro_rules! read {
 // The record has this number alone.
 macro_rules! number {
     ($field:ident, $number:expr) => {
-        Held::Number(Field::$field, $number)
+        Fields::Number(Field::$field, $number)
     };
 }
 
 // A text is rejected, and the record is unchanged.
 macro_rules! refused {
     ($error:expr) => {
-        Seen {
+        Expected {
             before: MARCH_AT_NOON,
             answer: Err($error),
-            after: Held::Numbers(MARCH_AT_NOON),
+            after: Fields::Numbers(MARCH_AT_NOON),
         }
     };
 }
@@ -77,13 +77,13 @@ const NOTHING: Numbers = &[];
 
 const MARCH_AT_NOON: Numbers = &[(Field::Month, 3), (Field::Hour24, 12)];
 
-const NOON: Held = Held::Number(Field::Hour24, 12);
+const NOON: Fields = Fields::Number(Field::Hour24, 12);
 
-const HALF_PAST: Held = Held::Numbers(&[(Field::Hour24, 12), (Field::Minute, 30)]);
+const HALF_PAST: Fields = Fields::Numbers(&[(Field::Hour24, 12), (Field::Minute, 30)]);
 
 // The fields that a record has.
 #[derive(Clone, Copy)]
-enum Held {
+enum Fields {
     Nothing,
     Number(Field, i128),
     Numbers(Numbers),
@@ -97,10 +97,10 @@ enum Held {
 
 // A record before a parse, the result, and the record after it.
 #[derive(Drop)]
-struct Seen {
+struct Expected {
     before: Numbers,
     answer: Result<&'static [u8], ParseFromDescription>,
-    after: Held,
+    after: Fields,
 }
 
 const HOUR: Component = Component::Hour24(modifier::Hour24 {
@@ -124,20 +124,20 @@ const NO_MINUTE: ParseFromDescription = ParseFromDescription::InvalidComponent("
 
 const NO_LITERAL: ParseFromDescription = ParseFromDescription::InvalidLiteral;
 
-fn record(held: &Held) -> Option<Parsed> {
-    match held {
-        Held::Nothing => Some(Parsed::new()),
-        Held::Number(field, number) => record_of(&[(*field, *number)]),
-        Held::Numbers(numbers) => record_of(numbers),
-        Held::Century(century, is_negative) => Parsed::new().with_year_century(
+fn record(fields: &Fields) -> Option<Parsed> {
+    match fields {
+        Fields::Nothing => Some(Parsed::new()),
+        Fields::Number(field, number) => record_of(&[(*field, *number)]),
+        Fields::Numbers(numbers) => record_of(numbers),
+        Fields::Century(century, is_negative) => Parsed::new().with_year_century(
             *century,
             *is_negative,
         ),
-        Held::IsoCentury(century, is_negative) => Parsed::new().with_iso_year_century(
+        Fields::IsoCentury(century, is_negative) => Parsed::new().with_iso_year_century(
             *century,
             *is_negative,
         ),
-        Held::West(hour) => west(*hour),
+        Fields::West(hour) => west(*hour),
     }
 }
 
@@ -150,36 +150,36 @@ fn west(hour: i8) -> Option<Parsed> {
 }
 
 // The record before a text is parsed, and the record after it.
-fn records(seen: &Seen) -> Option<(Parsed, Parsed)> {
-    Some((record_of(seen.before)?, record(&seen.after)?))
+fn records(expected: &Expected) -> Option<(Parsed, Parsed)> {
+    Some((record_of(expected.before)?, record(&expected.after)?))
 }
 
 // Whether the parse by an item has that result and record.
-fn item_sees<I: AnyFormatItem>(item: &I, text: &str, seen: &Seen) -> bool {
-    let Some((mut parsed, after)) = records(seen) else {
+fn item_matches<I: AnyFormatItem>(item: &I, text: &str, expected: &Expected) -> bool {
+    let Some((mut parsed, after)) = records(expected) else {
         return false;
     };
-    parsed.parse_item(text.as_bytes(), item) == seen.answer && same_record(&parsed, &after)
+    parsed.parse_item(text.as_bytes(), item) == expected.answer && same_record(&parsed, &after)
 }
 
 // Whether the parse by a component has that result and record.
-fn component_sees(component: Component, text: &str, seen: &Seen) -> bool {
-    let Some((mut parsed, after)) = records(seen) else {
+fn component_matches(component: Component, text: &str, expected: &Expected) -> bool {
+    let Some((mut parsed, after)) = records(expected) else {
         return false;
     };
-    parsed.parse_component(text.as_bytes(), component) == seen.answer
+    parsed.parse_component(text.as_bytes(), component) == expected.answer
         && same_record(&parsed, &after)
 }
 
 // Whether the parses by a component, and by an item of it of either type, have that result and record.
-fn sees(component: Component, text: &str, seen: &Seen) -> bool {
-    component_sees(component, text, seen)
-        && item_sees(&BorrowedFormatItem::Component(component), text, seen)
-        && item_sees(&OwnedFormatItem::Component(component), text, seen)
+fn each_matches(component: Component, text: &str, expected: &Expected) -> bool {
+    component_matches(component, text, expected)
+        && item_matches(&BorrowedFormatItem::Component(component), text, expected)
+        && item_matches(&OwnedFormatItem::Component(component), text, expected)
 }
 
 // A kind of component, a text, and the result and record of its parse.
-static COMPONENTS: [(Kind, &str, Seen); 8] = [
+static COMPONENTS: [(Kind, &str, Expected); 8] = [
     (
         signed!(CalendarYearFullExtendedRange, Zero),
         "20215",
@@ -203,17 +203,17 @@ static COMPONENTS: [(Kind, &str, Seen); 8] = [
     (
         signed!(CalendarYearCenturyStandardRange, Zero),
         "5x",
-        read!(b"x", Held::Century(5, false)),
+        read!(b"x", Fields::Century(5, false)),
     ),
     (
         Kind::End(TrailingInput::Prohibit),
         "",
-        read!(b"", Held::Nothing),
+        read!(b"", Fields::Nothing),
     ),
     (
         Kind::End(TrailingInput::Discard),
         "x",
-        read!(b"", Held::Nothing),
+        read!(b"", Fields::Nothing),
     ),
     (
         Kind::End(TrailingInput::Prohibit),
@@ -224,8 +224,8 @@ static COMPONENTS: [(Kind, &str, Seen); 8] = [
 
 #[test]
 fn components(rt: HostRuntime) {
-    for (kind, text, seen) in &COMPONENTS {
-        assert!(rt; sees(component(kind), text, seen), "{text}");
+    for (kind, text, expected) in &COMPONENTS {
+        assert!(rt; each_matches(component(kind), text, expected), "{text}");
     }
 }
 
@@ -300,8 +300,8 @@ static REFUSED: [(Kind, &str, &str); 38] = [
 ];
 
 fn refuses(kind: &Kind, text: &str, name: &'static str) -> bool {
-    let seen = refused!(ParseFromDescription::InvalidComponent(name));
-    sees(component(kind), text, &seen)
+    let expected = refused!(ParseFromDescription::InvalidComponent(name));
+    each_matches(component(kind), text, &expected)
 }
 
 #[test]
@@ -312,10 +312,10 @@ fn components_refused(rt: HostRuntime) {
 }
 
 // A kind of component, a text that it parses to its end, and the record afterwards.
-type Row = (Kind, &'static str, Held);
+type Row = (Kind, &'static str, Fields);
 
-fn reads(kind: &Kind, text: &str, held: Held) -> bool {
-    sees(component(kind), text, &read!(b"", held))
+fn reads(kind: &Kind, text: &str, fields: Fields) -> bool {
+    each_matches(component(kind), text, &read!(b"", fields))
 }
 
 fn ignore(count: u16) -> Option<Component> {
@@ -324,23 +324,23 @@ fn ignore(count: u16) -> Option<Component> {
 }
 
 // Whether skipping this many bytes has that result and record.
-fn skipped_sees(count: u16, text: &str, seen: &Seen) -> bool {
+fn skip_matches(count: u16, text: &str, expected: &Expected) -> bool {
     match ignore(count) {
-        Some(component) => sees(component, text, seen),
+        Some(component) => each_matches(component, text, expected),
         None => false,
     }
 }
 
-static SKIPPED: [(u16, &str, Seen); 3] = [
-    (1, "xy", read!(b"y", Held::Nothing)),
-    (1, "\u{E9}", read!(b"\xA9", Held::Nothing)),
+static SKIPPED: [(u16, &str, Expected); 3] = [
+    (1, "xy", read!(b"y", Fields::Nothing)),
+    (1, "\u{E9}", read!(b"\xA9", Fields::Nothing)),
     (3, "ab", refused!(NO_IGNORED)),
 ];
 
 #[test]
 fn components_skipped(rt: HostRuntime) {
-    for (count, text, seen) in &SKIPPED {
-        assert!(rt; skipped_sees(*count, text, seen), "{text}");
+    for (count, text, expected) in &SKIPPED {
+        assert!(rt; skip_matches(*count, text, expected), "{text}");
     }
 }
 
@@ -376,39 +376,39 @@ const OTHERS: [BorrowedFormatItem<'static>; 2] = [
 ];
 
 // Whether the parse by a tree that borrows its items has that result and record.
-fn borrowed_sees(tree: &Tree, text: &str, seen: &Seen) -> bool {
+fn borrowed_matches(tree: &Tree, text: &str, expected: &Expected) -> bool {
     match tree {
         Tree::Part => {
             let clock = BorrowedFormatItem::Compound(&CLOCK);
-            item_sees(&BorrowedFormatItem::Optional(&clock), text, seen)
+            item_matches(&BorrowedFormatItem::Optional(&clock), text, expected)
         }
         Tree::Either => {
             let clock = BorrowedFormatItem::Compound(&CLOCK);
             let either = [clock, BorrowedFormatItem::Component(HOUR)];
-            item_sees(&BorrowedFormatItem::First(&either), text, seen)
+            item_matches(&BorrowedFormatItem::First(&either), text, expected)
         }
-        Tree::Nothing => item_sees(&BorrowedFormatItem::First(&[]), text, seen),
-        Tree::Others => item_sees(&BorrowedFormatItem::First(&OTHERS), text, seen),
-        Tree::OthersInTurn => item_sees(&BorrowedFormatItem::Compound(&OTHERS), text, seen),
+        Tree::Nothing => item_matches(&BorrowedFormatItem::First(&[]), text, expected),
+        Tree::Others => item_matches(&BorrowedFormatItem::First(&OTHERS), text, expected),
+        Tree::OthersInTurn => item_matches(&BorrowedFormatItem::Compound(&OTHERS), text, expected),
         _ => false,
     }
 }
 
-static BORROWED: [(Tree, &str, Seen); 8] = [
-    (Tree::Part, "12:x", read!(b"12:x", Held::Nothing)),
+static BORROWED: [(Tree, &str, Expected); 8] = [
+    (Tree::Part, "12:x", read!(b"12:x", Fields::Nothing)),
     (Tree::Part, "12:30x", read!(b"x", HALF_PAST)),
     (Tree::Either, "12:30x", read!(b"x", HALF_PAST)),
     (Tree::Either, "12x", read!(b"x", NOON)),
     (Tree::Either, "1x", refused!(NO_HOUR)),
-    (Tree::Nothing, "x", read!(b"x", Held::Nothing)),
+    (Tree::Nothing, "x", read!(b"x", Fields::Nothing)),
     (Tree::Others, "y", refused!(NO_MINUTE)),
     (Tree::OthersInTurn, "05y", refused!(NO_LITERAL)),
 ];
 
 #[test]
 fn components_in_borrowed_trees(rt: HostRuntime) {
-    for (tree, text, seen) in &BORROWED {
-        assert!(rt; borrowed_sees(tree, text, seen), "{text}");
+    for (tree, text, expected) in &BORROWED {
+        assert!(rt; borrowed_matches(tree, text, expected), "{text}");
     }
 }
 
@@ -453,28 +453,28 @@ fn owned(alloc: Global, tree: &Tree) -> Option<OwnedFormatItem> {
 }
 
 // Whether the parse by a tree that owns its items has that result and record.
-fn owned_sees(alloc: Global, tree: &Tree, text: &str, seen: &Seen) -> bool {
+fn owned_matches(alloc: Global, tree: &Tree, text: &str, expected: &Expected) -> bool {
     match owned(alloc, tree) {
-        Some(item) => item_sees(&item, text, seen),
+        Some(item) => item_matches(&item, text, expected),
         None => false,
     }
 }
 
-static OWNED: [(Tree, &str, Seen); 8] = [
-    (Tree::Part, "12:x", read!(b"12:x", Held::Nothing)),
+static OWNED: [(Tree, &str, Expected); 8] = [
+    (Tree::Part, "12:x", read!(b"12:x", Fields::Nothing)),
     (Tree::Part, "12:30x", read!(b"x", HALF_PAST)),
     (Tree::Either, "12:30x", read!(b"x", HALF_PAST)),
     (Tree::Either, "12x", read!(b"x", NOON)),
     (Tree::Either, "1x", refused!(NO_HOUR)),
-    (Tree::Nothing, "x", read!(b"x", Held::Nothing)),
+    (Tree::Nothing, "x", read!(b"x", Fields::Nothing)),
     (Tree::Clock, "12x", refused!(NO_LITERAL)),
     (Tree::Others, "y", refused!(NO_MINUTE)),
 ];
 
 #[test]
 fn components_in_owned_trees(rt: HostRuntime) {
-    for (tree, text, seen) in &OWNED {
-        assert!(rt; owned_sees(rt.alloc(), tree, text, seen), "{text}");
+    for (tree, text, expected) in &OWNED {
+        assert!(rt; owned_matches(rt.alloc(), tree, text, expected), "{text}");
     }
 }
 
@@ -614,8 +614,8 @@ mod kinds {
 // Descriptions of version 3.
 mod version_3 {
     use super::{
-        HALF_PAST, HOUR, Held, MARCH_AT_NOON, MINUTE, NO_HOUR, NO_IGNORED, NO_LITERAL, NOON,
-        NOTHING, Seen, Tree, ignore, records,
+        Expected, Fields, HALF_PAST, HOUR, MARCH_AT_NOON, MINUTE, NO_HOUR, NO_IGNORED, NO_LITERAL,
+        NOON, NOTHING, Tree, ignore, records,
     };
     use crate::fields::same_record;
     use std::alloc::Global;
@@ -668,40 +668,44 @@ mod version_3 {
     }
 
     // Whether the parse by a tree has that result and record.
-    fn v3_sees(items: &FormatDescriptionV3Inner<'_>, text: &str, seen: &Seen) -> bool {
-        let Some((mut parsed, after)) = records(seen) else {
+    fn v3_matches(items: &FormatDescriptionV3Inner<'_>, text: &str, expected: &Expected) -> bool {
+        let Some((mut parsed, after)) = records(expected) else {
             return false;
         };
-        parsed.parse_v3(text.as_bytes(), items) == seen.answer && same_record(&parsed, &after)
+        parsed.parse_v3(text.as_bytes(), items) == expected.answer && same_record(&parsed, &after)
     }
 
-    fn tree_sees(alloc: Global, tree: &Tree, text: &str, seen: &Seen) -> bool {
+    fn tree_matches(alloc: Global, tree: &Tree, text: &str, expected: &Expected) -> bool {
         match v3(alloc, tree) {
-            Some(items) => v3_sees(&items, text, seen),
+            Some(items) => v3_matches(&items, text, expected),
             None => false,
         }
     }
 
-    static TREES: [(Tree, &str, Seen); 13] = [
+    static TREES: [(Tree, &str, Expected); 13] = [
         (Tree::Skipped, "\u{E9}", refused!(NO_IGNORED)),
         (Tree::Skipped, "", refused!(NO_IGNORED)),
-        (Tree::Skipped, "xy", read!(b"y", Held::Nothing)),
-        (Tree::Skipped, "x\u{E9}", read!(b"\xC3\xA9", Held::Nothing)),
+        (Tree::Skipped, "xy", read!(b"y", Fields::Nothing)),
+        (
+            Tree::Skipped,
+            "x\u{E9}",
+            read!(b"\xC3\xA9", Fields::Nothing),
+        ),
         (Tree::Clock, "12:30x", read!(b"x", HALF_PAST)),
         (Tree::Clock, "12x", refused!(NO_LITERAL)),
-        (Tree::Part, "12:x", read!(b"12:x", Held::Nothing)),
+        (Tree::Part, "12:x", read!(b"12:x", Fields::Nothing)),
         (Tree::PartAndHour, "12:3012", read!(b"", HALF_PAST)),
         (Tree::PartAndHour, "12", read!(b"", NOON)),
         (Tree::Either, "12:30x", read!(b"x", HALF_PAST)),
         (Tree::Either, "12x", read!(b"x", NOON)),
         (Tree::Either, "1x", refused!(NO_HOUR)),
-        (Tree::Nothing, "x", read!(b"x", Held::Nothing)),
+        (Tree::Nothing, "x", read!(b"x", Fields::Nothing)),
     ];
 
     #[test]
     fn components_in_version_3(rt: HostRuntime) {
-        for (tree, text, seen) in &TREES {
-            assert!(rt; tree_sees(rt.alloc(), tree, text, seen), "{text}");
+        for (tree, text, expected) in &TREES {
+            assert!(rt; tree_matches(rt.alloc(), tree, text, expected), "{text}");
         }
     }
 }

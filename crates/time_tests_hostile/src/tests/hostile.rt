@@ -239,7 +239,7 @@ mod changed_bytes {
     }
 
     // Whether a text that doesn't parse has an equal error for each type of value.
-    fn is_refused_alike<F: Parsable>(format: &F, text: &[u8]) -> bool {
+    fn has_equal_errors<F: Parsable>(format: &F, text: &[u8]) -> bool {
         let answers = (
             format.parse_date(text, None),
             format.parse_time(text, None),
@@ -263,14 +263,14 @@ mod changed_bytes {
         format.parse_into(text, &mut record).is_ok() || same_record(&record, before)
     }
 
-    // Whether all of these are true of the text.
+    // Whether the text passes all three checks.
     fn is_right<F: Parsable>(format: &F, text: &[u8], full: &Parsed) -> bool {
         has_one_moment(format, text)
-            && is_refused_alike(format, text)
+            && has_equal_errors(format, text)
             && keeps_the_record(format, text, full)
     }
 
-    // Whether they are with each byte at the place. The text is restored.
+    // Whether the text passes them with each byte at the place. The text is restored.
     fn is_right_with_each_byte<F: Parsable>(
         format: &F,
         text: &mut [u8],
@@ -293,7 +293,7 @@ mod changed_bytes {
         all_right
     }
 
-    // Whether they are with each byte at each of these places, and of the text truncated there.
+    // Whether the text passes them with each byte at each of these places, and truncated there.
     pub(super) fn is_right_if_changed_at<F: Parsable>(
         alloc: Global,
         format: &F,
@@ -316,7 +316,7 @@ mod changed_bytes {
         Ok(all_right)
     }
 
-    // Whether they are with each byte at each place, and of the text truncated there.
+    // Whether the text passes them with each byte at each place, and truncated there.
     fn is_right_if_changed<F: Parsable>(
         alloc: Global,
         format: &F,
@@ -325,7 +325,7 @@ mod changed_bytes {
         is_right_if_changed_at(alloc, format, text, 0..text.len())
     }
 
-    // Whether they are for each of the texts.
+    // Whether each of the texts does.
     fn all_are_right_if_changed<F: Parsable>(alloc: Global, format: &F, texts: &[&[u8]]) -> bool {
         let mut all_right = true;
         for text in texts {
@@ -552,8 +552,11 @@ mod stale_defaults {
 
     #[test]
     fn stale_defaults(rt: HostRuntime) {
-        for (text, seen) in &OFFSETS {
-            assert!(rt; offset_over_ten_seconds(text) == Some(*seen), "{text:?}");
+        for (text, expected) in &OFFSETS {
+            assert!(rt;
+                offset_over_ten_seconds(text) == Some(*expected),
+                "{text:?}"
+            );
         }
     }
 
@@ -599,10 +602,10 @@ mod stale_defaults {
 
     #[test]
     fn stale_defaults_of_times(rt: HostRuntime) {
-        for (format, text, left, seen) in &TIMES {
+        for (format, text, left, expected) in &TIMES {
             let defaults = record_of(&[*left]);
             assert!(rt;
-                defaults.is_some() && timed(format, text, defaults) == Ok(*seen),
+                defaults.is_some() && timed(format, text, defaults) == Ok(*expected),
                 "{text:?}"
             );
         }
@@ -612,13 +615,13 @@ mod stale_defaults {
     fn stale_defaults_of_leap_seconds(rt: HostRuntime) {
         let leap = Parsed::new().with_second(60);
         let answer = Rfc2822.parse_utc_date_time(b"31 Dec 2016 23:59 GMT", leap);
-        let seen = match answer {
+        let found = match answer {
             Ok(moment) => Some((
                 moment.date().to_calendar_date(),
                 moment.time().as_hms_nano(),
             )),
             Err(_) => None,
         };
-        assert!(rt; seen == Some(((2016, Month::December, 31), (23, 59, 59, 999_999_999))));
+        assert!(rt; found == Some(((2016, Month::December, 31), (23, 59, 59, 999_999_999))));
     }
 }

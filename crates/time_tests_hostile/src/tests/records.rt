@@ -4,7 +4,7 @@ use std::num::NonZero;
 use time_record::Parsed;
 
 // Whether a second of 60 is stored, and 61 rejected.
-fn holds_a_leap_second() -> bool {
+fn stores_leap_second() -> bool {
     let mut parsed = Parsed::default();
     parsed.second().is_none()
         && parsed.set_second(60) == Some(())
@@ -15,7 +15,7 @@ fn holds_a_leap_second() -> bool {
 // Centuries that are stored in turn, the sign for a century of 0, and whether each is then negative.
 static SIGNS: [(i16, bool, bool); 3] = [(0, true, true), (-5, false, true), (5, true, false)];
 
-fn holds_signs_of_centuries() -> bool {
+fn stores_century_signs() -> bool {
     let mut parsed = Parsed::new();
     let mut is_right = parsed.year_century_is_negative().is_none();
     for (century, sign, is_negative) in &SIGNS {
@@ -26,21 +26,21 @@ fn holds_signs_of_centuries() -> bool {
 }
 
 // Whether an offset's numbers keep their own signs after the parsed sign is dropped.
-fn holds_an_offset() -> bool {
+fn keeps_offset_signs() -> bool {
     let mut parsed = Parsed::new();
     let minute = parsed.set_offset_minute_signed(-30);
     parsed.forget_offset_sign();
-    let held = (parsed.offset_minute_signed(), parsed.offset_minute());
+    let stored = (parsed.offset_minute_signed(), parsed.offset_minute());
     let past = parsed.set_offset_minute(60);
     let kept = parsed.offset_minute_signed();
     let second = parsed.set_offset_second_signed(-15);
     [minute, past, second] == [Some(()), None, Some(())]
-        && (held, kept) == ((Some(-30), Some(30)), Some(-30))
+        && (stored, kept) == ((Some(-30), Some(30)), Some(-30))
         && parsed.offset_second() == Some(15)
 }
 
 // Whether an ordinal and a timestamp past the greatest are rejected.
-fn takes_nothing_past_the_ends() -> bool {
+fn rejects_past_the_ends() -> bool {
     let ordinal = match NonZero::<u16>::new(367) {
         Some(past) => Parsed::new().with_ordinal(past),
         None => return false,
@@ -51,14 +51,14 @@ fn takes_nothing_past_the_ends() -> bool {
 
 #[test]
 fn digits_and_record(rt: HostRuntime) {
-    assert!(rt; holds_a_leap_second());
-    assert!(rt; holds_signs_of_centuries());
-    assert!(rt; holds_an_offset());
-    assert!(rt; takes_nothing_past_the_ends());
+    assert!(rt; stores_leap_second());
+    assert!(rt; stores_century_signs());
+    assert!(rt; keeps_offset_signs());
+    assert!(rt; rejects_past_the_ends());
 }
 
 // Whether a number in range is stored, and numbers past either end of the range are rejected.
-fn holds_in_range(field: Field, low: i128, high: i128, n: i128) -> bool {
+fn stores_in_range(field: Field, low: i128, high: i128, n: i128) -> bool {
     let mut parsed = Parsed::new();
     if get(&parsed, field).is_some() || set(&mut parsed, field, n).is_none() {
         return false;
@@ -83,7 +83,7 @@ fn is_built(field: Field, n: i128) -> bool {
 fn digits_and_record_at_the_ends(rt: HostRuntime) {
     for (field, low, high) in RANGES {
         for n in [low, high] {
-            assert!(rt; holds_in_range(field, low, high, n), "{low} to {high}");
+            assert!(rt; stores_in_range(field, low, high, n), "{low} to {high}");
             assert!(rt; is_built(field, n), "{low} to {high}");
         }
     }
@@ -119,7 +119,7 @@ fn digits_and_record_of_centuries(rt: HostRuntime) {
 }
 
 // Whether a record with one field differs from an empty one.
-fn is_told_from_none(field: Field, n: i128) -> bool {
+fn differs_from_empty(field: Field, n: i128) -> bool {
     match record_of(&[(field, n)]) {
         Some(one) => same_record(&one, &one) && !same_record(&one, &Parsed::new()),
         None => false,
@@ -130,7 +130,7 @@ fn is_told_from_none(field: Field, n: i128) -> bool {
 fn same_records(rt: HostRuntime) {
     for (field, low, high) in RANGES {
         for n in [low, high] {
-            assert!(rt; is_told_from_none(field, n), "{low} to {high}");
+            assert!(rt; differs_from_empty(field, n), "{low} to {high}");
         }
     }
     assert!(rt; full_record().is_some_and(|full| same_record(&full, &full)));
@@ -190,7 +190,7 @@ mod counted_and_laws {
     type Read<'a> = Result<&'a [u8], ParseFromDescription>;
 
     // The result, how many items were visited, and the hour and the minute of the record afterwards.
-    type Seen<'a> = (Read<'a>, u64, Option<u8>, Option<u8>);
+    type Counted<'a> = (Read<'a>, u64, Option<u8>, Option<u8>);
 
     // The items that parse a text.
     enum Items {
@@ -202,7 +202,7 @@ mod counted_and_laws {
     }
 
     // Parses by the items over a record with the hour 7.
-    fn read<'a>(input: &'a [u8], items: &[BorrowedFormatItem<'_>]) -> Seen<'a> {
+    fn read<'a>(input: &'a [u8], items: &[BorrowedFormatItem<'_>]) -> Counted<'a> {
         let mut parsed = Parsed::new();
         let _ = parsed.set_hour_24(7);
         let mut tries = Tries::new();
@@ -210,7 +210,7 @@ mod counted_and_laws {
         (answer, tries.count(), parsed.hour_24(), parsed.minute())
     }
 
-    fn seen<'a>(input: &'a [u8], items: &Items) -> Seen<'a> {
+    fn counted_parse<'a>(input: &'a [u8], items: &Items) -> Counted<'a> {
         match items {
             Items::Choice => {
                 let whole = [HOUR, COLON, MINUTE];
@@ -226,7 +226,7 @@ mod counted_and_laws {
 
     const NO_COLON: ParseFromDescription = ParseFromDescription::InvalidLiteral;
 
-    static SEEN: [(Items, &[u8], Seen<'static>); 5] = [
+    static COUNTED: [(Items, &[u8], Counted<'static>); 5] = [
         (Items::Choice, b"12x", (Ok(b"x"), 5, Some(12), None)),
         (Items::Choice, b"1x", (Err(NO_HOUR), 4, Some(7), None)),
         (Items::Choice, b"12:34", (Ok(b""), 5, Some(12), Some(34))),
@@ -236,8 +236,8 @@ mod counted_and_laws {
 
     #[test]
     fn counted(rt: HostRuntime) {
-        for (items, input, answer) in &SEEN {
-            assert!(rt; seen(input, items) == *answer, "{input:?}");
+        for (items, input, answer) in &COUNTED {
+            assert!(rt; counted_parse(input, items) == *answer, "{input:?}");
         }
     }
 
@@ -246,10 +246,10 @@ mod counted_and_laws {
     fn counted_on(rt: HostRuntime) {
         let mut parsed = Parsed::new();
         let mut tries = Tries::new();
-        for begun in [1, 2] {
+        for visited in [1, 2] {
             let answer = COLON.parse_item_counted(&mut parsed, b"x", &mut tries);
             assert!(rt; answer == Err(ParseFromDescription::InvalidLiteral));
-            assert!(rt; tries.count() == begun);
+            assert!(rt; tries.count() == visited);
         }
         let option = [BorrowedFormatItem::Optional(&MINUTE)];
         assert!(rt; parsed.parse_items(b"x", &option) == Ok(b"x".as_slice()));
@@ -313,7 +313,7 @@ mod counted_and_laws {
 
     // Parses by a list of an hour, a colon and a minute inside a list. Returns how often the inner list and each of its
     // items are inspected, and how many items are visited.
-    fn inspected(input: &[u8]) -> ([u32; 4], u64) {
+    fn inspection_counts(input: &[u8]) -> ([u32; 4], u64) {
         let counts = [Cell::new(0), Cell::new(0), Cell::new(0), Cell::new(0)];
         let [list, hour, colon, minute] = &counts;
         let zero = Padding::Zero;
@@ -325,8 +325,8 @@ mod counted_and_laws {
         let items = [Inspected::List(list, &inside)];
         let mut tries = Tries::new();
         let _ = Parsed::new().parse_items_counted(input, &items, &mut tries);
-        let seen = [list.get(), hour.get(), colon.get(), minute.get()];
-        (seen, tries.count())
+        let inspections = [list.get(), hour.get(), colon.get(), minute.get()];
+        (inspections, tries.count())
     }
 
     // Texts, and how often the items of that list are inspected: once each, up to the one that fails.
@@ -339,13 +339,16 @@ mod counted_and_laws {
 
     #[test]
     fn inspected_once(rt: HostRuntime) {
-        for (input, counts, begun) in &INSPECTED {
-            assert!(rt; inspected(input) == (*counts, *begun), "{input:?}");
+        for (input, counts, visited) in &INSPECTED {
+            assert!(rt;
+                inspection_counts(input) == (*counts, *visited),
+                "{input:?}"
+            );
         }
     }
 
     // The result of items over an empty record, and the hour and the minute afterwards.
-    fn answered<'a>(
+    fn parse_result<'a>(
         input: &'a [u8],
         items: &[BorrowedFormatItem<'_>],
     ) -> (Read<'a>, Option<u8>, Option<u8>) {
@@ -361,25 +364,25 @@ mod counted_and_laws {
             Ok(rest) => parsed.parse_items(rest, &[MINUTE]),
             Err(fault) => Err(fault),
         };
-        answered(input, &[HOUR, COLON, MINUTE]).0 == joined
+        parse_result(input, &[HOUR, COLON, MINUTE]).0 == joined
     }
 
     // Whether a list inside a list parses as its items do.
     fn is_flattened(input: &[u8]) -> bool {
         let inside = [COLON, MINUTE];
-        answered(input, &[HOUR, BorrowedFormatItem::Compound(&inside)])
-            == answered(input, &[HOUR, COLON, MINUTE])
+        parse_result(input, &[HOUR, BorrowedFormatItem::Compound(&inside)])
+            == parse_result(input, &[HOUR, COLON, MINUTE])
     }
 
     // Whether items of equal shape have equal results, and what they leave is a suffix.
-    fn is_alike(input: &[u8]) -> bool {
+    fn has_equal_results(input: &[u8]) -> bool {
         let bytes = [HOUR, BorrowedFormatItem::Literal(b":"), MINUTE];
-        let answer = answered(input, &[HOUR, COLON, MINUTE]);
+        let answer = parse_result(input, &[HOUR, COLON, MINUTE]);
         let is_suffix = match answer.0 {
             Ok(rest) => input.ends_with(rest),
             Err(_) => true,
         };
-        is_suffix && answered(input, &bytes) == answer
+        is_suffix && parse_result(input, &bytes) == answer
     }
 
     static CLOCKS: [&[u8]; 6] = [b"12:34", b"12:34x", b"12:x", b"12x", b"x", b""];
@@ -389,7 +392,7 @@ mod counted_and_laws {
         for input in &CLOCKS {
             assert!(rt; is_joined(input), "{input:?}");
             assert!(rt; is_flattened(input), "{input:?}");
-            assert!(rt; is_alike(input), "{input:?}");
+            assert!(rt; has_equal_results(input), "{input:?}");
         }
     }
 

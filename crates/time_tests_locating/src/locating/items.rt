@@ -470,12 +470,12 @@ mod components {
     ];
 
     fn assert_dates<F: Locate>(rt: &impl Abort, format: &F, rows: &[Fault<'_>]) {
-        for (text, wanted) in rows {
+        for (text, expected) in rows {
             let found = match format.parse_date(text, None) {
                 Ok(_) => Ok(()),
                 Err(error) => Err(locate_error(format, text, None, error)),
             };
-            assert!(rt; found == *wanted, "{text:?}");
+            assert!(rt; found == *expected, "{text:?}");
         }
     }
 

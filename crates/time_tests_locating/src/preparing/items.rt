@@ -33,7 +33,11 @@ const PLUS: [Item; 1] = [item!("+")];
 const FRACTION: [Item; 2] = [item!("."), Component(SUBSECOND)];
 
 // Whether both parse the text equally: the values of the whole text, and the rest and record of a prefix, or the error.
-fn is_alike<'a>(items: &'a [BorrowedFormatItem<'a>], prepared: &Prepared<64>, text: &[u8]) -> bool {
+fn has_equal_results<'a>(
+    items: &'a [BorrowedFormatItem<'a>],
+    prepared: &Prepared<64>,
+    text: &[u8],
+) -> bool {
     let format = Compound(items);
     let mut by_items = Parsed::new();
     let mut at_once = Parsed::new();
@@ -49,7 +53,10 @@ fn are_prepared<'a>(items: &'a [BorrowedFormatItem<'a>], steps: &[Step], texts: 
     let Ok(prepared) = Prepared::<64>::from_items(items) else {
         return false;
     };
-    prepared.steps() == steps && texts.iter().all(|text| is_alike(items, &prepared, text))
+    prepared.steps() == steps
+        && texts
+            .iter()
+            .all(|text| has_equal_results(items, &prepared, text))
 }
 
 // Asserts that the items have the steps of the description, and parse each of the texts equally.
@@ -331,8 +338,8 @@ static TEXTS: [(Unprepared, &str); 3] = [
 #[test]
 fn texts(rt: HostRuntime) -> Result<(), Fail> {
     for (reason, text) in &TEXTS {
-        let told = format!(in rt.alloc(); "{reason}")?;
-        assert!(rt; told.as_str() == *text);
+        let printed = format!(in rt.alloc(); "{reason}")?;
+        assert!(rt; printed.as_str() == *text);
     }
     Ok(())
 }

@@ -225,8 +225,8 @@ mod moments {
         let nanos: i128 = utc.unix_timestamp_nanos();
         let timestamp: Timestamp = Timestamp::from(utc);
         let stamped: i128 = timestamp.nanoseconds();
-        let stands_in: bool = utc.is_valid_leap_second_stand_in();
-        (nanos, stamped, stands_in)
+        let may_be_leap_second: bool = utc.is_valid_leap_second_stand_in();
+        (nanos, stamped, may_be_leap_second)
     }
 
     #[test]
@@ -244,8 +244,8 @@ mod moments {
     fn offset_nanos(moment: OffsetDateTime) -> (i128, Option<UtcDateTime>, bool) {
         let nanos: i128 = moment.unix_timestamp_nanos();
         let utc: Option<UtcDateTime> = moment.checked_to_utc();
-        let stands_in: bool = moment.is_valid_leap_second_stand_in();
-        (nanos, utc, stands_in)
+        let may_be_leap_second: bool = moment.is_valid_leap_second_stand_in();
+        (nanos, utc, may_be_leap_second)
     }
 
     #[test]
@@ -253,8 +253,8 @@ mod moments {
         let moment: Result<OffsetDateTime, ComponentRange> =
             OffsetDateTime::from_unix_timestamp_nanos(DAY);
         let moment = moment.expect(&rt, "a moment");
-        let (nanos, utc, stands_in) = offset_nanos(moment);
-        assert!(rt; (nanos, utc.is_some(), stands_in) == (DAY, true, false));
+        let (nanos, utc, may_be_leap_second) = offset_nanos(moment);
+        assert!(rt; (nanos, utc.is_some(), may_be_leap_second) == (DAY, true, false));
         let later: Result<OffsetDateTime, ComponentRange> = moment.replace_nanosecond(1);
         assert!(rt; later.is_ok());
     }
@@ -327,9 +327,9 @@ mod errors {
     }
 
     // Whether this is the error's text.
-    fn prints<E: std::error::Error>(alloc: Global, e: &E, wanted: &str) -> bool {
+    fn prints<E: std::error::Error>(alloc: Global, e: &E, expected: &str) -> bool {
         match e.to_string(alloc) {
-            Ok(text) => text.as_str() == wanted,
+            Ok(text) => text.as_str() == expected,
             Err(_) => false,
         }
     }

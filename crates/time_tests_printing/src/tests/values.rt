@@ -133,8 +133,8 @@ mod parts {
 
     #[test]
     fn units_of_a_timestamp(rt: HostRuntime) {
-        for (nanoseconds, wanted) in &UNITS {
-            assert!(rt; units(*nanoseconds) == Some(*wanted));
+        for (nanoseconds, expected) in &UNITS {
+            assert!(rt; units(*nanoseconds) == Some(*expected));
         }
     }
 
@@ -168,8 +168,8 @@ mod parts {
 
     #[test]
     fn whole_offsets(rt: HostRuntime) {
-        for (seconds, numbers, wanted) in &OFFSETS {
-            assert!(rt; is_offset(*seconds, *numbers) == *wanted);
+        for (seconds, numbers, expected) in &OFFSETS {
+            assert!(rt; is_offset(*seconds, *numbers) == *expected);
         }
     }
 
@@ -384,8 +384,8 @@ mod arithmetic {
 
     #[test]
     fn differences(rt: HostRuntime) {
-        for (value, other, wanted) in &DIFFERENCES {
-            assert!(rt; difference(*value, *other) == Ok(*wanted));
+        for (value, other, expected) in &DIFFERENCES {
+            assert!(rt; difference(*value, *other) == Ok(*expected));
         }
     }
 

@@ -209,12 +209,12 @@ static BERLIN_OFFSETS: [(Minute, i8, Option<bool>); 6] = [
 #[test]
 fn offsets_of_berlin(rt: HostRuntime) {
     let zone = by_setting(rt.alloc(), BERLIN);
-    for (minute, hours, wanted) in &BERLIN_OFFSETS {
+    for (minute, hours, expected) in &BERLIN_OFFSETS {
         let found = match (&zone, moment(*minute, *hours)) {
             (Some(zone), Some(moment)) => Some(has_zone_offset(moment, &zone.time_zone())),
             _ => None,
         };
-        assert!(rt; found == Some(*wanted), "{minute:?} {hours}");
+        assert!(rt; found == Some(*expected), "{minute:?} {hours}");
     }
 }
 
@@ -253,7 +253,7 @@ mod slow {
 
     impl Piece {
         // Whether the byte may be at the place.
-        fn takes(self, place: usize, byte: u8) -> bool {
+        fn allows(self, place: usize, byte: u8) -> bool {
             match self {
                 Piece::Part if place == 0 => is_zone_initial(byte),
                 Piece::Part => is_zone_char(byte),
@@ -266,7 +266,7 @@ mod slow {
         // Whether the text is one such piece.
         fn is(self, text: &[u8]) -> bool {
             for (place, byte) in text.iter().enumerate() {
-                if !self.takes(place, *byte) {
+                if !self.allows(place, *byte) {
                     return false;
                 }
             }
@@ -275,16 +275,16 @@ mod slow {
 
         // Whether the text is such pieces, with the separator between them.
         fn are(self, separator: u8, text: &[u8]) -> bool {
-            let mut begun = 0;
+            let mut start = 0;
             for (place, byte) in text.iter().enumerate() {
                 if *byte == separator {
-                    if !text.get(begun..place).is_some_and(|piece| self.is(piece)) {
+                    if !text.get(start..place).is_some_and(|piece| self.is(piece)) {
                         return false;
                     }
-                    begun = place.wrapping_add(1);
+                    start = place.wrapping_add(1);
                 }
             }
-            text.get(begun..).is_some_and(|piece| self.is(piece))
+            text.get(start..).is_some_and(|piece| self.is(piece))
         }
     }
 

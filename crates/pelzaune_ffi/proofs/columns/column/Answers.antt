@@ -2,28 +2,28 @@ use Rattle.std.proofs.Common.{◌≡◌, ◌+◌, ◌≤◌, ◌⊎◌, inl, inr
 use Rattle.std.proofs.lemmas.Grind.{common_steps}
 use Rattle.byte_streams.specs.Lines.{line_texts}
 use Rattle.pelzaune_ffi.specs.Columns as spec
-use Rattle.pelzaune_ffi.proofs.HeldRows.{Ends, Ends-more, Ends-all, no_lines}
+use Rattle.pelzaune_ffi.proofs.StoredRows.{Ends, Ends-more, Ends-all, no_lines}
 use Rattle.pelzaune_ffi.proofs.columns.column.Goals as goal
 use Rattle.pelzaune_ffi.proofs.columns.column.Goals.{then-loop-index-test+else-not-is_empty, else-loop-index-test}
 
 pub loop-index-preserved : goal.loop-index-preserved
 loop-index-preserved g c =
     let so_far = c.loop-index.invariant in
-    let handed = c.count_first-status in
-    let cut = handed.ensures.1.lines in
-    let left : Ends (g.C.Count.hands c.args.counting.now) (line_texts c.args.text.now) c.args.entries.now
-    (line_texts handed.result.1.now)
-    (drop (c.loop-index.index + 1) (slice_set c.loop-index.entries c.loop-index.index handed.new.entry))
-    (take (c.loop-index.index + 1) (slice_set c.loop-index.entries c.loop-index.index handed.new.entry))
-    (c.loop-index.without + spec.one_if_refused handed.result.0) =
-    Ends-more (g.C.Count.hands c.args.counting.now) (line_texts c.args.text.now) c.args.entries.now c.loop-index.entries
-    handed.ensures.0 (line_texts handed.result.1.now) c.loop-index.index handed.result.0 c.loop-index.without
-    handed.new.entry c.loop-index-test.true handed.ensures.2 (rw cut at so_far.4) in (
+    let first = c.count_first-status in
+    let split = first.ensures.1.lines in
+    let left : Ends (g.C.Count.stores c.args.counting.now) (line_texts c.args.text.now) c.args.entries.now
+    (line_texts first.result.1.now)
+    (drop (c.loop-index.index + 1) (slice_set c.loop-index.entries c.loop-index.index first.new.entry))
+    (take (c.loop-index.index + 1) (slice_set c.loop-index.entries c.loop-index.index first.new.entry))
+    (c.loop-index.rejected + spec.one_if_refused first.result.0) =
+    Ends-more (g.C.Count.stores c.args.counting.now) (line_texts c.args.text.now) c.args.entries.now c.loop-index.entries
+    first.ensures.0 (line_texts first.result.1.now) c.loop-index.index first.result.0 c.loop-index.rejected
+    first.new.entry c.loop-index-test.true first.ensures.2 (rw split at so_far.4) in (
       grind (arith, common_steps, c.loop-index-test.true),
-      omega (arith, so_far.1, c.one_if_refused-without.ensures.bound),
-      grind (arith, common_steps, cut, so_far.2),
-      omega (arith, so_far.3, handed.ensures.1.shorter),
-      rw c.one_if_refused-without.ensures.one left,
+      omega (arith, so_far.1, c.one_if_refused-rejected.ensures.bound),
+      grind (arith, common_steps, split, so_far.2),
+      omega (arith, so_far.3, first.ensures.1.shorter),
+      rw c.one_if_refused-rejected.ensures.one left,
     )
 
 pub returns-clause-entries : goal.returns-clause-entries
@@ -32,5 +32,5 @@ returns-clause-entries g c =
       | then-loop-index-test+else-not-is_empty w ↦ inr (no_lines c.loop-index.rest.now (sym w.is_empty.ensures ∙ w.if-not-is_empty.false))
       | else-loop-index-test w ↦ inl w.loop-index-test.false
     ] in
-    Ends-all (g.C.Count.hands c.args.counting.now) (line_texts c.args.text.now) c.args.entries.now c.loop-index.entries
-    (line_texts c.loop-index.rest.now) c.loop-index.index c.loop-index.without ended c.loop-index.invariant.4
+    Ends-all (g.C.Count.stores c.args.counting.now) (line_texts c.args.text.now) c.args.entries.now c.loop-index.entries
+    (line_texts c.loop-index.rest.now) c.loop-index.index c.loop-index.rejected ended c.loop-index.invariant.4

@@ -5,8 +5,8 @@ use Rattle.time_values.specs.Dates as Dates
 use Rattle.time_values.specs.Names.{month_number}
 use Rattle.time_values.specs.Calendar.{greatest_year}
 use Rattle.time_values.specs.Refusal.{Constructs}
-use Rattle.pelzaune_ffi.specs.Handed.{month_refusal, IsDateOf}
-use Rattle.pelzaune_ffi.proofs.IsoInPlace.{Constructs-made, Constructs-such, Constructs-map, Constructs-later}
+use Rattle.pelzaune_ffi.specs.Results.{month_refusal, IsDateOf}
+use Rattle.pelzaune_ffi.proofs.IsoInPlace.{Constructs-made, Constructs-property, Constructs-map, Constructs-later}
 use Rattle.pelzaune_ffi.proofs.writing.date_of.Goals as goal
 
 pub returns : goal.returns
@@ -14,7 +14,7 @@ returns c =
     let s = c.args.parts.now in
     let month = c.in_ok-month.month in
     let kept = to_z-of_z w32 s.year (omega (arith, ints)) in
-    let known = Constructs-such (month_refusal s.month) (λ m. month_number m ≡ s.month) month c.in_ok-month.ensures in
+    let known = Constructs-property (month_refusal s.month) (λ m. month_number m ≡ s.month) month c.in_ok-month.ensures in
     let none = Constructs-made (month_refusal s.month) (λ m. month_number m ≡ s.month) month c.in_ok-month.ensures in
     let refused = calendar_date_refusal greatest_year s.year s.month s.day in
     let made : Constructs refused (Dates.HasParts s.year month s.day) c.from_calendar_date.result =

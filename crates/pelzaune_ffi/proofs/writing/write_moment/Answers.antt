@@ -1,5 +1,5 @@
-use Rattle.pelzaune_ffi.specs.Handed.{HasMoment, moment_refusal}
-use Rattle.pelzaune_ffi.proofs.IsoInPlace.{Constructs-made, Constructs-such}
+use Rattle.pelzaune_ffi.specs.Results.{HasMoment, moment_refusal}
+use Rattle.pelzaune_ffi.proofs.IsoInPlace.{Constructs-made, Constructs-property}
 use Rattle.pelzaune_ffi.proofs.writing.write_moment.Goals as goal
 
 pub returns-in-Ok : goal.returns-in-Ok
@@ -7,4 +7,4 @@ returns-in-Ok c =
     let s = c.args.parts.now in
     let v = c.in-Ok.value in
     rw (Constructs-made (moment_refusal s) (λ v. HasMoment v s) v c.in-Ok.ensures)
-    (v, Constructs-such (moment_refusal s) (λ v. HasMoment v s) v c.in-Ok.ensures, c.write_value.ensures)
+    (v, Constructs-property (moment_refusal s) (λ v. HasMoment v s) v c.in-Ok.ensures, c.write_value.ensures)

@@ -10,7 +10,7 @@ ghost use Rattle.time_record.specs.Record.{empty};
 ghost use Rattle.time_record.specs.Resolution.{IsPlain};
 ghost use Rattle.time_parsing.specs.Iso8601.{Reads, Refuses};
 ghost use Rattle.time_parsing.specs.Outcome.{IsOutcome, over_record};
-ghost use Rattle.pelzaune_ffi.specs.Handed.{of_moment};
+ghost use Rattle.pelzaune_ffi.specs.Results.{of_moment};
 ghost use Rattle.pelzaune_ffi.specs.IsoFronts.{IsFront};
 
 use time_parsing::iso8601::fast::{date_time_of, offset_to_the_end};

@@ -8,9 +8,9 @@ ghost use Rattle.time_readers.specs.Readers.{Stand};
 ghost use Rattle.time_readers.specs.Rfc2822.{Asks, day_places};
 ghost use Rattle.time_parsing.specs.Outcome.{direct};
 ghost use Rattle.time_parsing.specs.Rfc2822.{Reads, Refuses};
-ghost use Rattle.pelzaune_ffi.specs.Handed.{of_moment};
+ghost use Rattle.pelzaune_ffi.specs.Results.{of_moment};
 
-use super::made;
+use super::moment_from;
 use time_readers::combinator::one_or_two_digits;
 use time_readers::direct::said_rfc2822;
 use time_readers::rfc2822::Numbers;
@@ -42,5 +42,5 @@ pub(in crate::moments) fn moment(text: &[u8]) -> Option<OffsetDateTime>
     let rest = to_day(text, &mut numbers)?;
     let rest = to_offset::<false>(rest, &mut numbers)?;
     offset::<false>(rest, &mut numbers)?;
-    made(said_rfc2822(numbers))
+    moment_from(said_rfc2822(numbers))
 }

@@ -16,7 +16,7 @@ loop-rest-preserved g c =
       (
         so_far.0 ++ more.0,
         Appends-trans _ _ _ so_far.0 more.0 so_far.1 more.2,
-        AreAnswers-more (g.A.Answering.is_answer c.args.answering.now) (line_texts c.loop-rest.rest.now)
+        AreAnswers-more (g.A.LineHandler.is_answer c.args.handler.now) (line_texts c.loop-rest.rest.now)
             (line_texts c.first_line.result.1.now) (line_texts c.args.input.now) c.first_line.result.0.now so_far.0 more.0
             c.first_line.ensures.line more.1 so_far.2,
       ),
@@ -29,6 +29,6 @@ returns-clause-answers g c =
     let so_far = c.loop-rest.invariant.0 in
     let none : c.loop-rest.rest.now ≡ [] = grind (arith, common_steps) in (
       so_far.0 ++ [],
-      so_far.2 [] (subst (λ r. AreAnswers (g.A.Answering.is_answer c.args.answering.now) (line_texts r) []) (sym none) refl),
+      so_far.2 [] (subst (λ r. AreAnswers (g.A.LineHandler.is_answer c.args.handler.now) (line_texts r) []) (sym none) refl),
       rw append-nil so_far.1,
     )

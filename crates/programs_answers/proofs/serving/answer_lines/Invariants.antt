@@ -1,4 +1,4 @@
--- What was written or buffered so far, with the answers to what is left, is the answers to all, and no write failed.
+-- The bytes that were written or buffered so far, with the answers to the remaining lines, are the answers to all. No write failed.
 use Rattle.std.proofs.Common.{◌≡◌, ◌++◌, List, ℕ, length}
 use Rattle.std.specs.Io.KnownBytes.{Appends, append_known}
 use Rattle.byte_streams.specs.Lines.{line_texts}
@@ -9,8 +9,8 @@ abbrev pub invariant-loop-rest : goal.invariant-loop-rest
 invariant-loop-rest g l =
     ((written : List ℕ)
     × Appends (g.W.Sink.contents l.initial.out.sink) (append_known (g.W.Sink.contents l.out.sink) l.out.buffer.items) written
-    × ((others : List ℕ) → AreAnswers (g.A.Answering.is_answer l.answering) (line_texts l.rest) others
-    → AreAnswers (g.A.Answering.is_answer l.answering) (line_texts l.initial.rest) (written ++ others)))
+    × ((others : List ℕ) → AreAnswers (g.A.LineHandler.is_answer l.handler) (line_texts l.rest) others
+    → AreAnswers (g.A.LineHandler.is_answer l.handler) (line_texts l.initial.rest) (written ++ others)))
     × (g.W.Sink.faults l.out.sink ≡ g.W.Sink.faults l.initial.out.sink)
     × (g.W.Sink.through l.out.sink ≡ g.W.Sink.through l.initial.out.sink)
 

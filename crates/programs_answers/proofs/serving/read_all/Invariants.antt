@@ -1,4 +1,4 @@
--- What is left began, before the loop, with what was read, by reads of which none failed and each gave a byte at least.
+-- The source's remaining bytes before the loop are the text so far and those that remain. No read failed, and each returned at least a byte.
 use Rattle.std.specs.Io.KnownBytes.{Consumes}
 use Rattle.std.proofs.Common.{◌≡◌, ◌≤◌, length}
 use Rattle.byte_streams.specs.Faults.{count_more}

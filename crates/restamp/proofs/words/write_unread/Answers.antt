@@ -20,4 +20,4 @@ returns-clause-written g c =
     (λ end. subst (Appends (g.L.Sink.contents c.args.log.now) (g.L.Sink.contents c.write_all.new.self))
     (joined front number middle (shown ++ 39 ∷ 10 ∷ []))
     (Appends-trans _ _ _ (front ++ (number ++ middle)) (shown ++ 39 ∷ 10 ∷ []) c.in_ok-write.ensures.bytes
-    (Appends-trans _ _ _ shown (39 ∷ 10 ∷ []) c.in_ok-write_shown.ensures.shown end)))
+    (Appends-trans _ _ _ shown (39 ∷ 10 ∷ []) c.in_ok-write_escaped.ensures.shown end)))

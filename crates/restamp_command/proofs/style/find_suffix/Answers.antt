@@ -9,7 +9,7 @@ returns-in-Ok-None c =
       refl,
       search rules,
       λ bytes (h : IsSuffixOf c.args.zone.now bytes).
-          (let told = c.in-Some.ensures in
+          (let is = c.in-Some.ensures in
           let has = h.2 in
           let same : zone_of c.in-Some.text ≡ h.0 = cc in
           none h.1 (subst (IsZoneText h.1) (sym same) h.3)),

@@ -4,7 +4,7 @@ use Rattle.restamp_stream.proofs.laws.law_done.Goals as goal
 pub returns-clause-done : goal.returns-clause-done
 returns-clause-done g c =
     done c.serve_files.result _ _ _ _ c.serve_files.ensures.ok
-    (ProcessedFiles-done (g.T.Rewriting.is_fate c.args.rewriting.now) (g.T.Rewriting.is_reason c.args.rewriting.now) c.args.settings
+    (ProcessedFiles-done (g.T.Rewriting.is_action c.args.rewriting.now) (g.T.Rewriting.is_reason c.args.rewriting.now) c.args.settings
     (g.O.Opening.bytes_of c.args.opening.now) _ _ _ _ _)
 
 pub returns-clause-stopped : goal.returns-clause-stopped

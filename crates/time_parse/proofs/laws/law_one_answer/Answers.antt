@@ -25,7 +25,7 @@ use Rattle.programs_answers.specs.Output as output
 use Rattle.programs_answers.specs.declared.formats.Target.{Target}
 use Rattle.programs_answers.specs.declared.formats.Target.TheVariants as target
 use Rattle.programs_answers.proofs.OutputLemmas.{OneText, IsDescribed-one, IsParsed-one, WritesAnswers-one}
-use Rattle.time_parse.specs.Place.{OneMeaning, OneWriting, IsAnswerAsked, IsErrorPlace, IsNamedPlace, IsPlace, IsPlaceBy, IsPlacedAnswer, IsRefusal, IsRefusalFor, IsTreePlace, index_text, place_text, refusal_in}
+use Rattle.time_parse.specs.Place.{OneMeaning, OneWriting, IsRequestedAnswer, IsErrorPlace, IsNamedPlace, IsPlace, IsPlaceBy, IsPlacedAnswer, IsRefusal, IsRefusalFor, IsTreePlace, index_text, place_text, refusal_in}
 use Rattle.time_parse.specs.Request.{IsAnswer, MeansBy, MeansTree, Meaning, named, described, number_of, writing_of}
 use Rattle.time_parse.specs.declared.request.Version.{Version}
 use Rattle.time_parse.specs.declared.request.Writing.{Writing}
@@ -75,13 +75,13 @@ module _ (path : Path) (reads : Reading) (refuses : Refusing) (locates : Locatin
       absurd (none-some _ (sym (one_answer reads locates places text empty (Some h.0) None h.1 k.0)))
   IsPlace-one t x y (inr h) (inl k) =
       absurd (none-some _ (one_answer reads locates places text empty None (Some k.0) h.0 k.1))
-  IsPlace-one t x y (inr (h, refusal, is, told)) (inr (k, same, be, other)) =
+  IsPlace-one t x y (inr (h, refusal, is, printed)) (inr (k, same, be, other)) =
       let one_refusal = IsRefusalFor-one t refusal same is be in
-      IsErrorPlace-one same x y (subst (λ r. IsErrorPlace reads locates marks text r x) one_refusal told) other
+      IsErrorPlace-one same x y (subst (λ r. IsErrorPlace reads locates marks text r x) one_refusal printed) other
 
-IsTreePlace-one : (told : Telling) (tree : Tree) (t : Target) (text : List ℕ) → OneText (IsTreePlace greatest_year told tree t text)
-IsTreePlace-one told tree t text =
-    IsPlace-one over_record _ _ _ _ (tree_exact greatest_year tree) tt (tree_exact_place greatest_year told tree)
+IsTreePlace-one : (bytes : Telling) (tree : Tree) (t : Target) (text : List ℕ) → OneText (IsTreePlace greatest_year bytes tree t text)
+IsTreePlace-one bytes tree t text =
+    IsPlace-one over_record _ _ _ _ (tree_exact greatest_year tree) tt (tree_exact_place greatest_year bytes tree)
     (tree_exact_mark greatest_year tree) text t
 
 IsNamedPlace-one : (f : Format) (t : Target) (text : List ℕ) → OneText (IsNamedPlace greatest_year f t text)
@@ -110,18 +110,18 @@ IsPlacedAnswer-one meaning target text x y h k =
     let place = IsPlaceBy-one meaning target text h.1 k.1 h.3 k.3 in
     h.4 ∙ ap (λ o. o ++ h.1) outcome ∙ ap (λ p. k.0 ++ p) place ∙ sym k.4
 
-IsAnswerAsked-one : (tells_places : Bool) (meaning : Meaning) (target : Target) (text : List ℕ)
-    → OneText (IsAnswerAsked tells_places greatest_year meaning target text)
-IsAnswerAsked-one false meaning target text = IsAnswer-one meaning target text
-IsAnswerAsked-one true meaning target text = IsPlacedAnswer-one meaning target text
+IsRequestedAnswer-one : (prints_places : Bool) (meaning : Meaning) (target : Target) (text : List ℕ)
+    → OneText (IsRequestedAnswer prints_places greatest_year meaning target text)
+IsRequestedAnswer-one false meaning target text = IsAnswer-one meaning target text
+IsRequestedAnswer-one true meaning target text = IsPlacedAnswer-one meaning target text
 
-written : (tells_places : Bool) (m n : Meaning) (t u : Target) (input held new other : List ℕ) → m ≡ n → t ≡ u
-    → output.WritesAnswers (IsAnswerAsked tells_places greatest_year m t) (Some held) (Some new) input
-    → output.WritesAnswers (IsAnswerAsked tells_places greatest_year n u) (Some held) (Some other) input → new ≡ other
-written tells_places m n t u input held new other p q h k =
-    let same_target = subst (λ (v : Target). output.WritesAnswers (IsAnswerAsked tells_places greatest_year m v) (Some held) (Some new) input) q h in
-    let same = subst (λ (o : Meaning). output.WritesAnswers (IsAnswerAsked tells_places greatest_year o u) (Some held) (Some new) input) p same_target in
-    WritesAnswers-one (IsAnswerAsked tells_places greatest_year n u) (IsAnswerAsked-one tells_places n u) input held new other same k
+written : (prints_places : Bool) (m n : Meaning) (t u : Target) (input before new other : List ℕ) → m ≡ n → t ≡ u
+    → output.WritesAnswers (IsRequestedAnswer prints_places greatest_year m t) (Some before) (Some new) input
+    → output.WritesAnswers (IsRequestedAnswer prints_places greatest_year n u) (Some before) (Some other) input → new ≡ other
+written prints_places m n t u input before new other p q h k =
+    let same_target = subst (λ (v : Target). output.WritesAnswers (IsRequestedAnswer prints_places greatest_year m v) (Some before) (Some new) input) q h in
+    let same = subst (λ (o : Meaning). output.WritesAnswers (IsRequestedAnswer prints_places greatest_year o u) (Some before) (Some new) input) p same_target in
+    WritesAnswers-one (IsRequestedAnswer prints_places greatest_year n u) (IsRequestedAnswer-one prints_places n u) input before new other same k
 
 module _ (one : OneDescription) (one_strftime : OneStrftimeDescription) where
   MeansBy-one : (w : Writing) (version : Version) (text : List ℕ) (m n : Meaning)
@@ -137,15 +137,15 @@ module _ (one : OneDescription) (one_strftime : OneStrftimeDescription) where
   Means-one version format = MeansBy-one (writing_of format) version format
 
   pub Writing-one : OneWriting greatest_year
-  Writing-one tells_places version format target input held new other h k =
-      written tells_places h.0 k.0 h.1 k.1 input held new other (Means-one version format h.0 k.0 h.2 k.2)
+  Writing-one prints_places version format target input before new other h k =
+      written prints_places h.0 k.0 h.1 k.1 input before new other (Means-one version format h.0 k.0 h.2 k.2)
       (same_Some h.1 k.1 (sym h.3 ∙ k.3)) h.4 k.4
 
 pub returns-clause-meaning : goal.returns-clause-meaning
 returns-clause-meaning c = Means-one c.law_one_description.ensures c.law_one_strftime_description.ensures
 
 pub returns-clause-text : goal.returns-clause-text
-returns-clause-text c = IsAnswerAsked-one
+returns-clause-text c = IsRequestedAnswer-one
 
 pub returns-clause-input : goal.returns-clause-input
 returns-clause-input c = Writing-one c.law_one_description.ensures c.law_one_strftime_description.ensures

@@ -1,7 +1,7 @@
 //! Each component at the first and the last value of its range, under each padding, and years of more than four
 //! digits.
 use super::kinds::{Cased, Indexed, Kind, Padded, Signed, Timestamp};
-use super::{Held, OFFSET_HOUR, Row, reads};
+use super::{Fields, OFFSET_HOUR, Row, reads};
 use crate::fields::Field;
 use time_readers::{
     BorrowedFormatItem, Component, OwnedFormatItem, Padding, SubsecondDigits, modifier,
@@ -10,13 +10,13 @@ use time_record::{AnyFormatItem, Parsed};
 
 macro_rules! century {
     ($century:expr, $is_negative:expr) => {
-        Held::Century($century, $is_negative)
+        Fields::Century($century, $is_negative)
     };
 }
 
 macro_rules! iso_century {
     ($century:expr, $is_negative:expr) => {
-        Held::IsoCentury($century, $is_negative)
+        Fields::IsoCentury($century, $is_negative)
     };
 }
 
@@ -280,9 +280,9 @@ static ENDS: [Row; 131] = [
         number!(Subsecond, 123_456_789),
     ),
     // Offsets.
-    (signed!(OffsetHour, Zero), "-25", Held::West(-25)),
+    (signed!(OffsetHour, Zero), "-25", Fields::West(-25)),
     (signed!(OffsetHour, Zero), "+25", number!(OffsetHour, 25)),
-    (signed!(OffsetHour, Space), "- 5", Held::West(-5)),
+    (signed!(OffsetHour, Space), "- 5", Fields::West(-5)),
     (signed!(OffsetHour, None), "5", number!(OffsetHour, 5)),
     (
         padded!(OffsetMinute, Zero),
@@ -461,8 +461,8 @@ static ENDS: [Row; 131] = [
 
 #[test]
 fn components_at_the_ends(rt: HostRuntime) {
-    for (kind, text, held) in &ENDS {
-        assert!(rt; reads(kind, text, *held), "{text}");
+    for (kind, text, fields) in &ENDS {
+        assert!(rt; reads(kind, text, *fields), "{text}");
     }
 }
 
@@ -494,7 +494,7 @@ fn components_of_offsets_behind_a_sign(rt: HostRuntime) {
 
 // Years of more than four digits.
 mod wide_years {
-    use super::super::{Held, NOTHING, Row, Seen, item_sees, reads};
+    use super::super::{Expected, Fields, NOTHING, Row, item_matches, reads};
     use crate::fields::Field;
     use crate::tests::descriptions::kinds::{Kind, Signed, Timestamp};
     use time_readers::{BorrowedFormatItem, Component, Padding, modifier};
@@ -565,8 +565,8 @@ mod wide_years {
 
     #[test]
     fn wide_years(rt: HostRuntime) {
-        for (kind, text, held) in &COMPONENTS {
-            assert!(rt; reads(kind, text, *held), "{text}");
+        for (kind, text, fields) in &COMPONENTS {
+            assert!(rt; reads(kind, text, *fields), "{text}");
         }
         let built = Parsed::new().with_unix_timestamp_nanos(253_402_300_800_000_000_000);
         assert!(rt; built.is_some());
@@ -582,12 +582,12 @@ mod wide_years {
         BorrowedFormatItem::StringLiteral("+012345"),
     ];
 
-    static IN_A_CHOICE: Seen = read!(b"", number!(Year, 12_345));
+    static IN_A_CHOICE: Expected = read!(b"", number!(Year, 12_345));
 
     // The first alternative, a year, parses five digits, before the second, a literal of these bytes.
     #[test]
     fn wide_years_in_choices(rt: HostRuntime) {
         let choice = BorrowedFormatItem::First(&CHOICE);
-        assert!(rt; item_sees(&choice, "+012345", &IN_A_CHOICE));
+        assert!(rt; item_matches(&choice, "+012345", &IN_A_CHOICE));
     }
 }

@@ -629,7 +629,7 @@ mod components {
     fn parts_of_times(rt: HostRuntime) {
         let is_uppercase = true;
         let case_sensitive = true;
-        for (text, wanted) in &HALVES {
+        for (text, expected) in &HALVES {
             let half: Option<ParsedItem<'_, Period>> = parse_period(
                 text,
                 modifier::Period {
@@ -637,7 +637,7 @@ mod components {
                     case_sensitive,
                 },
             );
-            assert!(rt; is_whole(half, *wanted));
+            assert!(rt; is_whole(half, *expected));
         }
         for (digits, text) in &FRACTIONS {
             let digits = *digits;

@@ -3,7 +3,7 @@ use Rattle.std.proofs.lemmas.List.{take_all, take-take, length-take-le, append_a
 use Rattle.byte_streams.proofs.BufferLemmas.{filled}
 use Rattle.byte_streams.proofs.buffered.fast.put_halves.Goals as goal
 
--- two halves of a text, put where the second overlaps the first
+-- two overlapping halves of a text, the second written after the first
 halves : (a k n : ℕ) (xs ys rest more : List ℕ) → a ≤ length xs → k ≤ n → length ys ≡ k + n
     → take (a + length ys) (take (a + k) (take a xs ++ (take n ys ++ rest)) ++ (take (length ys - k) (drop k ys) ++ more)) ≡ take a xs ++ ys
 halves a k n xs ys rest more h few long =

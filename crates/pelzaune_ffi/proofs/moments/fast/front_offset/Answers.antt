@@ -3,16 +3,16 @@ use Rattle.std.proofs.lemmas.Bool.{cases_lt}
 use Rattle.time_readers.proofs.ToSecond.{offset_stands, zulu_stands}
 use Rattle.pelzaune_ffi.proofs.moments.fast.front_offset.Goals as goal
 
-pub returns-in-90-clause-stands : goal.returns-in-90-clause-stands
-returns-in-90-clause-stands c =
+pub returns-in-90-clause-matches : goal.returns-in-90-clause-matches
+returns-in-90-clause-matches c =
     let rest = c.args.rest.now in (
       take (length rest - 1) (drop 1 rest),
       zulu_stands false c.args.numbers rest c.in-90.len_at_least (inl (omega arith)),
       c.in_ok-next.ensures,
     )
 
-pub returns-clause-stands : goal.returns-clause-stands
-returns-clause-stands c =
+pub returns-clause-matches : goal.returns-clause-matches
+returns-clause-matches c =
     let rest = c.args.rest.now in
     let sign : (get_or rest 0 0 ≡ 43) ⊎ (get_or rest 0 0 ≡ 45) =
     elim (cases_lt (get_or rest 0 0) 44) [ inl low ↦ inl (omega arith) | inr high ↦ inr (omega arith) ] in

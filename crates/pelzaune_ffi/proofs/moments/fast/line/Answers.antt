@@ -19,7 +19,7 @@ use Rattle.time_parsing.specs.Outcome.{direct}
 use Rattle.time_parsing.specs.Rfc3339.{Reads, Refuses}
 use Rattle.byte_streams.specs.Lines.{Line, ended, unended, line_texts, lines_of, onto_first}
 use Rattle.pelzaune_ffi.specs.Columns.{EndsLine, IsFirstLine}
-use Rattle.pelzaune_ffi.specs.Handed.{of_moment}
+use Rattle.pelzaune_ffi.specs.Results.{of_moment}
 use Rattle.pelzaune_ffi.proofs.IsoInPlace.{outcome_of}
 use Rattle.pelzaune_ffi.proofs.moments.fast.line.Goals as goal
 
@@ -88,21 +88,21 @@ module _ (tail : List ℕ) where
   offset_minute true n m text xs h = h
   offset_minute false n m text xs h = (h.0, (run 2 2 text xs h.0 h.1.0, h.1.1), h.2)
 
-  asked : (p : Place) (n m : Numbers) (text xs : List ℕ) → Asks false p n text (xs ++ tail) m → Asks false p n text xs m
-  asked place.Year n m text xs h = (h.0, run 4 4 text xs h.0 h.1, h.2)
-  asked place.YearDash n m text xs h = h
-  asked place.Month n m text xs h = (h.0, (run 2 2 text xs h.0 h.1.0, h.1.1), h.2, h.3)
-  asked place.MonthDash n m text xs h = h
-  asked place.Day n m text xs h = (h.0, (run 2 2 text xs h.0 h.1.0, h.1.1), h.2)
-  asked place.Separator n m text xs h = h
-  asked place.Hour n m text xs h = (h.0, (run 2 2 text xs h.0 h.1.0, h.1.1), h.2)
-  asked place.HourColon n m text xs h = h
-  asked place.Minute n m text xs h = (h.0, (run 2 2 text xs h.0 h.1.0, h.1.1), h.2)
-  asked place.MinuteColon n m text xs h = h
-  asked place.Second n m text xs h = (h.0, (run 2 2 text xs h.0 h.1.0, h.1.1), h.2)
-  asked place.Subsecond n m text xs h = (h.0, subsecond text xs h.0 h.1, h.2)
-  asked place.OffsetHour n m text xs (inl utc) = inl utc
-  asked place.OffsetHour n m text xs (inr signed) = inr (record {
+  field : (p : Place) (n m : Numbers) (text xs : List ℕ) → Asks false p n text (xs ++ tail) m → Asks false p n text xs m
+  field place.Year n m text xs h = (h.0, run 4 4 text xs h.0 h.1, h.2)
+  field place.YearDash n m text xs h = h
+  field place.Month n m text xs h = (h.0, (run 2 2 text xs h.0 h.1.0, h.1.1), h.2, h.3)
+  field place.MonthDash n m text xs h = h
+  field place.Day n m text xs h = (h.0, (run 2 2 text xs h.0 h.1.0, h.1.1), h.2)
+  field place.Separator n m text xs h = h
+  field place.Hour n m text xs h = (h.0, (run 2 2 text xs h.0 h.1.0, h.1.1), h.2)
+  field place.HourColon n m text xs h = h
+  field place.Minute n m text xs h = (h.0, (run 2 2 text xs h.0 h.1.0, h.1.1), h.2)
+  field place.MinuteColon n m text xs h = h
+  field place.Second n m text xs h = (h.0, (run 2 2 text xs h.0 h.1.0, h.1.1), h.2)
+  field place.Subsecond n m text xs h = (h.0, subsecond text xs h.0 h.1, h.2)
+  field place.OffsetHour n m text xs (inl utc) = inl utc
+  field place.OffsetHour n m text xs (inr signed) = inr (record {
     sign = signed.sign;
     digits = signed.digits;
     hour = signed.hour;
@@ -110,8 +110,8 @@ module _ (tail : List ℕ) where
     run = (run 2 2 signed.digits xs signed.hour signed.run.0, signed.run.1);
     says = signed.says;
   })
-  asked place.OffsetColon n m text xs h = h
-  asked place.OffsetMinute n m text xs h = offset_minute n.is_utc n m text xs h
+  field place.OffsetColon n m text xs h = h
+  field place.OffsetMinute n m text xs h = offset_minute n.is_utc n m text xs h
 
 -- no place but the separator contains an LF
 
@@ -165,20 +165,20 @@ abbrev Apart : List Place → Type 0
 Apart [] = Unit {0}
 Apart (p ∷ ps) = (p ≢ place.Separator) × Apart ps
 
-stands_in : (ps : List Place) (n m : Numbers) (bytes keep tail : List ℕ) → Apart ps → Stand (Asks false) ps n bytes (keep ++ tail) m
+matches_in : (ps : List Place) (n m : Numbers) (bytes keep tail : List ℕ) → Apart ps → Stand (Asks false) ps n bytes (keep ++ tail) m
     → (line : List ℕ) × (bytes ≡ line ++ (keep ++ tail)) × NoLf line × Stand (Asks false) ps n (line ++ keep) keep m
 unfolding Stand
-stands_in [] n m bytes keep tail apart s = ([], sym s.0, tt, (refl, s.1))
-stands_in (p ∷ ps) n m bytes keep tail apart s =
-    let others = stands_in ps s.1 m s.0 keep tail apart.1 s.3 in
+matches_in [] n m bytes keep tail apart s = ([], sym s.0, tt, (refl, s.1))
+matches_in (p ∷ ps) n m bytes keep tail apart s =
+    let others = matches_in ps s.1 m s.0 keep tail apart.1 s.3 in
     let text = s.2.0 in
     let line = others.0 in
     let mid_is : s.0 ≡ (line ++ keep) ++ tail = others.1 ∙ sym (append_assoc line keep tail) in
-    let asks = asked tail p n s.1 text (line ++ keep) (subst (λ x. Asks false p n text x s.1) mid_is s.2.2) in (
+    let here = field tail p n s.1 text (line ++ keep) (subst (λ x. Asks false p n text x s.1) mid_is s.2.2) in (
       text ++ line,
       s.2.1 ∙ ap (λ x. text ++ x) others.1 ∙ sym (append_assoc text line (keep ++ tail)),
       both_apart text line (text_apart p n s.1 text s.0 apart.0 s.2.2) others.2,
-      (line ++ keep, s.1, (text, append_assoc text line keep, asks), others.3),
+      (line ++ keep, s.1, (text, append_assoc text line keep, here), others.3),
     )
 
 -- a date has ten bytes
@@ -229,10 +229,10 @@ in_line bytes tail m form other =
     let k = cut.1.0 in
     let behind = cut.1.2 in
     let separator = behind.2 in
-    let later = stands_in later_places behind.1 m behind.0 [] tail later_apart behind.3 in
+    let later = matches_in later_places behind.1 m behind.0 [] tail later_apart behind.3 in
     let keep = separator.0 ++ later.0 in
     let mid_is : mid ≡ keep ++ tail = separator.1 ∙ ap (λ x. separator.0 ++ x) later.1 ∙ sym (append_assoc separator.0 later.0 tail) in
-    let date = stands_in date_places nothing_read k bytes keep tail dates_apart
+    let date = matches_in date_places nothing_read k bytes keep tail dates_apart
     (subst (λ x. Stand (Asks false) date_places nothing_read bytes x k) mid_is cut.1.1) in
     let ten : length date.0 ≡ 10 =
     omega (arith, date_length nothing_read k bytes mid cut.1.1, ap length date.1, length-append date.0 (keep ++ tail), ap length mid_is) in

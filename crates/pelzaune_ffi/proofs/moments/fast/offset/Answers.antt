@@ -6,15 +6,15 @@ use Rattle.time_readers.proofs.ToSecond.{offset_numbers, offset_stands, zulu_sta
 use Rattle.pelzaune_ffi.proofs.IsoInPlace.{nothing_left}
 use Rattle.pelzaune_ffi.proofs.moments.fast.offset.Goals as goal
 
-pub returns-in-90-clause-stands : goal.returns-in-90-clause-stands
-returns-in-90-clause-stands c =
+pub returns-in-90-clause-matches : goal.returns-in-90-clause-matches
+returns-in-90-clause-matches c =
     let rest = c.args.rest.now in
     let all : length rest ≡ 1 = omega arith in
     subst (λ left. Stand (Asks false) offset_places c.args.numbers rest left (record c.args.numbers { is_utc = true }))
     (nothing_left rest 1 all) (zulu_stands false c.args.numbers rest c.in-90.len_at_least (inl (omega arith)))
 
-pub returns-clause-stands : goal.returns-clause-stands
-returns-clause-stands c =
+pub returns-clause-matches : goal.returns-clause-matches
+returns-clause-matches c =
     let n = c.args.numbers in
     let rest = c.args.rest.now in
     let all : length rest ≡ 6 = omega arith in

@@ -12,9 +12,9 @@ use Rattle.programs_answers.specs.declared.formats.Target.TheVariants as target
 use Rattle.programs_answers.specs.Formats as formats
 use Rattle.programs_answers.proofs.named.Named.write_local.Goals as goal
 
--- ---- A list of one item answers as the item
+-- ---- A list of one item parses as the item does
 
--- what a list of one tree reads, the tree reads
+-- the tree accepts each text that the list of that tree accepts
 single_reads : (Y : ℕ) (t : Tree) (b : List ℕ) (r : Record) (rest : List ℕ) (q : Record)
     → Reads Y (sequence (more t none)) b r rest q → Reads Y t b r rest q
 unfolding Reads ReadsAll
@@ -27,7 +27,7 @@ unfolding IsFault IsFaultAll
 single_fault Y t b r e (inl h) = h.1
 single_fault Y t b r e (inr h) = absurd h.3
 
--- and what it refuses, the tree refuses
+-- and rejects each text that the list rejects
 single_refuses : (Y : ℕ) (t : Tree) (b : List ℕ) (r : Record) (e : Refusal)
     → Refuses Y (sequence (more t none)) b r e → Refuses Y t b r e
 unfolding Reads ReadsAll
@@ -62,7 +62,7 @@ single_answers : (t : Tree) (target : Target) (text answer : List ℕ)
     → IsDescribed greatest_year (sequence (more t none)) target text answer → IsDescribed greatest_year t target text answer
 single_answers t = same_answer _ _ _ _ (single_reads greatest_year t) (single_refuses greatest_year t)
 
--- the outcome of a text by a list of one tree is the one by the tree
+-- a text has equal outcomes by a list of one tree and by the tree
 Writes-single : {E : Type 0} (r : Result (Unit {0}) E) (list t : Tree) (target : Target) (text : List ℕ)
     (a b : Option (List ℕ)) → list ≡ sequence (trees (t ∷ [])) → OnOk r (Writes (IsDescribed greatest_year list target text) a b)
     → OnOk r (Writes (IsDescribed greatest_year t target text) a b)

@@ -1,13 +1,13 @@
 use Rattle.std.proofs.Common.{refl}
 use Rattle.time_values.specs.Calendar.{greatest_year}
-use Rattle.restamp_command.specs.Fault.{told}
+use Rattle.restamp_command.specs.Fault.{erased_fault}
 use Rattle.restamp_command.proofs.FormatLemmas.{fault_at, others_fault}
 use Rattle.restamp_command.proofs.request.Request.new.Goals as goal
 
 pub returns-in-Err : goal.returns-in-Err
 returns-in-Err g c =
-    fault_at greatest_year c.args.now c.args.options.now (told c.in-Err.fault)
-    (others_fault greatest_year c.args.options.now c.has_default_year.result _ (told c.in-Err.fault) c.has_default_year.ensures
+    fault_at greatest_year c.args.now c.args.options.now (erased_fault c.in-Err.fault)
+    (others_fault greatest_year c.args.options.now c.has_default_year.result _ (erased_fault c.in-Err.fault) c.has_default_year.ensures
     c.other_names-names.ensures c.in-Err.ensures.err)
 
 pub find_bounds-requires-clause-given : goal.find_bounds-requires-clause-given

@@ -3,11 +3,11 @@ use Rattle.restamp_stream.proofs.LinesLemmas.{OnOk-map}
 use Rattle.restamp_verdict.specs.ErrorLocation.{why_text, erased_location}
 use Rattle.restamp_verdict.specs.Reason.{seen}
 use Rattle.restamp_command.specs.Rewriting.{expected_text, error_report}
-use Rattle.restamp_command.proofs.FormatLemmas.{Appends-plain, Appends-told}
+use Rattle.restamp_command.proofs.FormatLemmas.{Appends-plain, Appends-location}
 use Rattle.restamp_command.proofs.rewriting.Restamping.write_location.Goals as goal
 
-pub returns-then-self-clause-told : goal.returns-then-self-clause-told
-returns-then-self-clause-told g c =
+pub returns-then-self-clause-reported : goal.returns-then-self-clause-reported
+returns-then-self-clause-reported g c =
     let front = c.args.front.now in
     let why = seen c.args.reason in
     let w = erased_location c.find_location-column.result in
@@ -25,19 +25,19 @@ returns-then-self-clause-told g c =
         refl,
         ap (λ (shows : Bool). error_report shows front zone why missing_field w) (sym c.if-self.true),
       ),
-      Appends-told _ _ _ _ _ front (why_text zone why missing_field) (expected_text w.wanted) w.column c.in_ok-write.ensures.bytes
+      Appends-location _ _ _ _ _ front (why_text zone why missing_field) (expected_text w.wanted) w.column c.in_ok-write.ensures.bytes
           c.in_ok-write_expected.ensures.written c.in_ok-write_all.ensures.bytes pointed,
     ))
 
-pub returns-clause-told : goal.returns-clause-told
-returns-clause-told g c =
+pub returns-clause-reported : goal.returns-clause-reported
+returns-clause-reported g c =
     let front = c.args.front.now in
     let why = seen c.args.reason in
     let w = erased_location c.find_location-column.result in
     let missing_field = c.find_missing_field-missing_field.result in
     let zone = c.args.self.now.zone.now in
     OnOk-map c.write_expected-2.result _ _ c.write_expected-2.ensures.written
-    (λ told. (
+    (λ written. (
       w.column,
       error_report false front zone why missing_field w,
       (
@@ -48,5 +48,5 @@ returns-clause-told g c =
         refl,
         ap (λ (shows : Bool). error_report shows front zone why missing_field w) (sym c.if-self.false),
       ),
-      Appends-plain _ _ _ (why_text zone why missing_field) (expected_text w.wanted) w.column c.in_ok-write-2.ensures.bytes told,
+      Appends-plain _ _ _ (why_text zone why missing_field) (expected_text w.wanted) w.column c.in_ok-write-2.ensures.bytes written,
     ))

@@ -18,7 +18,7 @@ from_nothing job out out' log log' tally bytes d = (
   d.processed.text,
   subst (λ (o : Option (List ℕ)). Appends out o d.processed.text) (sym d.closed.same_out) d.processed.written,
   record {
-    fates = d.fates;
+    actions = d.actions;
     between = state (Some d.processed.text) d.between.log d.between.tally;
     processed = record {
       text = d.processed.text;
@@ -28,7 +28,7 @@ from_nothing job out out' log log' tally bytes d = (
       reported = d.processed.reported;
       tallied = d.processed.tallied;
     };
-    closed = record { same_out = refl; told = d.closed.told; same_tally = d.closed.same_tally };
+    closed = record { same_out = refl; reported = d.closed.reported; same_tally = d.closed.same_tally };
   },
 )
 

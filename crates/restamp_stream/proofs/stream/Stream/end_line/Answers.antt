@@ -1,5 +1,5 @@
 use Rattle.std.proofs.Common.{[], ◌∷◌, ◌++◌, refl, sym, ◌∙◌, append_assoc}
-use Rattle.restamp_stream.proofs.AnsweredLemmas.{Ends-front}
+use Rattle.restamp_stream.proofs.AnsweredLemmas.{EndsLine-front}
 use Rattle.restamp_stream.proofs.stream.Stream.end_line.Goals as goal
 
 pub returns-clause-line : goal.returns-clause-line
@@ -8,6 +8,6 @@ returns-clause-line g c =
     let after = c.in-Some.after.now in (
       refl,
       (line ++ 10 ∷ [], c.in-Some.ensures.0 ∙ sym (append_assoc line (10 ∷ []) after)),
-      Ends-front _ _ c.args.rest.now c.args.bytes.now line after (c.if-is_absent.ensures.front refl) c.in-Some.ensures.0 c.in-Some.ensures.1
+      EndsLine-front _ _ c.args.rest.now c.args.bytes.now line after (c.if-is_absent.ensures.front refl) c.in-Some.ensures.0 c.in-Some.ensures.1
           c.in_ok-pass-2.ensures.passed,
     )

@@ -1,6 +1,6 @@
 use Rattle.restamp_stream.proofs.AnsweredLemmas.{Continues-settled, held-none}
 use Rattle.restamp_stream.proofs.StoppedLemmas.{Stops-settled}
-use Rattle.restamp_stream.specs.Held.{job_at}
+use Rattle.restamp_stream.specs.Buffered.{job_at}
 use Rattle.restamp_stream.proofs.stream.Stream.feed.Goals as goal
 
 pub returns-clause-ok : goal.returns-clause-ok

@@ -9,4 +9,4 @@ returns-then-not-names-clause-reported g c = ([], rw (← c.if-not-names.ensures
 pub returns-clause-reported : goal.returns-clause-reported
 returns-clause-reported g c =
     OnOk-map c.write_report.result _ _ c.write_report.ensures.reported
-    (λ told. (told.0, rw (← c.if-not-names.ensures.names) told.1, told.2))
+    (λ reported. (reported.0, rw (← c.if-not-names.ensures.names) reported.1, reported.2))

@@ -1,8 +1,8 @@
 use Rattle.restamp_stream.proofs.LinesLemmas.{Appends-unread, OnOk-map}
 use Rattle.restamp_stream.proofs.stream.Stream.report_unread.Goals as goal
 
-pub returns-clause-told : goal.returns-clause-told
-returns-clause-told g c =
+pub returns-clause-reported : goal.returns-clause-reported
+returns-clause-reported g c =
     OnOk-map c.write_all-3.result _ _ c.write_all-3.ensures.bytes
     (λ end. (
       c.as_slice.result.now,

@@ -4,7 +4,7 @@ use Rattle.restamp_stream.proofs.stream.Stream.write_report.Goals as goal
 
 pub returns-clause-reported : goal.returns-clause-reported
 returns-clause-reported g c =
-    let why = c.in_ok-write_reason.ensures.told in
+    let why = c.in_ok-write_reason.ensures.reported in
     OnOk-map c.write_all.result _ _ c.write_all.ensures.bytes
     (λ end. (
       _,

@@ -62,4 +62,7 @@ returns-else-is_final-clause-said g t c = λ reason of.
     (c.read_years-in-Err.ensures.said why.0 why.1)
 
 pub read_years-requires : goal.read_years-requires
-read_years-requires g t c κs within = (omega (arith, c.decreases, c.if-count-eq0.false), (within, omega (arith, ints, one_less c.args.year c.ranges.year (omega (arith, ints)), c.requires.le)))
+read_years-requires g t c κs within = (
+  omega (arith, c.decreases, c.if-count-eq0.false),
+  (within, omega (arith, ints, one_less c.args.year c.ranges.year (omega (arith, ints)), c.requires.le)),
+)

@@ -14,9 +14,9 @@ use Rattle.pelzaune_ffi.proofs.moments.fast.rfc2822.moment.Goals as goal
 -- ---- Mail dates that are parsed in place
 
 -- the places of a whole text, one after another
-whole_stands : (bytes mid left : List ℕ) (n k m : Numbers) → Stand (Asks false) day_places nothing_read bytes mid n
+whole_matches : (bytes mid left : List ℕ) (n k m : Numbers) → Stand (Asks false) day_places nothing_read bytes mid n
     → Stand (Asks false) to_offset_places n mid left k → Stand (Asks false) offset_places k left [] m → HasForm false bytes [] m
-whole_stands bytes mid left n k m first middle last =
+whole_matches bytes mid left n k m first middle last =
     Stand-append (Asks false) day_places (to_offset_places ++ offset_places) nothing_read n m bytes mid [] first
     (Stand-append (Asks false) to_offset_places offset_places n k m mid left [] middle last)
 
@@ -34,6 +34,6 @@ returns c =
     let first = c.to_day.new.numbers in
     let second = c.to_offset.new.numbers in
     let third = c.offset.new.numbers in
-    let stands = whole_stands text c.in_ok-rest.rest.now c.in_ok-rest-2.rest.now first second third
-    c.in_ok-rest.ensures c.in_ok-rest-2.ensures.stands (rw c.in_ok-offset.ensures.end at c.in_ok-offset.ensures.stands) in
-    outcome_of text third c.made.result stands (rw c.said_rfc2822.ensures at c.made.ensures)
+    let matches = whole_matches text c.in_ok-rest.rest.now c.in_ok-rest-2.rest.now first second third
+    c.in_ok-rest.ensures c.in_ok-rest-2.ensures.matches (rw c.in_ok-offset.ensures.end at c.in_ok-offset.ensures.matches) in
+    outcome_of text third c.moment_from.result matches (rw c.said_rfc2822.ensures at c.moment_from.ensures)

@@ -1,0 +1,223 @@
+//! Recognizes stored descriptions whose texts have one form, by the numbers of their steps.
+ghost use Rattle.std.specs.Prelude.{◌≡◌, ◌≤◌, ◌-◌, [], ◌∷◌, ◌++◌, None, IsTrue, IfSome, length, map};
+ghost use Rattle.time_components.specs.declared.inspect.Step.TheVariants as step_;
+ghost use Rattle.time_preparing.specs.Forms.{byte_parts, dated_parts, offset_parts, time_parts};
+ghost use Rattle.time_preparing.specs.Whole.{whole_parts};
+ghost use Rattle.pelzaune_ffi.specs.Described as spec;
+
+use crate::steps::StoredStep;
+use time_preparing::whole::{Dated, InMoment, Whole};
+
+// The kinds of the steps in a form.
+const LITERAL: u8 = 0;
+
+const DAY: u8 = 5;
+
+const MONTH_SHORT: u8 = 6;
+
+const MONTH_NUMERICAL: u8 = 8;
+
+const YEAR: u8 = 17;
+
+const STANDARD_YEAR: u8 = 18;
+
+const HOUR: u8 = 28;
+
+const MINUTE: u8 = 29;
+
+const SECOND: u8 = 31;
+
+const OFFSET_HOUR: u8 = 33;
+
+const OFFSET_MINUTE: u8 = 34;
+
+/// The form of a description of this many steps that is a date.
+#[inline(always)]
+pub(super) fn date(steps: &[StoredStep]) -> Option<Whole>
+    ensures { IfSome result (λ whole. map spec.step_of steps.now ≡ whole_parts whole) }
+{
+    let form = dated(steps)?;
+    Some(Whole::Date(form))
+}
+
+/// The form of a description of this many steps that is a time.
+#[inline(always)]
+pub(super) fn time(steps: &[StoredStep]) -> Option<Whole>
+    ensures { IfSome result (λ whole. map spec.step_of steps.now ≡ whole_parts whole) }
+{
+    let between = timed(steps)?;
+    Some(Whole::Time(between))
+}
+
+/// The form of a description of this many steps that is a date, a byte and a time.
+#[inline(always)]
+pub(super) fn date_time(steps: &[StoredStep]) -> Option<Whole>
+    ensures { IfSome result (λ whole. map spec.step_of steps.now ≡ whole_parts whole) }
+{
+    if steps.len() != 11 {
+        return None;
+    }
+    let (date, between, behind) = front(steps)?;
+    let in_time = timed(behind)?;
+    Some(Whole::Plain(date, between, in_time))
+}
+
+/// The form of a description of this many steps that is a date, a byte, a time and an offset.
+#[inline(always)]
+pub(super) fn moment(steps: &[StoredStep]) -> Option<Whole>
+    ensures { IfSome result (λ whole. map spec.step_of steps.now ≡ whole_parts whole) }
+{
+    if steps.len() < 13 {
+        return None;
+    }
+    let (date, between, behind) = front(steps)?;
+    let (time, offset_steps) = behind.split_at(5);
+    let in_time = timed(time)?;
+    let (before_offset, in_offset) = offset(offset_steps)?;
+    Some(Whole::Moment(InMoment {
+        date,
+        between,
+        in_time,
+        before_offset,
+        in_offset,
+    }))
+}
+
+// The form of a date and the byte after it, and the steps after them.
+#[inline(always)]
+fn front(steps: &[StoredStep]) -> Option<(Dated, u8, &[StoredStep])>
+    requires { 6 ≤ length steps.now }
+    ensures steps { IfSome result (λ f. map spec.step_of steps.now
+        ≡ dated_parts f.0 ++ step_.Literal f.1 ∷ map spec.step_of f.2.now) }
+    ensures len { IfSome result (λ f. length f.2.now ≡ length steps.now - 6) }
+{
+    let (first, later) = steps.split_at(5);
+    let date = dated(first)?;
+    let [gap, behind @ ..] = later else {
+        return None;
+    };
+    let between = byte_of(gap)?;
+    Some((date, between, behind))
+}
+
+// The form of a date.
+#[inline(always)]
+fn dated(steps: &[StoredStep]) -> Option<Dated>
+    ensures { IfSome result (λ form. map spec.step_of steps.now ≡ dated_parts form) }
+{
+    let [first, gap, second, other_gap, third] = steps else {
+        return None;
+    };
+    let between = one_byte(gap, other_gap)?;
+    if is_padded(first, DAY) {
+        if is_flagged(second, MONTH_SHORT, 1) && is_flagged(third, YEAR, 0) {
+            return Some(Dated::DayFirst(between));
+        }
+        return None;
+    }
+    if !is_padded(second, MONTH_NUMERICAL) || !is_padded(third, DAY) {
+        return None;
+    }
+    if is_flagged(first, YEAR, 0) {
+        return Some(Dated::YearFirst(between));
+    }
+    if is_flagged(first, STANDARD_YEAR, 0) {
+        return Some(Dated::StandardYearFirst(between));
+    }
+    None
+}
+
+// The byte between the parts of a time.
+#[inline(always)]
+fn timed(steps: &[StoredStep]) -> Option<u8>
+    ensures { IfSome result (λ between. map spec.step_of steps.now ≡ time_parts between) }
+{
+    let [hour, gap, minute, other_gap, second] = steps else {
+        return None;
+    };
+    if !is_padded(hour, HOUR) || !is_padded(minute, MINUTE) || !is_padded(second, SECOND) {
+        return None;
+    }
+    let between = one_byte(gap, other_gap)?;
+    Some(between)
+}
+
+// The byte before an offset, and the byte in it.
+#[inline(always)]
+fn offset(steps: &[StoredStep]) -> Option<(Option<u8>, Option<u8>)>
+    ensures { IfSome result (λ form. map spec.step_of steps.now ≡ byte_parts form.0 ++ offset_parts form.1) }
+{
+    let [first, behind @ ..] = steps else {
+        return None;
+    };
+    if let Some(before) = byte_of(first) {
+        let in_offset = signed(behind)?;
+        return Some((Some(before), in_offset));
+    }
+    let within = signed(steps)?;
+    Some((None, within))
+}
+
+// The byte between the parts of an offset with a sign.
+#[inline(always)]
+fn signed(steps: &[StoredStep]) -> Option<Option<u8>>
+    ensures { IfSome result (λ between. map spec.step_of steps.now ≡ offset_parts between) }
+{
+    match steps {
+        [hour, minute] if is_offset(hour, minute) => Some(None),
+        [hour, gap, minute] if is_offset(hour, minute) => {
+            let between = byte_of(gap)?;
+            Some(Some(between))
+        }
+        _ => None,
+    }
+}
+
+// Whether the steps are the hour of an offset with a mandatory sign, and its minute.
+#[inline(always)]
+fn is_offset(hour: &StoredStep, minute: &StoredStep) -> bool
+    ensures { IsTrue result → spec.step_of hour.now ∷ spec.step_of minute.now ∷ [] ≡ offset_parts None }
+{
+    is_flagged(hour, OFFSET_HOUR, 1) && is_padded(minute, OFFSET_MINUTE)
+}
+
+// The byte that both steps have as a literal.
+#[inline(always)]
+fn one_byte(first: &StoredStep, second: &StoredStep) -> Option<u8>
+    ensures first { IfSome result (λ byte. spec.step_of first.now ≡ step_.Literal byte) }
+    ensures second { IfSome result (λ byte. spec.step_of second.now ≡ step_.Literal byte) }
+{
+    let byte = byte_of(first)?;
+    let other = byte_of(second)?;
+    if byte != other {
+        return None;
+    }
+    Some(byte)
+}
+
+// The byte of a literal step.
+#[inline(always)]
+fn byte_of(step: &StoredStep) -> Option<u8>
+    ensures { IfSome result (λ byte. spec.step_of step.now ≡ step_.Literal byte) }
+{
+    if step.kind != LITERAL {
+        return None;
+    }
+    Some(step.choice)
+}
+
+// Whether a step has this kind, padding with zeros, and this flag.
+#[inline(always)]
+fn is_flagged(step: &StoredStep, kind: u8, flag: u8) -> bool
+    ensures { IsTrue result → (step.now.kind ≡ kind) × (step.now.choice ≡ 0) × (step.now.flag ≡ flag) }
+{
+    is_padded(step, kind) && step.flag == flag
+}
+
+// Whether a step has this kind and padding with zeros. One load reads both numbers.
+#[inline(always)]
+fn is_padded(step: &StoredStep, kind: u8) -> bool
+    ensures { IsTrue result → (step.now.kind ≡ kind) × (step.now.choice ≡ 0) }
+{
+    u16::from_le_bytes([step.kind, step.choice]) == u16::from(kind)
+}

@@ -1,0 +1,76 @@
+-- No public contract rests on this file.
+--
+-- The effect of a step of a stream.
+use Rattle.std.specs.Prelude.{◌≡◌, ◌⊎◌, ℕ, ◌≤◌, List, [], ◌∷◌, ◌++◌, Option}
+use Rattle.std.specs.Io.KnownBytes.{Appends, Keeps, append_known}
+use Rattle.byte_streams.specs.Faults.{Rises, count_more}
+use Rattle.byte_streams.specs.Lines.{HasNoLf, lines_of}
+use Rattle.restamp_stream.specs.declared.action.LineAction.{LineAction}
+use Rattle.restamp_stream.specs.declared.action.TailAction.{TailAction}
+use Rattle.restamp_stream.specs.declared.action.TailAction.TheVariants.{Absent, Passing, Dropping}
+use Rattle.restamp_stream.specs.declared.settings.File.{File}
+use Rattle.restamp_stream.specs.declared.ending.Stop.{Stop}
+use Rattle.restamp_stream.specs.declared.ending.Stop.TheVariants.{Unread, Unwritten, Refused}
+use Rattle.restamp_stream.specs.declared.stream.Stream.{Stream}
+use Rattle.restamp_stream.specs.Reports.{passed}
+use Rattle.restamp_stream.specs.Streams.{Job, job_of, State, state, Answered, Stopped}
+
+-- the job of those relations for a file
+abbrev pub job_at : (List ℕ → LineAction → Type 0) → (List ℕ → ℕ → List ℕ → Type 0) → File → Job
+job_at is_action is_reason file = job_of is_action is_reason file.name.now file.settings
+
+-- the contents of a stream's writer once the buffered bytes are written
+abbrev pub buffered_out : {W L : Type 0} → (W → Option (List ℕ)) → Stream W L → Option (List ℕ)
+buffered_out contents s = append_known (contents s.out.sink) s.out.buffer.items
+
+-- the state of a stream once the buffered bytes are written
+abbrev pub buffered_state : {W L : Type 0} → (W → Option (List ℕ)) → (L → Option (List ℕ)) → Stream W L → State
+buffered_state contents log_contents s = state (buffered_out contents s) (log_contents s.log) s.tally
+
+-- If an input was processed up to the state `mid`, except for the bytes `held`, it was processed up to the state
+-- `after`, except for the bytes `held'`.
+abbrev pub Continues : Job → State → State → TailAction → List ℕ → TailAction → List ℕ → Type 0
+Continues job mid after rest held rest' held' =
+    (before : State) (read : List ℕ) → Answered job before mid read rest held
+    → Answered job before after read rest' held'
+
+-- If an input was processed up to the state `mid`, except for the bytes `held`, the work stopped in it in the state
+-- `after`, whatever follows those bytes.
+abbrev pub Stops : Job → State → State → TailAction → List ℕ → Type 0
+Stops job mid after rest held =
+    (before : State) (read more : List ℕ) → Answered job before mid read rest held
+    → Stopped job before after (lines_of (read ++ more))
+
+-- The work stopped, but not at a failed read. If it stopped at a rejected line, the fact holds.
+abbrev pub StoppedBy : Stop → Type 0 → Type 0
+StoppedBy Unread fact = ⊥
+StoppedBy Unwritten fact = Unit {0}
+StoppedBy Refused fact = fact
+
+-- The work stopped at a failed read, and the fact holds, or at a failed write.
+abbrev pub FailedBy : Stop → Type 0 → Type 0
+FailedBy Unread fact = fact
+FailedBy Unwritten fact = Unit {0}
+FailedBy Refused fact = ⊥
+
+-- The bytes continue a line whose front was processed, and the line doesn't end in them.
+abbrev pub ContinuesLine : Option (List ℕ) → Option (List ℕ) → TailAction → List ℕ → Type 0
+ContinuesLine out out' rest bytes = HasNoLf bytes × Appends out out' (passed rest bytes)
+
+-- A line whose front was processed, if there is one, ends in the bytes, and the bytes `after` follow it.
+abbrev pub EndsLine : Option (List ℕ) → Option (List ℕ) → TailAction → List ℕ → List ℕ → Type 0
+EndsLine out out' Absent bytes after = (after ≡ bytes) × Keeps out out'
+EndsLine out out' Passing bytes after =
+    (line : List ℕ) × (bytes ≡ line ++ 10 ∷ after) × HasNoLf line × Appends out out' (line ++ 10 ∷ [])
+EndsLine out out' Dropping bytes after =
+    (line : List ℕ) × (bytes ≡ line ++ 10 ∷ after) × HasNoLf line × Appends out out' []
+
+-- Between the two states the buffered bytes were written.
+pub record Flushes (before after : State) : Type 0 where
+  pub out : Keeps before.out after.out
+  pub log : Keeps before.log after.log
+  pub tally : after.tally ≡ before.tally
+
+-- Each of `turns` reads returned at least one byte, or one of them failed.
+abbrev pub HaveProgressed : ℕ → ℕ → ℕ → ℕ → Type 0
+HaveProgressed turns faults faults' given = ((faults' ≡ faults) × (count_more 0 turns ≤ given)) ⊎ Rises faults faults'

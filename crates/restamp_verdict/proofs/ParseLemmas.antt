@@ -1,21 +1,18 @@
 -- Consequences of the match of a text by one format, at one offset or with one year.
-use Rattle.std.specs.Prelude.{Option, Result, MatchBool, MatchOption, ◌+ℤ◌, ◌-ℤ◌, FitsSigned, min, slice_range, ◌==◌, ◌&&◌, if◌then◌else◌, MatchResult}
+use Rattle.std.specs.Prelude.{IfSome, Option, Result, MatchBool, MatchOption, ◌+ℤ◌, ◌-ℤ◌, FitsSigned, min, slice_range, MatchResult}
 use Rattle.std.specs.Int.{w32, cast_signed as to_z, cast_unsigned as of_z}
-use Rattle.std.proofs.Common.{◌≡◌, ℕ, zero, suc, ◌+◌, ◌-◌, ◌<◌, ℤ, pos, Bool, true, false, List, ◌∷◌, length, get_or, drop, refl, sym, ap, subst, arith, add-one, ◌∙◌, None, Some, Ok, Err, take, []}
+use Rattle.std.proofs.Common.{◌≡◌, ℕ, zero, suc, ◌+◌, ◌-◌, ◌<◌, ℤ, pos, Bool, true, false, List, ◌∷◌, length, get_or, drop, refl, sym, ap, subst, arith, add-one, ◌∙◌, None, Some, Ok, Err, take}
 use Rattle.std.proofs.lemmas.Int.{to_z-of_z}
 use Rattle.std.proofs.Math.Seq.{drop-cons}
-use Rattle.std.proofs.lemmas.List.{take_min, nil_from_length}
-use Rattle.std.proofs.lemmas.Bool.Decides.{nat_tests}
+use Rattle.std.proofs.lemmas.List.{take_min}
 use Rattle.time_values.specs.declared.offset_date_time.OffsetDateTime.{OffsetDateTime}
 use Rattle.time_values.specs.Moments.{offset_of}
 use Rattle.time_values.specs.Offsets.{IsUtc}
 use Rattle.time_values.specs.declared.utc_offset.UtcOffset.{UtcOffset}
-use Rattle.time_values.specs.Refusal.{Refusal, refusal_of, trailing}
+use Rattle.time_values.specs.Refusal.{refusal_of}
 use Rattle.time_values.specs.declared.error.Parse.{Parse}
-use Rattle.time_zones.specs.Suffix.{Checked}
-use Rattle.time_zones.specs.declared.zones.Zones.{Zones}
 use Rattle.restamp_place.proofs.WordLemmas.{tail_range}
-use Rattle.restamp_verdict.specs.Reading.{AreTried, ParsesAs, ParsesLocally, Undated, undated, is_after, IsFinal, year_after, IsReadInYear, AreYearsTried, IsDated, IsReadInTurn, ParsesInZone, IsEarly, at_offset, in_year, is_early, IsGuarded, IsRead, guarded, is_counted, is_negative_fraction, erased_match, zones_of}
+use Rattle.restamp_verdict.specs.Reading.{AreTried, ParsesAs, ParsesLocally, Undated, undated, is_after, IsFinal, year_after, IsReadInYear, AreYearsTried, IsDated, IsReadInTurn, ParsesInZone, IsEarly, at_offset, in_year, is_early, IsRead, is_counted, erased_match, zones_of}
 use Rattle.restamp_verdict.specs.Reason.{Gives, IsErrOf, Reason, unread}
 use Rattle.restamp_verdict.specs.declared.reading.Defaults.{Defaults}
 use Rattle.restamp_verdict.specs.declared.reading.Reading.{Reading}
@@ -23,7 +20,7 @@ use Rattle.restamp_verdict.specs.declared.reading.Match.{Match}
 use Rattle.restamp_verdict.specs.Job.{is_inside, MatchesAlone, AreTriedAlone}
 use Rattle.restamp_verdict.specs.declared.job.Job.{Job}
 use Rattle.restamp_verdict.specs.declared.job.TheConstants.{REACH}
-use Rattle.restamp_verdict.specs.Zoned.{IsOffsetWhen, IsChecked, IsSuffixed, Suffix, checked, extended, has_tail}
+use Rattle.restamp_verdict.specs.Zoned.{IsOffsetWhen}
 use Rattle.restamp_verdict.specs.declared.local.Clocks.{Clocks}
 
 -- ---- The match of a text that needs no defaults
@@ -244,3 +241,11 @@ says_plain IsOf Y format is_prefix text defaults (Ok s) result zones counted is 
 says_plain IsOf Y format is_prefix text defaults (Err e) (Ok s) zones counted is kept = absurd kept
 says_plain IsOf Y format is_prefix text defaults (Err e) (Err why) zones counted is kept =
     (unread (refusal_of e), kept, (Err (refusal_of e), is, refl))
+
+-- the match of such a text, without the reason of an error
+pub says_plain-some : (Y : ℕ) (format : Reading) (is_prefix : Bool) (text : List ℕ) (defaults : Defaults) (parsed : Result Match Parse)
+    (found : Option Match) → zones_of format ≡ None → is_counted format ≡ false → IsRead Y format is_prefix text defaults (erased_match parsed)
+    → IfSome found (λ s. parsed ≡ Ok s) → IfSome found (λ s. ParsesAs Y format is_prefix text defaults (Ok s))
+says_plain-some Y format is_prefix text defaults parsed None zones counted is same = tt
+says_plain-some Y format is_prefix text defaults parsed (Some s) zones counted is same =
+    (Ok s, subst (λ p. IsRead Y format is_prefix text defaults (erased_match p)) same is, on_none (zones_of format) _ _ zones (rw counted refl))

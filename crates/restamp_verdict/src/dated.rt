@@ -232,8 +232,8 @@ fn read_others<E: FromReason>(
     Err(reason)
 }
 
-/// Parses a text that the first format rejects without more defaults, for that reason.
-pub(crate) fn read_further<E: FromReason>(
+// Parses a text that the first format rejects without more defaults, for that reason.
+fn read_further<E: FromReason>(
     first: &Reading,
     others: &[Reading],
     is_prefix: bool,

@@ -1,15 +1,17 @@
 //! The verdict on a line.
-ghost use Rattle.std.specs.Prelude.{◌≡◌, ◌<◌, ◌+◌, ◌^◌, ℕ, length, Err};
+//!
+//! `fast` parses a timestamp without the reason of an error.
+ghost use Rattle.std.specs.Prelude.{◌≡◌, ◌<◌, ◌+◌, ◌^◌, ℕ, length};
 ghost use Rattle.time_values.specs.Calendar.{greatest_year};
 ghost use Rattle.time_values.specs.Shown.{Items};
 ghost use Rattle.restamp_verdict.specs.Job as spec;
-ghost use Rattle.restamp_verdict.specs.Reading.{ParsesAs};
-ghost use Rattle.restamp_verdict.specs.Reason.{Reason as Reason_};
+
+mod fast;
 
 use crate::brief::FromReason;
-use crate::dated::{parse_in_turn, read_further};
+use crate::dated::parse_in_turn;
 use crate::form::{Form, write_to};
-use crate::reading::{Defaults, Match, Reading, parse};
+use crate::reading::{Defaults, Match, Reading};
 use crate::reason::Reason;
 use restamp_place::{Place, find_span};
 use std::cmp::Ordering;
@@ -132,10 +134,10 @@ impl Job<'_> {
         Verdict::Without
     }
 
-    // The verdict on a line whose timestamp is the part that starts at `start`, if the defaults have the clocks of a zone.
-    // Neither this nor the next is inlined, so that they need no stack beside lines that the first format matches.
+    // The verdict on a line whose timestamp is the part that starts at `start`, by the first of the formats that matches.
+    // Not inlined, so that it needs no stack beside lines that the fast path matches.
     #[inline(never)]
-    fn judge_by_clocks<E: FromReason>(
+    fn judge_in_turn<E: FromReason>(
         &self,
         start: usize,
         is_prefix: bool,
@@ -155,40 +157,7 @@ impl Job<'_> {
         }
     }
 
-    // The verdict on a line whose timestamp is the part that starts at `start`, which the first format rejects for that
-    // reason.
-    #[inline(never)]
-    fn judge_further<E: FromReason>(
-        &self,
-        start: usize,
-        is_prefix: bool,
-        part: &[u8],
-        reason: E,
-        text: &mut Text,
-    ) -> Verdict<E>
-        requires fits { start + length part.now + 1 < 2 ^ 64 }
-        requires rejected { (why : Reason_) × E.is_of why reason
-            × ParsesAs greatest_year self.now.first.now is_prefix part.now self.now.defaults (Err why) }
-        ensures verdict { spec.GivesVerdict E.is_of (spec.IsJudgedPart greatest_year self.now is_prefix start part.now) result text.new }
-        ensures within { spec.EndsWithin (start + length part.now) result }
-    {
-        match read_further(
-            self.first,
-            self.others,
-            is_prefix,
-            part,
-            &self.defaults,
-            reason,
-        ) {
-            Ok(said) => self.put(start, said, text),
-            Err(reason) => Verdict::Refused {
-                column: start + 1,
-                reason,
-            },
-        }
-    }
-
-    // The verdict on a line whose timestamp is the part that starts at `start`. The first format matches most lines.
+    // The verdict on a line whose timestamp is the part that starts at `start`.
     #[inline(always)]
     fn judge_part<E: FromReason>(
         &self,
@@ -201,12 +170,9 @@ impl Job<'_> {
         ensures verdict { spec.GivesVerdict E.is_of (spec.IsJudgedPart greatest_year self.now is_prefix start part.now) result text.new }
         ensures within { spec.EndsWithin (start + length part.now) result }
     {
-        if self.defaults.clocks.is_some() {
-            return self.judge_by_clocks(start, is_prefix, part, text);
-        }
-        match parse(self.first, is_prefix, part, &self.defaults) {
-            Ok(said) => self.put(start, said, text),
-            Err(reason) => self.judge_further(start, is_prefix, part, reason, text),
+        match fast::parse(self.first, is_prefix, part, &self.defaults) {
+            Some(said) => self.put(start, said, text),
+            None => self.judge_in_turn(start, is_prefix, part, text),
         }
     }
 

@@ -277,14 +277,23 @@ pub(crate) fn read_8601(
     read_with(&Iso8601, is_prefix, text, defaults)
 }
 
+// What is kept of a parse error. It is passed by reference to a function that isn't inlined, since a move of the error
+// would have the compiler copy each match byte by byte.
+#[inline(never)]
+fn keep_error<E: FromReason>(error: &Parse) -> E
+    ensures { E.is_of (unread (refusal_of error.now)) result }
+{
+    E::from_reason(Reason::Unread(*error))
+}
+
 // A match, or what is kept of the error.
 #[inline(always)]
 fn or_unread<E: FromReason>(parsed: Result<Match, Parse>) -> Result<Match, E>
     ensures { MatchResult parsed (λ said. result ≡ Ok said) (λ error. IsErrOf E.is_of (unread (refusal_of error)) result) }
 {
-    match parsed {
-        Ok(said) => Ok(said),
-        Err(error) => Err(E::from_reason(Reason::Unread(error))),
+    match &parsed {
+        Ok(said) => Ok(*said),
+        Err(error) => Err(keep_error(error)),
     }
 }
 
@@ -301,7 +310,7 @@ fn parse_counted<E: FromReason>(
 {
     match read_with(described, is_prefix, text, defaults) {
         Ok(said) => without_negative_fraction(text, said),
-        Err(error) => Err(E::from_reason(Reason::Unread(error))),
+        Err(error) => Err(keep_error(&error)),
     }
 }
 

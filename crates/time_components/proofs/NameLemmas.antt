@@ -22,7 +22,7 @@ pub IsNamed-length : (case_sensitive : Bool) (name text : List ℕ) → IsNamed 
 IsNamed-length true name text e = ap length e
 IsNamed-length false name text e = sym (length-map text to_ascii_lowercase) ∙ ap length e ∙ length-map name to_ascii_lowercase
 
--- two texts of one length before equal texts
+-- two texts of one length at the start of equal texts
 pub same_front : (a b x y : List ℕ) → length a ≡ length b → a ++ x ≡ b ++ y → (a ≡ b) × (x ≡ y)
 same_front [] [] x y l e = (refl, e)
 same_front [] (d ∷ b) x y l e = absurd (omega arith)
@@ -33,13 +33,13 @@ same_front (c ∷ a) (d ∷ b) x y l e =
     let front = is.0 in
     (cc, is.1)
 
--- a text that is two names one after the other
+-- a text of two names in sequence
 pub IsNamed-append : (case_sensitive : Bool) (a b s t : List ℕ) → IsNamed case_sensitive a s → IsNamed case_sensitive b t
     → IsNamed case_sensitive (a ++ b) (s ++ t)
 IsNamed-append true a b s t h k = cc
 IsNamed-append false a b s t h k = simp map-append (cc)
 
--- and a text that is a name in two parts is two texts that are the parts
+-- a text of a name in two parts, split into a text of each part
 pub record Parted (case_sensitive : Bool) (a b text : List ℕ) : Type 0 where
   pub front : List ℕ
   pub back : List ℕ
@@ -63,9 +63,9 @@ IsNamed-parts false a b text e =
     let is = same_front (lower front) (lower a) (lower back) (lower b) long both_lower in
     record { front = front; back = back; cut = cut; first = is.0; second = is.1 }
 
--- ---- A fraction of a second, one digit after another
+-- ---- A fraction of a second, digit by digit
 
--- The text in front of the rest is digits, nine at most, which say so many nanoseconds; a one counts `unit` at the last of them.
+-- The text before the rest is at most nine digits, worth `nanoseconds`; one unit of the last of them is `unit` nanoseconds.
 pub record IsBegun (s rest : List ℕ) (unit nanoseconds : ℕ) : Type 0 where
   pub text : List ℕ
   pub cut : s ≡ text ++ rest
@@ -77,7 +77,7 @@ pub record IsBegun (s rest : List ℕ) (unit nanoseconds : ℕ) : Type 0 where
 pub begun_none : (s : List ℕ) → IsBegun s s 1000000000 0
 begun_none s = record { text = []; cut = refl; digits = tt; within = omega arith; counts = refl; says = refl }
 
--- the unit of the next place, where there is one
+-- the unit of the next place, if there is one
 next_unit : (k unit : ℕ) → k ≤ 9 → unit ≡ 10 ^ (9 - k) → unit / 10 ≢ 0
     → (k + 1 ≤ 9) × (unit / 10 ≡ 10 ^ (9 - (k + 1))) × (unit ≡ 10 * (unit / 10))
 next_unit k unit within counts some = elim (cases_lt k 9) [
@@ -91,7 +91,7 @@ next_unit k unit within counts some = elim (cases_lt k 9) [
       absurd (some (omega arith))
 ]
 
--- one digit more
+-- one more digit
 pub begun_more : (s rest : List ℕ) (unit nanoseconds d : ℕ) → IsBegun s rest unit nanoseconds → 1 ≤ length rest → IsDigit (get_or rest 0 0)
     → d ≡ get_or rest 0 0 - 48 → unit / 10 ≢ 0
     → IsBegun s (take (length rest - 1) (drop 1 rest)) (unit / 10) (nanoseconds + unit / 10 * d)
@@ -123,7 +123,7 @@ begun_below s rest unit nanoseconds begun =
     let same = ap (λ u. digits_value begun.text * u) begun.counts in
     omega (arith, begun.says)
 
--- some digits, behind which no other stands
+-- some digits, with no digit after them
 pub begun_cut : (s rest : List ℕ) (unit nanoseconds : ℕ) → IsBegun s rest unit nanoseconds → unit ≢ 1000000000 → NoDigitFirst rest
     → Cut (Says number (IsFractionRun 1 32)) s rest (number nanoseconds)
 begun_cut s rest unit nanoseconds begun some ends =
@@ -146,9 +146,9 @@ begun_cut s rest unit nanoseconds begun some ends =
     } in
     (text, begun.cut, (nanoseconds, refl, (run, is)))
 
--- ---- The names that a text begins with, by their first three letters
+-- ---- Names at the start of a text, by their first three letters
 
--- what a key tells apart
+-- values with different keys differ: a key determines its value
 pub told_apart : {A B : Type 0} (key : A → B) (of : B → Option A) → ((a : A) → of (key a) ≡ Some a) → (a b : A) → key a ≡ key b → a ≡ b
 told_apart key of tells a b e =
     let some : Some a ≡ Some b = sym (tells a) ∙ ap of e ∙ tells b in
@@ -159,7 +159,7 @@ lower_same : (case_sensitive : Bool) (m n text : List ℕ) → IsNamed case_sens
 lower_same true m n text p q = ap str_to_ascii_lowercase (sym p ∙ q)
 lower_same false m n text p q = sym p ∙ q
 
--- values whose names have one length, and differ
+-- values whose names have one length, and differ even if the case of letters is ignored
 pub record Told {A : Type 0} (name_of : A → List ℕ) (count : ℕ) : Type 0 where
   pub length_is : (v : A) → length (name_of v) ≡ count
   pub apart : (v w : A) → str_to_ascii_lowercase (name_of v) ≡ str_to_ascii_lowercase (name_of w) → v ≡ w
@@ -196,7 +196,7 @@ month_one v w e = cc
 pub weekday_one : (v w : Weekday) → weekday v ≡ weekday w → v ≡ w
 weekday_one v w e = cc
 
--- values whose names begin with a capital and two small letters, which tell them apart
+-- values whose names begin with a capital and two small letters, which determine the value
 pub record Titled {A : Type 0} (says : A → Value) (name_of : A → List ℕ) : Type 0 where
   pub told : Told (λ v. take 3 (name_of v)) 3
   pub title : (v : A) → is_title_case (take 3 (name_of v)) ≡ true
@@ -226,7 +226,7 @@ both : (a b : Bool) → (a && b) ≡ true → (a ≡ true) × (b ≡ true)
 both true b e = (refl, e)
 both false b e = absurd (false≢true e)
 
--- a capital and two small letters are known by their small letters
+-- a capital and two small letters are determined by their lower case
 same_title : (a b : List ℕ) → is_title_case a ≡ true → is_title_case b ≡ true → str_to_ascii_lowercase a ≡ str_to_ascii_lowercase b → a ≡ b
 same_title (a ∷ b ∷ c ∷ []) (x ∷ y ∷ z ∷ []) h k e =
     let ha = both (is_ascii_uppercase a) (is_ascii_lowercase b && is_ascii_lowercase c) h in
@@ -243,7 +243,7 @@ same_title (a ∷ b ∷ c ∷ []) (x ∷ y ∷ z ∷ []) h k e =
 same_title (a ∷ b ∷ c ∷ []) _ h k e = absurd (false≢true k)
 same_title _ b h k e = absurd (false≢true h)
 
--- a short name, as its three letters are read
+-- a short name in the form of its three letters
 short_is_title : {A : Type 0} (says : A → Value) (name_of : A → List ℕ) → Titled says name_of → (case_sensitive : Bool) (text rest : List ℕ) (v : A)
     → IsShortOf case_sensitive name_of text rest v → IsTitleCase case_sensitive text rest (letters_of name_of v)
 short_is_title says name_of titled true text rest v p =
@@ -256,13 +256,13 @@ title_is_short : {A : Type 0} (says : A → Value) (name_of : A → List ℕ) �
 title_is_short says name_of titled true text rest v p = same_title text (take 3 (name_of v)) (p.2 refl) (titled.title v) (sym p.1)
 title_is_short says name_of titled false text rest v p = sym p.1
 
--- no three letters, no short name
+-- no short name without three letters
 pub no_letters : {A : Type 0} (says : A → Value) (name_of : A → List ℕ) → Titled says name_of → (case_sensitive : Bool) (input : List ℕ)
     → NoCut (IsTitleCase case_sensitive) input → NoCut (Says says (IsShortOf case_sensitive name_of)) input
 no_letters says name_of titled case_sensitive input none = λ text rest v e s.
     none text rest (letters_of name_of s.0) e (short_is_title says name_of titled case_sensitive text rest s.0 s.2)
 
--- three letters with which no name begins
+-- three letters that begin no name
 pub no_short : {A : Type 0} (says : A → Value) (name_of : A → List ℕ) → Titled says name_of → (case_sensitive : Bool)
     (input rest letters : List ℕ) → Cut (IsTitleCase case_sensitive) input rest letters → ((v : A) → letters ≢ letters_of name_of v)
     → NoCut (Says says (IsShortOf case_sensitive name_of)) input
@@ -271,7 +271,7 @@ no_short says name_of titled case_sensitive input rest letters cut none = λ tex
     let same = same_front cut.0 text rest rest' (cut.2.0 ∙ sym t.0) (sym cut.1 ∙ e) in
     none s.0 (cut.2.1 ∙ ap str_to_ascii_lowercase same.0 ∙ sym t.1)
 
--- three letters with which a name begins
+-- three letters that begin a name
 pub is_short : {A : Type 0} (says : A → Value) (name_of : A → List ℕ) → Titled says name_of → (case_sensitive : Bool)
     (input rest letters : List ℕ) (v : A) → Cut (IsTitleCase case_sensitive) input rest letters → letters ≡ letters_of name_of v
     → Cut (Says says (IsShortOf case_sensitive name_of)) input rest (says v)
@@ -279,7 +279,7 @@ is_short says name_of titled case_sensitive input rest letters v cut e =
     let title = subst (IsTitleCase case_sensitive cut.0 rest) e cut.2 in
     (cut.0, cut.1, (v, refl, title_is_short says name_of titled case_sensitive cut.0 rest v title))
 
--- three letters that stand so in a name
+-- the first three letters of a name, in exactly its case
 pub is_titled : {A : Type 0} (says : A → Value) (name_of : A → List ℕ) → Titled says name_of → (case_sensitive : Bool)
     (input rest letters : List ℕ) (v : A) → input ≡ letters ++ rest → letters ≡ take 3 (name_of v)
     → Cut (Says says (IsShortOf case_sensitive name_of)) input rest (says v)
@@ -287,26 +287,26 @@ is_titled says name_of titled case_sensitive input rest letters v cut e =
     is_short says name_of titled case_sensitive input rest (letters_of name_of v) v
     (letters, cut, (ap length e ∙ titled.told.length_is v, ap str_to_ascii_lowercase (sym e), λ t. ap is_title_case e ∙ titled.title v)) refl
 
--- what a text spells, by the value that it says
+-- a text's spelling, recovered from its value
 pub spelled : {A : Type 0} (says : A → Value) (S : Form A) → ((v w : A) → says v ≡ says w → v ≡ w) → (input rest : List ℕ) (v : A)
     → Cut (Says says S) input rest (says v) → Cut S input rest v
 spelled says S one input rest v (text, e, s) = (text, e, subst (S text rest) (sym (one v s.0 s.1)) s.2)
 
--- a whole name, parted behind its first three letters
+-- a whole name, split after its first three letters
 name_parts : {A : Type 0} (name_of : A → List ℕ) (case_sensitive : Bool) (text : List ℕ) (v : A) → IsNamed case_sensitive (name_of v) text
     → Parted case_sensitive (take 3 (name_of v)) (drop 3 (name_of v)) text
 name_parts name_of case_sensitive text v p =
     IsNamed-parts case_sensitive (take 3 (name_of v)) (drop 3 (name_of v)) text
     (subst (λ n. IsNamed case_sensitive n text) (sym (take-append-drop 3 (name_of v))) p)
 
--- no short name, no long one
+-- no whole name without a short name
 pub no_long : {A : Type 0} (says : A → Value) (name_of : A → List ℕ) (case_sensitive : Bool) (input : List ℕ)
     → NoCut (Says says (IsShortOf case_sensitive name_of)) input → NoCut (Says says (IsNameOf case_sensitive name_of)) input
 no_long says name_of case_sensitive input none = λ text rest v e s.
     let p = name_parts name_of case_sensitive text s.0 s.2 in
     none p.front (p.back ++ rest) (says s.0) (e ∙ ap (λ t. t ++ rest) p.cut ∙ append_assoc p.front p.back rest) (s.0, refl, p.first)
 
--- a short name whose ending doesn't stand
+-- a short name that isn't followed by the rest of the name
 pub no_ending : {A : Type 0} (says : A → Value) (name_of : A → List ℕ) → Titled says name_of → (case_sensitive : Bool)
     (input rest ending : List ℕ) (v : A) → ending ≡ drop 3 (name_of v) → Cut (Says says (IsShortOf case_sensitive name_of)) input rest (says v)
     → NoCut (IsEnding ending case_sensitive) rest → NoCut (Says says (IsNameOf case_sensitive name_of)) input
@@ -318,7 +318,7 @@ no_ending says name_of titled case_sensitive input rest ending v is found none =
     let same = same_name case_sensitive (λ u. take 3 (name_of u)) 3 titled.told p.front cut.0 (p.back ++ left) rest s.0 v p.first cut.2 whole in
     none p.back left tt (sym same.0) (subst (λ n. IsNamed case_sensitive n p.back) (ap (λ u. drop 3 (name_of u)) same.1 ∙ sym is) p.second)
 
--- a short name whose ending stands
+-- a short name that is followed by the rest of the name
 pub is_long : {A : Type 0} (says : A → Value) (name_of : A → List ℕ) → Titled says name_of → (case_sensitive : Bool)
     (input rest left ending : List ℕ) (v : A) → ending ≡ drop 3 (name_of v) → Cut (Says says (IsShortOf case_sensitive name_of)) input rest (says v)
     → Cut (IsEnding ending case_sensitive) rest left tt → Cut (Says says (IsNameOf case_sensitive name_of)) input left (says v)

@@ -1,4 +1,4 @@
--- Numbers under a padding, and numbers with a sign.
+-- Numbers with a padding, and numbers with a sign.
 use Rattle.std.proofs.Common.{List, [], ◌∷◌, ◌≡◌, ℕ, zero, suc, ◌+◌, ◌-◌, ◌^◌, ◌<◌, ◌≤◌, ◌⊎◌, ◌++◌, replicate, refl, ap, sym, ◌∙◌, inl, inr, arith, subst, Bool, false, Option}
 use Rattle.time_values.specs.declared.month.Month.{Month}
 use Rattle.time_values.specs.declared.month.Month.TheVariants.{January, February, March, April, May, June, July, August, September, October, November, December}
@@ -14,7 +14,7 @@ use Rattle.time_digits.proofs.WordBytes.{Finds-same}
 use Rattle.time_digits.proofs.Runs.{pow-mono, IsPaddedRun-below}
 use Rattle.time_components.specs.Spelling.{IsSigned}
 
--- ---- What holds of each month and of each weekday
+-- ---- Facts of each month and of each weekday
 
 pub each_month : (P : Month → Type 0)
     → P January × P February × P March × P April × P May × P June × P July × P August × P September × P October × P November × P December
@@ -47,7 +47,7 @@ each_weekday P h Sunday = h.6
 abbrev pub weekdays : List Weekday
 weekdays = Monday ∷ Tuesday ∷ Wednesday ∷ Thursday ∷ Friday ∷ Saturday ∷ Sunday ∷ []
 
--- where each number of so many places fits, a run is one that fits
+-- if every number of `most` places fits, each run fits
 pub run_fits : {A : Type 0} (value : A → ℕ) (greatest : ℕ) (padding : Padding) (least most : ℕ) (input : List ℕ)
     (answer : Option (ParsedItem A)) → 10 ^ most ≤ greatest + 1
     → Finds (IsPaddedRunUpTo greatest padding least most) value input answer → Finds (IsPaddedRun padding least most) value input answer
@@ -90,12 +90,12 @@ sign_byte-one Negative Positive e = absurd (omega arith)
 sign_byte-one Positive Negative e = absurd (omega arith)
 sign_byte-one Positive Positive e = refl
 
--- a run doesn't begin as a text that begins with a sign
+-- a run and a text that begins with a sign differ
 pub no_sign_first : (padding : Padding) (least most : ℕ) (text rest tail : List ℕ) (v : ℕ) (sign : Sign) → 1 ≤ least
     → IsPaddedRun padding least most text rest v → text ++ rest ≡ sign_byte sign ∷ tail → ⊥
 no_sign_first padding least most text rest tail v sign h run e = sign_first sign (run_first padding least most text rest v (sign_byte sign) tail h run e)
 
--- a sign, and what stands behind it
+-- a sign, and a number after it
 pub signed_cut : (mandatory : Bool) (behind alone : Form ℕ) (input left rest : List ℕ) (sign : Sign) (n : ℕ)
     → Cut IsSign input left sign → Cut behind left rest n → Cut (IsSigned mandatory behind alone) input rest (sign, n)
 signed_cut mandatory behind alone input left rest sign n first cut =
@@ -103,7 +103,7 @@ signed_cut mandatory behind alone input left rest sign n first cut =
     first.1 ∙ ap (λ t. t ++ left) first.2 ∙ ap (λ t. sign_byte sign ∷ t) cut.1 in
     (sign_byte sign ∷ cut.0, whole, inl (cut.0, refl, cut.2))
 
--- a sign, and nothing that may stand behind it
+-- a sign, and no number after it
 pub no_signed : (mandatory : Bool) (behind : Form ℕ) (padding : Padding) (least most : ℕ) (input left : List ℕ) (sign : Sign)
     → 1 ≤ least → Cut IsSign input left sign → NoCut behind left → NoCut (IsSigned mandatory behind (IsPaddedRun padding least most)) input
 no_signed mandatory behind padding least most input left sign h first none text rest v e (inl (tail, is, found)) =
@@ -114,14 +114,14 @@ no_signed mandatory behind padding least most input left sign h first none text 
 no_signed mandatory behind padding least most input left sign h first none text rest v e (inr (free, plus, found)) =
     no_sign_first padding least most text rest left v.1 sign h found (sym e ∙ first.1 ∙ ap (λ t. t ++ left) first.2)
 
--- no sign, and no number that may stand alone
+-- no sign, and no number without a sign
 pub no_unsigned : (mandatory : Bool) (behind alone : Form ℕ) (input : List ℕ)
     → NoCut IsSign input → (mandatory ≡ false → NoCut alone input) → NoCut (IsSigned mandatory behind alone) input
 no_unsigned mandatory behind alone input unsigned none text rest v e (inl (tail, is, found)) =
     unsigned (sign_byte v.0 ∷ []) (tail ++ rest) v.0 (e ∙ ap (λ t. t ++ rest) is) refl
 no_unsigned mandatory behind alone input unsigned none text rest v e (inr (free, plus, found)) = none free text rest v.1 e found
 
--- a number with a sign is below the power of its places
+-- a number with a sign is below the power of ten of its places
 pub signed_below : (mandatory : Bool) (p q : Padding) (least most least' most' top : ℕ) (text rest : List ℕ) (v : Sign × ℕ)
     → most ≤ top → most' ≤ top
     → IsSigned mandatory (IsPaddedRun p least most) (IsPaddedRun q least' most') text rest v → v.1 < 10 ^ top

@@ -23,9 +23,9 @@ use Rattle.time_components.specs.declared.format_description.Component.TheVarian
 use Rattle.time_components.proofs.NumberLemmas.{each_month, each_weekday, months, weekdays, no_sign_first, sign_byte-one}
 use Rattle.time_components.proofs.NameLemmas.{IsNamed-length, same_front, IsNamed-parts, Told, told_apart, same_name, months_told, weekdays_told}
 
--- ---- What the readers of components answer
+-- ---- Results of the parsers of components
 
--- a run whose value is no answer
+-- two runs at the start of one input have one value
 other_run : (padding : Padding) (least most : ℕ) (input rest text rest' : List ℕ) (n m : ℕ)
     → Cut (IsPaddedRun padding least most) input rest n → input ≡ text ++ rest' → IsPaddedRun padding least most text rest' m → m ≡ n
 other_run padding least most input rest text rest' n m cut e run =
@@ -39,7 +39,7 @@ no_positive padding places input rest n none cut = λ text rest' v e s.
     let positive = s.2.1 in
     omega arith
 
--- a run of no one's number
+-- a run whose value is no value's number
 pub no_number : {A : Type 0} (says : A → Value) (number_of : A → ℕ) (padding : Padding) (input rest : List ℕ) (n : ℕ)
     → ((a : A) → number_of a ≢ n) → Cut (IsPaddedRun padding 2 2) input rest n → NoCut (Says says (IsNumberOf padding number_of)) input
 no_number says number_of padding input rest n none cut =
@@ -65,11 +65,11 @@ month_taken : (P : Month → Type 0) (e : ComponentRange) (month : Month) → Co
 month_taken P e = each_month (λ m. Constructs (month_refusal (month_number m)) P (Err e) → ⊥)
     (λ h. h, λ h. h, λ h. h, λ h. h, λ h. h, λ h. h, λ h. h, λ h. h, λ h. h, λ h. h, λ h. h, λ h. h)
 
--- a number that is refused is no month's
+-- a number that is rejected is no month's number
 pub month_refused : (P : Month → Type 0) (n : ℕ) (e : ComponentRange) → Constructs (month_refusal n) P (Err e) → (month : Month) → month_number month ≢ n
 month_refused P n e h month same = month_taken P e month (subst (λ k. Constructs (month_refusal k) P (Err e)) (sym same) h)
 
--- two letters that name a half of the day, as the reader has them
+-- two letters that name a half of the day, in the parser's case
 pub period_letters : (upper case_sensitive : Bool) (period : Period) (text : List ℕ)
     → IsNamed case_sensitive (period_name upper period) text → folded case_sensitive text ≡ period_name (upper && case_sensitive) period
 period_letters true true Am text h = h
@@ -87,14 +87,14 @@ period_name-length true Pm = refl
 period_name-length false Am = refl
 period_name-length false Pm = refl
 
--- no two letters
+-- fewer than two bytes
 pub no_letters : (upper case_sensitive : Bool) (input : List ℕ) → NoCut (IsLetters case_sensitive) input
     → NoCut (Says period (IsNameOf case_sensitive (period_name upper))) input
 no_letters upper case_sensitive input none =
     λ text rest v e s. none text rest (folded case_sensitive text) e
     (IsNamed-length case_sensitive (period_name upper s.0) text s.2 ∙ period_name-length upper s.0, refl)
 
--- two letters that name no half of the day
+-- two letters that don't name a half of the day
 pub no_period : (upper case_sensitive : Bool) (input rest letters : List ℕ) → Cut (IsLetters case_sensitive) input rest letters
     → ((period : Period) → letters ≢ period_name (upper && case_sensitive) period)
     → NoCut (Says period (IsNameOf case_sensitive (period_name upper))) input
@@ -166,7 +166,7 @@ IsDigitOf-unique one_indexed number_of apart a b x y v w p q e =
     let tails : x ≡ y = cc in
     (tails, apart v w (omega arith))
 
--- and those whose first three letters differ
+-- names whose first three letters differ
 IsNameOf-unique : {A : Type 0} (case_sensitive : Bool) (name_of : A → List ℕ) → Told (λ v. take 3 (name_of v)) 3 → IsUnique (IsNameOf case_sensitive name_of)
 IsNameOf-unique case_sensitive name_of told a b x y v w p q e =
     let parts : (u : _) → take 3 (name_of u) ++ drop 3 (name_of u) ≡ name_of u = λ u. take-append-drop 3 (name_of u) in
@@ -215,7 +215,7 @@ days_from_sunday-one =
 two_places-unique : (says : ℕ → Value) (padding : Padding) → IsUnique (Says says (IsPaddedRun padding 2 2))
 two_places-unique says padding = Says-unique says (IsPaddedRun padding 2 2) (IsPaddedRun-unique padding 2 2)
 
--- two texts with one rest of the input each spell one value, and leave one rest
+-- two spellings at the start of one input leave one rest and have one value
 pub Spells-unique : (whole : Bool) (c : Component) → IsUnique (Spells whole c)
 Spells-unique whole (component.Day m) = Says-unique number (IsPositiveRun m.padding 2) (IsPositiveRun-unique m.padding 2)
 Spells-unique whole (component.MonthShort m) =

@@ -1,4 +1,4 @@
--- Known texts and their values, so that a wrong rule in the specs does not check.
+-- Known texts and their values: with a wrong rule in the specs, these don't check.
 use Rattle.std.proofs.Common.{◌≡◌, ◌≢◌, ◌+◌, ℕ, pos, neg_ℤ, Bool, true, false, List, [], ◌∷◌, ◌++◌, length, length-append, get_or, ◌≤◌, map, codes, Bor, inl, inr, refl, ap, sym, subst, ◌∙◌, arith, rules}
 use Rattle.time_values.specs.Names.{month_number, month_name}
 use Rattle.time_values.specs.declared.month.Month.TheVariants.{September}
@@ -163,7 +163,7 @@ minus_of_0_is_kept s =
     let flag : flagged (pos 0) false ≡ flagged (pos 0) true = is.1 in
     cc
 
--- bytes that don't begin with a text of the form spell none of its values
+-- bytes that don't begin with a text of the form spell no value
 nothing_says : {A : Type 0} (says : A → Value) (S : Form A) (input : List ℕ) → NoCut S input → NoCut (Says says S) input
 nothing_says says S input missing text rest v e s = missing text rest s.0 e s.2
 
@@ -276,7 +276,7 @@ pub borrowed_component : (c : Component) → borrowed_shape (borrowed.Component 
 borrowed_component c =
     ap borrowed_shape (sym (borrowed.rolls-Component c)) ∙ fold-roll-BorrowedFormatItem Tree borrowed_step (borrowed_layer.Component c)
 
--- an `Ignore` of version 3 has to end between characters
+-- an `Ignore` of version 3 must end between characters
 pub component_of_version_3 : (c : Component) → v3_shape (v3.Component c) ≡ component_tree true c
 component_of_version_3 c =
     ap v3_shape (sym (v3.rolls-Component c)) ∙ fold-roll-FormatDescriptionV3Inner Tree v3_step (v3_layer.Component c)

@@ -1,6 +1,6 @@
 -- No public contract rests on this file.
 --
--- The first three letters of names, and what follows them.
+-- The first three letters of names, and the rest of names.
 use Rattle.std.specs.Prelude.{◌≡◌, ◌≢◌, ℕ, List, [], ◌∷◌, length, take, Bool, true, false, ◌&&◌, Option, MatchOption, ◌+◌, ◌<◌}
 use Rattle.std.specs.Char.{is_ascii_uppercase, is_ascii_lowercase}
 use Rattle.std.specs.Str.{str_to_ascii_lowercase}
@@ -12,21 +12,21 @@ abbrev pub is_title_case : List ℕ → Bool
 is_title_case (a ∷ b ∷ c ∷ []) = is_ascii_uppercase a && (is_ascii_lowercase b && is_ascii_lowercase c)
 is_title_case _ = false
 
--- three bytes in small letters, which are a capital and two small letters where the case matters
+-- the text's three bytes in lower case; if the case matters, the text is a capital and two small letters
 abbrev pub IsTitleCase : Bool → Form (List ℕ)
 IsTitleCase case_sensitive text rest letters =
     (length text ≡ 3) × (letters ≡ str_to_ascii_lowercase text) × (case_sensitive ≡ true → is_title_case text ≡ true)
 
--- the first three letters of a name, in small letters
+-- the first three letters of a name, in lower case
 abbrev pub letters_of : {A : Type 0} → (A → List ℕ) → A → List ℕ
 letters_of name_of value = str_to_ascii_lowercase (take 3 (name_of value))
 
--- the value whose name begins with these letters, or nothing where none does
+-- the value whose name begins with these letters, or nothing if no name does
 abbrev pub IsWithLetters : {A : Type 0} → (A → List ℕ) → List ℕ → Option A → Type 0
 IsWithLetters {A} name_of letters result =
     MatchOption result ((value : A) → letters ≢ letters_of name_of value) (λ value. letters ≡ letters_of name_of value)
 
--- The text is the ending of a name.
+-- The text is the given rest of a name.
 abbrev pub IsEnding : List ℕ → Bool → Form (Unit {0})
 IsEnding ending case_sensitive text rest nothing = IsNamed case_sensitive ending text
 
@@ -36,11 +36,11 @@ IsEnding ending case_sensitive text rest nothing = IsNamed case_sensitive ending
 abbrev pub IsDayDigit : Bool → Form ℕ
 IsDayDigit one_indexed text rest n = (text ≡ (first_digit one_indexed + n) ∷ []) × (n < 7)
 
--- the letters as they stand where the case matters, and otherwise as small letters
+-- the letters, unchanged if the case matters, otherwise in lower case
 abbrev pub folded : Bool → List ℕ → List ℕ
 folded true letters = letters
 folded false letters = str_to_ascii_lowercase letters
 
--- two bytes, as `folded` has them
+-- two bytes, mapped by `folded`
 abbrev pub IsLetters : Bool → Form (List ℕ)
 IsLetters case_sensitive text rest letters = (length text ≡ 2) × (letters ≡ folded case_sensitive text)

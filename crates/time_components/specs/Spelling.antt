@@ -18,103 +18,103 @@ use Rattle.time_components.specs.declared.modifier.SubsecondDigits.TheVariants.{
 use Rattle.time_components.specs.declared.modifier.TrailingInput.{TrailingInput}
 use Rattle.time_components.specs.declared.modifier.TrailingInput.TheVariants.{Prohibit, Discard}
 
--- ---- The names of halves of the day, and how a name is written
+-- ---- The names of halves of the day, and texts of a name
 
--- the two letters of a half of the day, in capitals where the test says so
+-- the two letters of a half of the day, in capitals if the flag is true
 abbrev pub period_name : Bool → Period → List ℕ
 period_name true Am = codes "AM"
 period_name true Pm = codes "PM"
 period_name false Am = codes "am"
 period_name false Pm = codes "pm"
 
--- The text is the name: letter by letter where the case matters, and in any ASCII case otherwise.
+-- The text is the name: letter by letter if the case matters, and otherwise in any ASCII case.
 abbrev pub IsNamed : Bool → List ℕ → List ℕ → Type 0
 IsNamed true name text = text ≡ name
 IsNamed false name text = str_to_ascii_lowercase text ≡ str_to_ascii_lowercase name
 
--- what a component's text says
+-- the value of a component's text
 pub data Value : Type 0 where
   number : ℕ → Value
   signed : ℤ → Value
-  -- a number, and whether a minus stood before it, also where it is 0
+  -- a number, and whether it has a minus, even if it is 0
   flagged : ℤ → Bool → Value
   month : Month → Value
   weekday : Weekday → Value
   period : Period → Value
   nothing : Value
 
--- what a sign and a number say: the number with that sign
+-- the value of a sign and a number: the number with that sign
 abbrev pub signed_value : Sign × ℕ → Value
 signed_value v = signed (signed_by (is_negative v.0) (pos v.1))
 
--- and whether the sign is a minus
+-- the number with that sign, and whether the sign is a minus
 abbrev pub flagged_value : Sign × ℕ → Value
 flagged_value v = flagged (signed_by (is_negative v.0) (pos v.1)) (is_negative v.0)
 
--- or that many units with that sign
+-- the number of units with that sign
 abbrev pub scaled_value : ℕ → Sign × ℕ → Value
 scaled_value unit v = signed (signed_by (is_negative v.0) (pos (v.1 * unit)))
 
--- a number without a sign, where a component has signed ones
+-- a number without a sign, for a component with signed numbers
 abbrev pub positive : ℕ → Value
 positive n = signed (pos n)
 
--- The text spells something, and the value says what.
+-- The text spells something in the form, and the value is what the function maps it to.
 abbrev pub Says : {A : Type 0} → (A → Value) → Form A → Form Value
 Says {A} says S text rest value = (a : A) × (value ≡ says a) × S text rest a
 
--- The text is a sign and what `behind` spells, or what `alone` spells, unless a sign has to stand.
+-- The text is a sign and a text of the form `behind`, or, unless a sign is mandatory, a text of the form `alone`.
 abbrev pub IsSigned : Bool → Form ℕ → Form ℕ → Form (Sign × ℕ)
 IsSigned mandatory behind alone text rest v =
     ((tail : List ℕ) × (text ≡ sign_byte v.0 ∷ tail) × behind tail rest v.1)
     ⊎ ((mandatory ≡ false) × (v.0 ≡ Positive) × alone text rest v.1)
 
--- four digits, or a sign and four to so many, under the padding
+-- four digits, or a sign and four to `most` digits, with the padding
 abbrev pub SaysYear : Bool → Padding → ℕ → Form Value
 SaysYear mandatory padding most =
     Says signed_value (IsSigned mandatory (IsPaddedRun padding 4 most) (IsPaddedRun padding 4 4))
 
--- one or two digits, or a sign and two to so many under the padding
+-- one or two digits, or a sign and two to `most` digits with the padding
 abbrev pub SaysCentury : Bool → Padding → ℕ → Form Value
 SaysCentury mandatory padding most =
     Says flagged_value (IsSigned mandatory (IsPaddedRun padding 2 most) (IsDigitRun 1 2))
 
--- two digits under the padding, with a sign or without
+-- two digits with the padding, with or without a sign
 abbrev pub SaysOffsetHour : Bool → Padding → Form Value
 SaysOffsetHour mandatory padding =
     Says flagged_value (IsSigned mandatory (IsPaddedRun padding 2 2) (IsPaddedRun padding 2 2))
 
--- up to so many digits, with a sign or without, which count units of so many nanoseconds
+-- up to `most` digits, with or without a sign, in units of `unit` nanoseconds
 abbrev pub SaysTimestamp : ℕ → Bool → ℕ → Form Value
 SaysTimestamp unit mandatory most =
     Says (scaled_value unit) (IsSigned mandatory (IsDigitRun 1 most) (IsDigitRun 1 most))
 
--- a run of so many places under the padding, and not of 0
+-- a run of exactly `places` places with the padding, whose value isn't 0
 abbrev pub IsPositiveRun : Padding → ℕ → Form ℕ
 IsPositiveRun padding places text rest n = IsPaddedRun padding places places text rest n × (0 < n)
 
--- the whole name of something
+-- the whole name of a value
 abbrev pub IsNameOf : {A : Type 0} → Bool → (A → List ℕ) → Form A
 IsNameOf case_sensitive name text rest a = IsNamed case_sensitive (name a) text
 
--- the first three letters of its name
+-- the first three letters of the name of a value
 abbrev pub IsShortOf : {A : Type 0} → Bool → (A → List ℕ) → Form A
 IsShortOf case_sensitive name text rest a = IsNamed case_sensitive (take 3 (name a)) text
 
--- its number, in two places under the padding
+-- the number of a value, in two places with the padding
 abbrev pub IsNumberOf : {A : Type 0} → Padding → (A → ℕ) → Form A
 IsNumberOf padding number_of text rest a = IsPaddedRun padding 2 2 text rest (number_of a)
 
--- the digit of the number 0: `1` where it is one-indexed, and otherwise `0`
+-- the digit of the number 0: `1` if numbers are one-indexed, and otherwise `0`
 abbrev pub first_digit : Bool → ℕ
 first_digit true = 49
 first_digit false = 48
 
--- one digit, that of its number
+-- the digit of the number of a value
 abbrev pub IsDigitOf : {A : Type 0} → Bool → (A → ℕ) → Form A
 IsDigitOf one_indexed number_of text rest a = text ≡ (first_digit one_indexed + number_of a) ∷ []
 
--- how many days the weekday is after a Sunday
+-- the number of days from Sunday to the weekday
 abbrev pub days_from_sunday : Weekday → ℕ
 days_from_sunday day = (days_from_monday day + 1) % 7
 
@@ -131,7 +131,7 @@ least_digits Eight = 8
 least_digits Nine = 9
 least_digits OneOrMore = 1
 
--- the greatest number of its digits
+-- the greatest number of digits of a fraction of a second
 abbrev pub most_digits : SubsecondDigits → ℕ
 most_digits One = 1
 most_digits Two = 2
@@ -149,12 +149,12 @@ abbrev pub IsFractionRun : ℕ → ℕ → Form ℕ
 IsFractionRun least most text rest n =
     IsDigitRun least most text rest (digits_value text) × (n ≡ fraction_nanoseconds text)
 
--- what may be left of the input at its end: nothing, or anything
+-- the allowed trailing input: none, or any
 abbrev pub EndsBy : TrailingInput → List ℕ → Type 0
 EndsBy Prohibit text = text ≡ []
 EndsBy Discard text = Unit {0}
 
--- the rest of the input, of which that may be left
+-- the whole remaining input, if it is allowed as trailing input
 abbrev pub IsEnd : TrailingInput → Form Value
 IsEnd trailing_input text rest value = (value ≡ nothing) × (rest ≡ []) × EndsBy trailing_input text
 
@@ -163,17 +163,17 @@ abbrev pub BeginsCharacter : List ℕ → Type 0
 BeginsCharacter [] = Unit {0}
 BeginsCharacter (c ∷ cs) = (c < 128) ⊎ (192 ≤ c)
 
--- the fact, where whole characters are asked for
+-- the fact, if whole characters are required
 abbrev pub OnWhole : Bool → Type 0 → Type 0
 OnWhole true p = p
 OnWhole false p = Unit {0}
 
--- so many bytes, which under `whole` end between characters
+-- `count` bytes, which end between characters if `whole` is true
 abbrev pub IsIgnored : Bool → ℕ → Form Value
 IsIgnored whole count text rest value =
     (value ≡ nothing) × (length text ≡ count) × OnWhole whole (BeginsCharacter rest)
 
--- The text, with that rest behind it, spells the value. Under `whole` an `Ignore` ends between characters.
+-- The text, followed by that rest, spells the value. If `whole` is true, an `Ignore` ends between characters.
 abbrev pub Spells : Bool → Component → Form Value
 Spells whole (component.Day m) = Says number (IsPositiveRun m.padding 2)
 Spells whole (component.MonthShort m) = Says month (IsShortOf m.case_sensitive month_name)
@@ -213,8 +213,8 @@ Spells whole (component.UnixTimestampMicrosecond m) = SaysTimestamp 1000 m.sign_
 Spells whole (component.UnixTimestampNanosecond m) = SaysTimestamp 1 m.sign_is_mandatory 23
 Spells whole (component.End m) = IsEnd m.trailing_input
 
--- ---- Laws of the definitions, each proved by the function of module `laws` that has it as its contract
+-- ---- Laws of the definitions, each the contract of a function of module `laws`, which proves it
 
--- for one input at most one cut spells a component
+-- at most one cut of an input spells a component
 abbrev pub OneSpelling : Type 0
 OneSpelling = (whole : Bool) (c : Component) → AtMostOneCut (Spells whole c)

@@ -1,4 +1,4 @@
--- The tree that a description is, whatever type holds it.
+-- The tree of a description, whatever its type.
 use Rattle.std.specs.Prelude.{ℕ, List, [], ◌∷◌, Bool, true, false, map, string_bytes, zero, suc, length, take, drop}
 use Rattle.time_components.specs.declared.format_description.Component.{Component}
 use Rattle.time_components.specs.declared.inspect.Node.{Node}
@@ -19,29 +19,29 @@ use Rattle.time_components.specs.declared.inspect.Step.TheVariants as step
 
 mutual
   pub data Tree : Type 0 where
-    -- these bytes
+    -- literal bytes
     literal : List ℕ → Tree
-    -- a component; of an `Ignore`, whether it must end between characters
+    -- a component, and whether an `Ignore` must end between characters
     component : Bool → Component → Tree
-    -- each of the trees in turn
+    -- all trees in sequence
     sequence : Trees → Tree
-    -- a tree that may be missing
+    -- an optional tree
     optional : Tree → Tree
-    -- the first of the trees that reads
+    -- alternatives: the first tree that matches
     first_of : Trees → Tree
 
   pub data Trees : Type 0 where
     none : Trees
     more : Tree → Trees → Trees
 
--- a list of trees, as the trees of a list
+-- a list of trees, as `Trees`
 abbrev pub trees : List Tree → Trees
 trees [] = none
 trees (t ∷ ts) = more t (trees ts)
 
--- ---- What an item is, in terms of other items of its type
+-- ---- An item, in terms of other items of its type
 
--- the tree of a node, by the trees of the items in it
+-- the tree of a node, given the trees of the items in it
 abbrev pub node_tree : {I : Type 0} → (I → Tree) → Node I → Tree
 node_tree f (node.Literal text) = literal text.now
 node_tree f (node.Component c) = component false c.now
@@ -91,9 +91,9 @@ v3_step (v3.OwnedFirst xs) = first_of (trees xs.items)
 abbrev pub v3_shape : FormatDescriptionV3Inner → Tree
 v3_shape = fold-FormatDescriptionV3Inner Tree v3_step
 
--- ---- The trees of a row of steps. Every row has a tree: a group whose steps aren't all there has those that are.
+-- ---- The trees of a row of steps. Every row has a tree: a group that is cut short has the steps that are there.
 
--- the tree of a group, by the trees in it
+-- the tree of a group, given the trees in it
 abbrev pub group_tree : Group → Trees → Tree
 group_tree groups.Optional ts = optional (sequence ts)
 group_tree groups.First ts = first_of ts
@@ -104,21 +104,21 @@ abbrev pub further : List Step → List ℕ
 further (step.More b ∷ steps) = b ∷ further steps
 further _ = []
 
--- the tree of a step with those after it that belong to it, by the trees of fewer steps
+-- the tree of a step and of the steps after it that belong to it, given the trees of fewer steps
 abbrev pub tree_at : (List Step → Trees) → Step → List Step → Tree
 tree_at trees (step.Literal b) steps = literal (b ∷ further steps)
 tree_at trees (step.More b) steps = literal (b ∷ further steps)
 tree_at trees (step.Component c) steps = component false c
 tree_at trees (step.Group g len) steps = group_tree g (trees (take len steps))
 
--- the steps after those that belong to a step
+-- the steps after a step and those that belong to it
 abbrev pub steps_after : Step → List Step → List Step
 steps_after (step.Literal b) steps = drop (length (further steps)) steps
 steps_after (step.More b) steps = drop (length (further steps)) steps
 steps_after (step.Component c) steps = steps
 steps_after (step.Group g len) steps = drop len steps
 
--- the trees of steps, of at most n of them
+-- the first trees of a row of steps, at most n
 unfoldable pub trees_in : ℕ → List Step → Trees
 trees_in zero steps = none
 trees_in (suc n) [] = none

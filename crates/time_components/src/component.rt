@@ -1,8 +1,7 @@
-//! Readers of the components, one for each variant of [`Component`](crate::Component).
+//! Parsers of the components, one for each variant of [`Component`](crate::Component).
 //!
-//! A reader answers what is left of its input and a value, exactly where a beginning of the input
-//! spells that value, and `None` otherwise. A run of digits takes as many as it may, and nothing goes
-//! back.
+//! A parser returns the unread rest and the value if a prefix of its input spells a value, and `None` otherwise. A run
+//! of digits is as long as its greatest length allows, and no parser backtracks.
 ghost use Rattle.std.specs.Prelude.{◌≤◌, false};
 ghost use Rattle.time_digits.specs.Digits.{Finds};
 ghost use Rattle.time_components.specs.Spelling.{SaysOffsetHour, SaysYear, Spells, number, signed, flagged, month, weekday, period, nothing};
@@ -18,9 +17,9 @@ use numbers::{century, fraction, long_fraction, offset_part, timestamp, two_digi
 use std::num::NonZero;
 use time_values::{Month, Weekday};
 
-// Which reader goes first of those that stand in `fast` and in `numbers`.
+// Parsers that try the fast path in `fast` before the plain parser in `numbers`.
 
-// A year: four digits, or a sign and four to `MOST` digits.
+// A year of four digits, or of a sign and four to `MOST` digits.
 #[inline(always)]
 fn full_year<const MOST: u8>(
     input: &[u8],
@@ -37,7 +36,7 @@ fn full_year<const MOST: u8>(
     }
 }
 
-// The hours of an offset. The bool says whether the sign is a minus.
+// The hours of an offset. The bool is whether the sign is a minus.
 #[inline(always)]
 fn offset_hour(
     input: &[u8],
@@ -52,10 +51,10 @@ fn offset_hour(
     }
 }
 
-/// Reads a calendar year, in the range that a sign extends.
+/// Parses a calendar year, in the range that a sign extends.
 ///
-/// Four digits, or a sign and four to six digits, under the padding. `None` where no such text
-/// stands, also where a mandatory sign is missing.
+/// The text is four digits, or a sign and four to six digits, with the given padding. Returns `None` if the input
+/// doesn't begin with such a text, or if a mandatory sign is missing.
 #[inline]
 pub fn parse_calendar_year_full_extended_range(
     input: &[u8],
@@ -70,10 +69,10 @@ pub fn parse_calendar_year_full_extended_range(
     full_year::<6>(input, padding, sign_is_mandatory)
 }
 
-/// Reads a calendar year.
+/// Parses a calendar year of four digits.
 ///
-/// Four digits under the padding, with or without a sign. `None` where no such text stands, also
-/// where a mandatory sign is missing.
+/// The text is four digits with the given padding, with or without a sign. Returns `None` if the input doesn't begin
+/// with such a text, or if a mandatory sign is missing.
 #[inline]
 pub fn parse_calendar_year_full_standard_range(
     input: &[u8],
@@ -88,10 +87,10 @@ pub fn parse_calendar_year_full_standard_range(
     full_year::<4>(input, padding, sign_is_mandatory)
 }
 
-/// Reads an ISO week year, in the range that a sign extends.
+/// Parses an ISO week year, in the range that a sign extends.
 ///
-/// Four digits, or a sign and four to six digits, under the padding. `None` where no such text
-/// stands, also where a mandatory sign is missing.
+/// The text is four digits, or a sign and four to six digits, with the given padding. Returns `None` if the input
+/// doesn't begin with such a text, or if a mandatory sign is missing.
 #[inline]
 pub fn parse_iso_year_full_extended_range(
     input: &[u8],
@@ -106,10 +105,10 @@ pub fn parse_iso_year_full_extended_range(
     full_year::<6>(input, padding, sign_is_mandatory)
 }
 
-/// Reads an ISO week year.
+/// Parses an ISO week year of four digits.
 ///
-/// Four digits under the padding, with or without a sign. `None` where no such text stands, also
-/// where a mandatory sign is missing.
+/// The text is four digits with the given padding, with or without a sign. Returns `None` if the input doesn't begin
+/// with such a text, or if a mandatory sign is missing.
 #[inline]
 pub fn parse_iso_year_full_standard_range(
     input: &[u8],
@@ -124,11 +123,11 @@ pub fn parse_iso_year_full_standard_range(
     full_year::<4>(input, padding, sign_is_mandatory)
 }
 
-/// Reads a calendar year without its last two digits, in the range that a sign extends.
+/// Parses a calendar year without its last two digits, in the range that a sign extends.
 ///
-/// A sign and two to four digits under the padding, or one or two digits without a sign, whatever
-/// the padding. The bool says whether the sign is a minus. `None` where no such text stands, also
-/// where a mandatory sign is missing.
+/// The text is a sign and two to four digits with the given padding, or one or two digits without a sign, whatever the
+/// padding. The bool is whether the sign is a minus. Returns `None` if the input doesn't begin with such a text, or if
+/// a mandatory sign is missing.
 #[inline]
 pub fn parse_calendar_year_century_extended_range(
     input: &[u8],
@@ -144,11 +143,11 @@ pub fn parse_calendar_year_century_extended_range(
     century::<4>(input, padding, sign_is_mandatory)
 }
 
-/// Reads a calendar year without its last two digits.
+/// Parses a calendar year without its last two digits.
 ///
-/// A sign and two digits under the padding, or one or two digits without a sign, whatever the
-/// padding. The bool says whether the sign is a minus. `None` where no such text stands, also
-/// where a mandatory sign is missing.
+/// The text is a sign and two digits with the given padding, or one or two digits without a sign, whatever the padding.
+/// The bool is whether the sign is a minus. Returns `None` if the input doesn't begin with such a text, or if a
+/// mandatory sign is missing.
 #[inline]
 pub fn parse_calendar_year_century_standard_range(
     input: &[u8],
@@ -164,11 +163,11 @@ pub fn parse_calendar_year_century_standard_range(
     century::<2>(input, padding, sign_is_mandatory)
 }
 
-/// Reads an ISO week year without its last two digits, in the range that a sign extends.
+/// Parses an ISO week year without its last two digits, in the range that a sign extends.
 ///
-/// A sign and two to four digits under the padding, or one or two digits without a sign, whatever
-/// the padding. The bool says whether the sign is a minus. `None` where no such text stands, also
-/// where a mandatory sign is missing.
+/// The text is a sign and two to four digits with the given padding, or one or two digits without a sign, whatever the
+/// padding. The bool is whether the sign is a minus. Returns `None` if the input doesn't begin with such a text, or if
+/// a mandatory sign is missing.
 #[inline]
 pub fn parse_iso_year_century_extended_range(
     input: &[u8],
@@ -184,11 +183,11 @@ pub fn parse_iso_year_century_extended_range(
     century::<4>(input, padding, sign_is_mandatory)
 }
 
-/// Reads an ISO week year without its last two digits.
+/// Parses an ISO week year without its last two digits.
 ///
-/// A sign and two digits under the padding, or one or two digits without a sign, whatever the
-/// padding. The bool says whether the sign is a minus. `None` where no such text stands, also
-/// where a mandatory sign is missing.
+/// The text is a sign and two digits with the given padding, or one or two digits without a sign, whatever the padding.
+/// The bool is whether the sign is a minus. Returns `None` if the input doesn't begin with such a text, or if a
+/// mandatory sign is missing.
 #[inline]
 pub fn parse_iso_year_century_standard_range(
     input: &[u8],
@@ -204,7 +203,8 @@ pub fn parse_iso_year_century_standard_range(
     century::<2>(input, padding, sign_is_mandatory)
 }
 
-/// Reads the last two digits of a calendar year, 0 to 99. `None` where they don't stand.
+/// Parses the last two digits of a calendar year, 0 to 99. Returns `None` if the input doesn't begin with such a
+/// number.
 #[inline]
 pub fn parse_calendar_year_last_two(
     input: &[u8],
@@ -216,7 +216,8 @@ pub fn parse_calendar_year_last_two(
     two_places(input, padding)
 }
 
-/// Reads the last two digits of an ISO week year, 0 to 99. `None` where they don't stand.
+/// Parses the last two digits of an ISO week year, 0 to 99. Returns `None` if the input doesn't begin with such a
+/// number.
 #[inline]
 pub fn parse_iso_year_last_two(
     input: &[u8],
@@ -228,7 +229,7 @@ pub fn parse_iso_year_last_two(
     two_places(input, padding)
 }
 
-/// Reads the first three letters of a month's English name. `None` where none stands.
+/// Parses the first three letters of a month's English name. Returns `None` if the input doesn't begin with them.
 #[inline(always)]
 pub fn parse_month_short(
     input: &[u8],
@@ -243,7 +244,7 @@ pub fn parse_month_short(
     }
 }
 
-/// Reads a month's English name. `None` if no complete name is there.
+/// Parses a month's whole English name. Returns `None` if the input doesn't begin with one.
 #[inline]
 pub fn parse_month_long(
     input: &[u8],
@@ -257,7 +258,7 @@ pub fn parse_month_long(
     Some(ParsedItem(ending.0, short.1))
 }
 
-/// Reads the number of a month, 1 to 12, in two places. `None` where none stands.
+/// Parses the number of a month, 1 to 12, in two places. Returns `None` if the input doesn't begin with such a number.
 #[inline]
 pub fn parse_month_numerical(
     input: &[u8],
@@ -273,7 +274,8 @@ pub fn parse_month_numerical(
     }
 }
 
-/// Reads the number of an ISO week, in two places, 0 to 99. `None` where none stands.
+/// Parses the number of an ISO week, in two places, 0 to 99. Returns `None` if the input doesn't begin with such a
+/// number.
 #[inline]
 pub fn parse_week_number_iso(
     input: &[u8],
@@ -285,8 +287,8 @@ pub fn parse_week_number_iso(
     two_places(input, padding)
 }
 
-/// Reads the number of a week that begins on Sunday, in two places, 0 to 99. `None` where none
-/// stands.
+/// Parses the number of a week that begins on Sunday, in two places, 0 to 99. Returns `None` if the input doesn't begin
+/// with such a number.
 #[inline]
 pub fn parse_week_number_sunday(
     input: &[u8],
@@ -298,8 +300,8 @@ pub fn parse_week_number_sunday(
     two_places(input, padding)
 }
 
-/// Reads the number of a week that begins on Monday, in two places, 0 to 99. `None` where none
-/// stands.
+/// Parses the number of a week that begins on Monday, in two places, 0 to 99. Returns `None` if the input doesn't begin
+/// with such a number.
 #[inline]
 pub fn parse_week_number_monday(
     input: &[u8],
@@ -311,7 +313,7 @@ pub fn parse_week_number_monday(
     two_places(input, padding)
 }
 
-/// Reads the first three letters of a weekday's English name. `None` where none stands.
+/// Parses the first three letters of a weekday's English name. Returns `None` if the input doesn't begin with them.
 #[inline(always)]
 pub fn parse_weekday_short(
     input: &[u8],
@@ -326,7 +328,7 @@ pub fn parse_weekday_short(
     }
 }
 
-/// Reads a weekday's English name. `None` if no complete name is there.
+/// Parses a weekday's whole English name. Returns `None` if the input doesn't begin with one.
 #[inline]
 pub fn parse_weekday_long(
     input: &[u8],
@@ -340,8 +342,8 @@ pub fn parse_weekday_long(
     Some(ParsedItem(ending.0, short.1))
 }
 
-/// Reads the number of a weekday, counted from Sunday: one digit of `0` to `6`, or of `1` to `7`
-/// where it is one-indexed. `None` where none stands.
+/// Parses the number of a weekday, counted from Sunday: one digit, `0` to `6`, or `1` to `7` if it is one-indexed.
+/// Returns `None` if the input doesn't begin with such a digit.
 #[inline]
 pub fn parse_weekday_sunday(
     input: &[u8],
@@ -354,8 +356,8 @@ pub fn parse_weekday_sunday(
     Some(ParsedItem(digit.0, Weekday::from_days_from_monday((digit.1 + 6) % 7)))
 }
 
-/// Reads the number of a weekday, counted from Monday: one digit of `0` to `6`, or of `1` to `7`
-/// where it is one-indexed. `None` where none stands.
+/// Parses the number of a weekday, counted from Monday: one digit, `0` to `6`, or `1` to `7` if it is one-indexed.
+/// Returns `None` if the input doesn't begin with such a digit.
 #[inline]
 pub fn parse_weekday_monday(
     input: &[u8],
@@ -368,7 +370,7 @@ pub fn parse_weekday_monday(
     Some(ParsedItem(digit.0, Weekday::from_days_from_monday(digit.1)))
 }
 
-/// Reads the day of the year, in three places, 1 to 999. `None` where none stands.
+/// Parses the day of the year, in three places, 1 to 999. Returns `None` if the input doesn't begin with such a number.
 #[inline]
 pub fn parse_ordinal(
     input: &[u8],
@@ -383,7 +385,7 @@ pub fn parse_ordinal(
     }
 }
 
-/// Reads the day of the month, in two places, 1 to 99. `None` where none stands.
+/// Parses the day of the month, in two places, 1 to 99. Returns `None` if the input doesn't begin with such a number.
 #[inline]
 pub fn parse_day(input: &[u8], modifiers: modifier::Day) -> Option<ParsedItem<'_, NonZero<u8>>>
     ensures { Finds (Spells false (component.Day modifiers)) (λ n. number n.value) input.now result }
@@ -393,7 +395,8 @@ pub fn parse_day(input: &[u8], modifiers: modifier::Day) -> Option<ParsedItem<'_
     Some(ParsedItem(day.0, NonZero::<u8>::new(day.1)?))
 }
 
-/// Reads the hour on a clock of 12 hours, in two places, 0 to 99. `None` where none stands.
+/// Parses the hour of a 12-hour clock, in two places, 0 to 99. Returns `None` if the input doesn't begin with such a
+/// number.
 #[inline]
 pub fn parse_hour_12(input: &[u8], modifiers: modifier::Hour12) -> Option<ParsedItem<'_, u8>>
     ensures { Finds (Spells false (component.Hour12 modifiers)) number input.now result }
@@ -402,7 +405,8 @@ pub fn parse_hour_12(input: &[u8], modifiers: modifier::Hour12) -> Option<Parsed
     two_places(input, padding)
 }
 
-/// Reads the hour on a clock of 24 hours, in two places, 0 to 99. `None` where none stands.
+/// Parses the hour of a 24-hour clock, in two places, 0 to 99. Returns `None` if the input doesn't begin with such a
+/// number.
 #[inline]
 pub fn parse_hour_24(input: &[u8], modifiers: modifier::Hour24) -> Option<ParsedItem<'_, u8>>
     ensures { Finds (Spells false (component.Hour24 modifiers)) number input.now result }
@@ -411,7 +415,7 @@ pub fn parse_hour_24(input: &[u8], modifiers: modifier::Hour24) -> Option<Parsed
     two_places(input, padding)
 }
 
-/// Reads the minute, in two places, 0 to 99. `None` where none stands.
+/// Parses the minute, in two places, 0 to 99. Returns `None` if the input doesn't begin with such a number.
 #[inline]
 pub fn parse_minute(input: &[u8], modifiers: modifier::Minute) -> Option<ParsedItem<'_, u8>>
     ensures { Finds (Spells false (component.Minute modifiers)) number input.now result }
@@ -420,7 +424,7 @@ pub fn parse_minute(input: &[u8], modifiers: modifier::Minute) -> Option<ParsedI
     two_places(input, padding)
 }
 
-/// Reads the second, in two places, 0 to 99. `None` where none stands.
+/// Parses the second, in two places, 0 to 99. Returns `None` if the input doesn't begin with such a number.
 #[inline]
 pub fn parse_second(input: &[u8], modifiers: modifier::Second) -> Option<ParsedItem<'_, u8>>
     ensures { Finds (Spells false (component.Second modifiers)) number input.now result }
@@ -429,8 +433,8 @@ pub fn parse_second(input: &[u8], modifiers: modifier::Second) -> Option<ParsedI
     two_places(input, padding)
 }
 
-/// Reads the half of the day: `AM` or `PM`, or `am` or `pm`, where the case matters, and else
-/// these letters in any case. `None` where none of them stands.
+/// Parses the half of the day. If the case matters, the text is `AM` or `PM`, or it is `am` or `pm`, by `is_uppercase`;
+/// otherwise it is either pair of letters in any case. Returns `None` if the input doesn't begin with such a text.
 #[inline]
 pub fn parse_period(input: &[u8], modifiers: modifier::Period) -> Option<ParsedItem<'_, Period>>
     ensures { Finds (Spells false (component.Period modifiers)) period input.now result }
@@ -441,8 +445,8 @@ pub fn parse_period(input: &[u8], modifiers: modifier::Period) -> Option<ParsedI
     }
 }
 
-/// Reads a fraction of a second, in nanoseconds: exactly so many digits, or one or more, of which
-/// 32 are read at most and the first nine count. `None` where too few stand.
+/// Parses a fraction of a second, in nanoseconds. The text is exactly the given number of digits, or one or more (at
+/// most 32 are read, and the first nine count). Returns `None` if the input begins with too few digits.
 pub fn parse_subsecond(input: &[u8], modifiers: modifier::Subsecond) -> Option<ParsedItem<'_, u32>>
     ensures { Finds (Spells false (component.Subsecond modifiers)) number input.now result }
 {
@@ -461,9 +465,8 @@ pub fn parse_subsecond(input: &[u8], modifiers: modifier::Subsecond) -> Option<P
     }
 }
 
-/// Reads the hours of an offset from UTC, in two places, with or without a sign. The bool says
-/// whether the sign is a minus. `None` where no such text stands, also where a mandatory sign is
-/// missing.
+/// Parses the hours of an offset from UTC, in two places, with or without a sign. The bool is whether the sign is a
+/// minus. Returns `None` if the input doesn't begin with such a text, or if a mandatory sign is missing.
 #[inline(always)]
 pub fn parse_offset_hour(
     input: &[u8],
@@ -478,8 +481,8 @@ pub fn parse_offset_hour(
     offset_hour(input, padding, sign_is_mandatory)
 }
 
-/// Reads the minutes of an offset from UTC, in two places and without a sign, 0 to 99. `None`
-/// where none stand.
+/// Parses the minutes of an offset from UTC, in two places and without a sign, 0 to 99. Returns `None` if the input
+/// doesn't begin with such a number.
 #[inline]
 pub fn parse_offset_minute(
     input: &[u8],
@@ -491,8 +494,8 @@ pub fn parse_offset_minute(
     offset_part(input, padding)
 }
 
-/// Reads the seconds of an offset from UTC, in two places and without a sign, 0 to 99. `None`
-/// where none stand.
+/// Parses the seconds of an offset from UTC, in two places and without a sign, 0 to 99. Returns `None` if the input
+/// doesn't begin with such a number.
 #[inline]
 pub fn parse_offset_second(
     input: &[u8],
@@ -504,7 +507,7 @@ pub fn parse_offset_second(
     offset_part(input, padding)
 }
 
-/// Skips so many bytes. `None` where fewer are left.
+/// Skips the given number of bytes. Returns `None` if the input has fewer.
 #[inline]
 pub fn parse_ignore(input: &[u8], modifiers: modifier::Ignore) -> Option<ParsedItem<'_, ()>>
     ensures { Finds (Spells false (component.Ignore modifiers)) (λ unit. nothing) input.now result }
@@ -514,9 +517,8 @@ pub fn parse_ignore(input: &[u8], modifiers: modifier::Ignore) -> Option<ParsedI
     Some(ParsedItem(rest, ()))
 }
 
-/// Reads seconds since 1970-01-01T00:00:00Z, in up to 14 digits, with or without a sign, and
-/// answers them in nanoseconds. `None` where no such text stands, also where a mandatory sign is
-/// missing.
+/// Parses seconds since 1970-01-01T00:00:00Z, in up to 14 digits, with or without a sign, and returns them in
+/// nanoseconds. Returns `None` if the input doesn't begin with such a text, or if a mandatory sign is missing.
 #[inline]
 pub fn parse_unix_timestamp_second(
     input: &[u8],
@@ -528,9 +530,8 @@ pub fn parse_unix_timestamp_second(
     timestamp::<14>(input, 1_000_000_000, sign_is_mandatory)
 }
 
-/// Reads milliseconds since 1970-01-01T00:00:00Z, in up to 17 digits, with or without a sign, and
-/// answers them in nanoseconds. `None` where no such text stands, also where a mandatory sign is
-/// missing.
+/// Parses milliseconds since 1970-01-01T00:00:00Z, in up to 17 digits, with or without a sign, and returns them in
+/// nanoseconds. Returns `None` if the input doesn't begin with such a text, or if a mandatory sign is missing.
 #[inline]
 pub fn parse_unix_timestamp_millisecond(
     input: &[u8],
@@ -542,9 +543,8 @@ pub fn parse_unix_timestamp_millisecond(
     timestamp::<17>(input, 1_000_000, sign_is_mandatory)
 }
 
-/// Reads microseconds since 1970-01-01T00:00:00Z, in up to 20 digits, with or without a sign, and
-/// answers them in nanoseconds. `None` where no such text stands, also where a mandatory sign is
-/// missing.
+/// Parses microseconds since 1970-01-01T00:00:00Z, in up to 20 digits, with or without a sign, and returns them in
+/// nanoseconds. Returns `None` if the input doesn't begin with such a text, or if a mandatory sign is missing.
 #[inline]
 pub fn parse_unix_timestamp_microsecond(
     input: &[u8],
@@ -556,9 +556,8 @@ pub fn parse_unix_timestamp_microsecond(
     timestamp::<20>(input, 1_000, sign_is_mandatory)
 }
 
-/// Reads nanoseconds since 1970-01-01T00:00:00Z, in up to 23 digits, with or without a sign, and
-/// answers them in nanoseconds. `None` where no such text stands, also where a mandatory sign is
-/// missing.
+/// Parses nanoseconds since 1970-01-01T00:00:00Z, in up to 23 digits, with or without a sign. Returns `None` if the
+/// input doesn't begin with such a text, or if a mandatory sign is missing.
 #[inline]
 pub fn parse_unix_timestamp_nanosecond(
     input: &[u8],
@@ -570,8 +569,8 @@ pub fn parse_unix_timestamp_nanosecond(
     timestamp::<23>(input, 1, sign_is_mandatory)
 }
 
-/// Reads the end of the input, with all that is left of it where that is discarded. `None` where
-/// bytes are left and prohibited.
+/// Parses the end of the input, and skips all trailing bytes if they are discarded. Returns `None` if there are
+/// trailing bytes and they are prohibited.
 #[inline]
 pub fn parse_end(input: &[u8], modifiers: modifier::End) -> Option<ParsedItem<'_, ()>>
     ensures { Finds (Spells false (component.End modifiers)) (λ unit. nothing) input.now result }

@@ -1,8 +1,8 @@
-//! Descriptions of how a date, a time or an offset is written.
+//! Descriptions of the text of a date, a time or an offset.
 use crate::modifier;
 use std::fmt::{self, Debug};
 
-/// A part of a date, a time or an offset, with how it is written.
+/// A part of a date, a time or an offset, with its form in a text.
 #[derive(Clone, Copy, Debug, PartialEq, Eq)]
 pub enum Component {
     /// Day of the month.
@@ -25,9 +25,9 @@ pub enum Component {
     WeekdayMonday(modifier::WeekdayMonday),
     /// Week of the ISO week date.
     WeekNumberIso(modifier::WeekNumberIso),
-    /// Week of the year, where weeks begin on Sunday.
+    /// Week of the year, with weeks that begin on Sunday.
     WeekNumberSunday(modifier::WeekNumberSunday),
-    /// Week of the year, where weeks begin on Monday.
+    /// Week of the year, with weeks that begin on Monday.
     WeekNumberMonday(modifier::WeekNumberMonday),
     /// Calendar year of four digits, or of up to six after a sign.
     CalendarYearFullExtendedRange(modifier::CalendarYearFullExtendedRange),
@@ -49,9 +49,9 @@ pub enum Component {
     CalendarYearLastTwo(modifier::CalendarYearLastTwo),
     /// Last two digits of the ISO week year.
     IsoYearLastTwo(modifier::IsoYearLastTwo),
-    /// Hour on a clock of 12 hours.
+    /// Hour of a 12-hour clock.
     Hour12(modifier::Hour12),
-    /// Hour on a clock of 24 hours.
+    /// Hour of a 24-hour clock.
     Hour24(modifier::Hour24),
     /// Minute of the hour.
     Minute(modifier::Minute),
@@ -93,22 +93,22 @@ pub enum Period {
 /// A description that borrows its parts.
 #[derive(Clone, Copy)]
 pub enum BorrowedFormatItem<'a> {
-    /// Bytes that stand as they are.
+    /// Literal bytes.
     Literal(&'a [u8]),
-    /// Text that stands as it is.
+    /// Literal text.
     StringLiteral(&'a str),
     /// A part of a date, a time or an offset.
     Component(Component),
-    /// Items one after the other.
+    /// Items in sequence.
     Compound(&'a [Self]),
-    /// An item that may be missing.
+    /// An optional item.
     Optional(&'a Self),
-    /// The first item that reads.
+    /// Alternatives: the first item that matches.
     First(&'a [Self]),
 }
 
-/// An item of a description: `item!("-")`, a component with the modifiers that a description need not name as
-/// `item!(Day)`, or one with others as `item!(Hour24 { padding: Padding::None })`.
+/// An item of a description: a literal, `item!("-")`; a component with its default modifiers, `item!(Day)`; or one with
+/// other modifiers, `item!(Hour24 { padding: Padding::None })`.
 #[macro_export]
 macro_rules! item {
     ($text:literal) => {
@@ -130,21 +130,21 @@ macro_rules! item {
 /// A description that owns its parts.
 #[derive(Debug, Drop)]
 pub enum OwnedFormatItem {
-    /// Bytes that stand as they are.
+    /// Literal bytes.
     Literal(Vec<u8>),
-    /// Text that stands as it is.
+    /// Literal text.
     StringLiteral(String),
     /// A part of a date, a time or an offset.
     Component(Component),
-    /// Items one after the other.
+    /// Items in sequence.
     Compound(Vec<Self>),
-    /// An item that may be missing.
+    /// An optional item.
     Optional(Box<Self>),
-    /// The first item that reads.
+    /// Alternatives: the first item that matches.
     First(Vec<Self>),
 }
 
-/// A description of version 3, in which a skipped part ends between characters.
+/// A description of version 3, in which skipped bytes must end between characters.
 #[derive(Drop)]
 pub struct FormatDescriptionV3<'a> {
     /// The items.
@@ -156,31 +156,31 @@ pub struct FormatDescriptionV3<'a> {
 pub enum FormatDescriptionV3Inner<'a> {
     /// A part of a date, a time or an offset.
     Component(Component),
-    /// Text that stands as it is.
+    /// Literal text.
     BorrowedLiteral(&'a str),
-    /// Items one after the other.
+    /// Items in sequence.
     BorrowedCompound(&'a [Self]),
-    /// An item that may be missing.
+    /// An optional item.
     BorrowedOptional {
         /// Whether a formatter writes the item.
         format: bool,
         /// The item.
         item: &'a Self,
     },
-    /// The first item that reads.
+    /// Alternatives: the first item that matches.
     BorrowedFirst(&'a [Self]),
-    /// Text that stands as it is.
+    /// Literal text.
     OwnedLiteral(String),
-    /// Items one after the other.
+    /// Items in sequence.
     OwnedCompound(Vec<Self>),
-    /// An item that may be missing.
+    /// An optional item.
     OwnedOptional {
         /// Whether a formatter writes the item.
         format: bool,
         /// The item.
         item: Box<Self>,
     },
-    /// The first item that reads.
+    /// Alternatives: the first item that matches.
     OwnedFirst(Vec<Self>),
 }
 
@@ -198,7 +198,7 @@ impl Debug for BorrowedFormatItem<'_> {
     }
 }
 
-// Writes a variant that holds no item, as a derived `Debug` would.
+// Writes a variant that has no item, as a derived `Debug` would.
 fn write_field<T: Debug, W: fmt::Write>(
     name: &str,
     value: &T,
@@ -207,7 +207,7 @@ fn write_field<T: Debug, W: fmt::Write>(
     f.debug_tuple(name).field(value).finish()
 }
 
-// Writes the variant that holds an item that may be missing, as a derived `Debug` would.
+// Writes the variant of an optional item, as a derived `Debug` would.
 #[cycle(debug_borrowed)]
 fn write_borrowed_optional<W: fmt::Write>(
     item: &BorrowedFormatItem<'_>,
@@ -218,7 +218,7 @@ fn write_borrowed_optional<W: fmt::Write>(
     f.write_str(")")
 }
 
-// Writes a variant that holds a list of items, as a derived `Debug` would.
+// Writes a variant that has a list of items, as a derived `Debug` would.
 #[cycle(debug_borrowed)]
 fn write_borrowed_list<W: fmt::Write>(
     name: &str,
@@ -279,7 +279,7 @@ impl Debug for FormatDescriptionV3Inner<'_> {
     }
 }
 
-// Writes a variant that holds a list of items, as a derived `Debug` would.
+// Writes a variant that has a list of items, as a derived `Debug` would.
 #[cycle(debug_v3)]
 fn write_v3_list<W: fmt::Write>(
     name: &str,
@@ -297,7 +297,7 @@ fn write_v3_list<W: fmt::Write>(
     f.write_str("])")
 }
 
-// Writes a variant that holds an item that may be missing, as a derived `Debug` would.
+// Writes a variant of an optional item, as a derived `Debug` would.
 #[cycle(debug_v3)]
 fn write_v3_optional<W: fmt::Write>(
     name: &str,

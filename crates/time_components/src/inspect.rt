@@ -1,32 +1,32 @@
-//! What an item of a description is, and the steps that one written as text is kept as.
+//! A uniform view of the items of any description, and the steps that a parsed description is stored as.
 ghost use Rattle.std.specs.Prelude.{◌≡◌};
 ghost use Rattle.time_components.specs.Tree.{borrowed_shape, owned_shape, v3_shape, Tree, node_tree};
 
 use crate::{BorrowedFormatItem, Component, FormatDescriptionV3Inner, OwnedFormatItem};
 
-/// What an item is, in terms of other items of its type.
+/// An item of a description, in terms of other items of its type.
 #[derive_where(Clone, Copy)]
 pub enum Node<'a, I> {
-    /// Bytes that stand as they are.
+    /// Literal bytes.
     Literal(&'a [u8]),
     /// A component.
     Component(&'a Component),
-    /// A component; an `Ignore` has to end between characters.
+    /// A component; an `Ignore` must end between characters.
     WholeComponent(&'a Component),
-    /// Items one after the other.
+    /// Items in sequence.
     List(&'a [I]),
-    /// An item that may be missing.
+    /// An optional item.
     Optional(&'a I),
-    /// The first item that reads.
+    /// Alternatives: the first item that matches.
     First(&'a [I]),
 }
 
-/// An item that says what it is.
+/// An item that can be viewed as a [`Node`].
 pub trait Inspect {
-    /// The tree that the item is.
+    /// The tree of the item.
     ghost shape: { Self → Tree };
 
-    /// What the item is.
+    /// The item as a node.
     fn node(&self) -> Node<'_, Self>
         ensures { shape self.now ≡ node_tree shape result };
 }
@@ -82,14 +82,14 @@ impl Inspect for FormatDescriptionV3Inner<'_> {
     }
 }
 
-/// What the steps of a group are to one another.
+/// How the steps of a group combine.
 #[derive(Clone, Copy, Debug, PartialEq, Eq)]
 pub enum Group {
-    /// They are read in turn, or else nothing is.
+    /// All of them in sequence, or nothing.
     Optional,
-    /// The first of them that reads is read.
+    /// The first of them that matches.
     First,
-    /// They are read in turn.
+    /// All of them in sequence.
     List,
 }
 
@@ -102,7 +102,7 @@ pub enum Step {
     More(u8),
     /// A component.
     Component(Component),
-    /// So many steps after this one are a group.
+    /// A group, with the number of steps after this one that belong to it.
     Group(Group, usize),
 }
 

@@ -1,8 +1,7 @@
-//! Laws of the definitions that the contracts of this crate cite: each function does nothing, and its
-//! contract is the law.
+//! Laws of the definitions in this crate's contracts: each function does nothing, and its contract is the law.
 ghost use Rattle.time_components.specs.Spelling.{OneSpelling};
 
-/// For one input at most one beginning spells a component, with one value.
+/// At most one prefix of an input spells a component, and it has one value.
 pub fn law_one_spelling()
     ensures { OneSpelling }
 {}

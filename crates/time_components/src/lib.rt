@@ -1,6 +1,6 @@
-//! Readers of the components of date-time texts, and the descriptions that name them.
+//! Parsers of the components of date-time texts, and the descriptions that name them.
 //!
-//! The readers of digits, and what a reader answers, are those of `time_digits`.
+//! The parsers of digits, and the result type of a parser, are those of `time_digits`.
 #![tactic(auto)]
 
 pub mod component;

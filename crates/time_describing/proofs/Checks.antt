@@ -1,4 +1,4 @@
--- How it is told, of one item after the other, whether a text describes them.
+-- Checks one item after the other, whether a text describes them.
 use Rattle.std.specs.List.{prefix_len}
 use Rattle.std.specs.Prelude.{◌==◌, ◌&&◌, IsErr}
 use Rattle.std.proofs.Common.{◌≡◌, ℕ, zero, suc, ◌+◌, ◌-◌, ◌<◌, List, [], ◌∷◌, length, map, Bool, true, false, not, refl, ap, sym, ◌∙◌, ⊎_elim, arith, ◌≤◌, ◌++◌, drop, get_or, append_assoc, append-nil, length-append, Result, Ok, Err}
@@ -11,7 +11,7 @@ use Rattle.time_descriptions.specs.Writing.{lists_text, tree_text}
 use Rattle.time_describing.specs.Described.{are_items, are_lists, are_plain, begins_run, is_item, is_list, is_run, is_some}
 use Rattle.time_describing.specs.Parts.{list_text, Puts}
 
--- Bytes stand for themselves where as many in front do as there are.
+-- Bytes need no backslash if that holds for as many at the start as there are.
 
 one_more : (n m : ℕ) → (n == m) ≡ (1 + n == suc m)
 one_more n m =
@@ -72,7 +72,7 @@ pub some_trees : {X : Type 0} (f : X → Tree) (xs : List X) → is_some (trees 
 some_trees f [] = refl
 some_trees f (x ∷ xs) = sym (ap not (ne_eqb (suc (length xs)) 0 (λ e. omega (arith, e))))
 
--- Lists, of which those before are told.
+-- Lists, after some of them were checked.
 pub record ListsLeft (depth : ℕ) (all left : Trees) : Type 0 where
   pub is : are_lists depth all ≡ are_lists depth left
 
@@ -92,7 +92,7 @@ module _ {depth : ℕ} {all left : Trees} (h : ListsLeft depth all left) where
   unfolding are_lists
   lists-end e = sym (h.is ∙ ap (are_lists depth) e)
 
--- Items in turn, of which those before are told; and whether the last of them is a literal that stands for itself.
+-- Items in turn, after some of them were checked; and whether the last of those is a literal that needs no backslash.
 pub record ItemsLeft (depth : ℕ) (nested : Bool) (all left : Trees) (after : Bool) : Type 0 where
   pub is : are_items depth nested all ≡ (not (after && begins_run left) && are_items depth nested left)
 
@@ -136,7 +136,7 @@ module _ {depth : ℕ} {nested : Bool} {all left : Trees} {after : Bool} (h : It
       no_run true = refl
       no_run false = refl
 
--- ---- What is written of items in turn, and how many nodes they have
+-- ---- The text of items in turn, and their number of nodes
 
 -- the number of nodes
 abbrev mutual
@@ -151,7 +151,7 @@ abbrev mutual
   size_of_all none = 0
   size_of_all (more t ts) = size t + size_of_all ts
 
--- an item of a list has no more nodes than all of them
+-- an item of a list has at most as many nodes as the list
 pub size-item : {X : Type 0} (f : X → Tree) (xs : List X) (i : ℕ) (x : X) → i < length xs → x ≡ get_or xs i x →
     size (f x) ≤ size_of_all (trees (map f xs))
 size-item f [] i x within is = absurd (omega arith)
@@ -170,7 +170,7 @@ module _ {X : Type 0} (f : X → Tree) (xs : List X) (i : ℕ) where
   pub trees_from-end : length xs ≤ i → trees_from f i xs ≡ none
   trees_from-end end = at_drop_all (λ ys. trees (map f ys)) xs i end
 
--- The bytes that are still to be put after those that stand make up all that is put after the old ones.
+-- The bytes that are still to be written, after those written so far, complete all bytes after the old ones.
 pub record Leaves (old all now left : List ℕ) : Type 0 where
   pub is : old ++ all ≡ now ++ left
 
@@ -178,7 +178,7 @@ pub leaves-all : (old all : List ℕ) → Leaves old all old all
 leaves-all old all = record { is = refl }
 
 module _ {old all now left : List ℕ} (h : Leaves old all now left) where
-  -- some of them are put
+  -- some of them are written
   pub leaves-more : (bytes rest new : List ℕ) → left ≡ bytes ++ rest → new ≡ now ++ bytes → Leaves old all new rest
   leaves-more bytes rest new e put = record {
     is = h.is ∙ ap (λ (x : List ℕ). now ++ x) e ∙ sym (append_assoc now bytes rest) ∙ ap (λ (x : List ℕ). x ++ rest) (sym put);
@@ -189,7 +189,7 @@ module _ {old all now left : List ℕ} (h : Leaves old all now left) where
   leaves-full n bytes rest e full =
       omega (arith, full, length-append bytes rest, ap length e, ap length h.is, length-append old all, length-append now left)
 
-  -- none is left
+  -- no bytes are left
   pub leaves-none : left ≡ [] → now ≡ old ++ all
   leaves-none e = sym (h.is ∙ ap (λ (x : List ℕ). now ++ x) e ∙ append-nil now)
 
@@ -197,15 +197,15 @@ module _ {old all now left : List ℕ} (h : Leaves old all now left) where
 pub lists_text-more : (t : Tree) (ts : Trees) → lists_text (more t ts) ≡ list_text t ++ lists_text ts
 lists_text-more t ts = ap (λ (x : List ℕ). 32 ∷ 91 ∷ x) (sym (append_assoc (tree_text t) (93 ∷ []) (lists_text ts)))
 
--- ---- Several writers in turn put what each of them puts
+-- ---- Several writers in turn write the bytes of each
 
 module _ {A E : Type 0} (n : ℕ) (a b : List ℕ) {whole : List ℕ} (is : whole ≡ a ++ b) (old : List ℕ) where
-  -- the first is done
+  -- the first writer is done
   pub puts_on : (mid : List ℕ) (r : Result A E) (new : List ℕ) → mid ≡ old ++ a → Puts n b mid r new → Puts n whole old r new
   puts_on mid (Ok x) new m p = p ∙ ap (λ (l : List ℕ). l ++ b) m ∙ append_assoc old a b ∙ ap (λ (l : List ℕ). old ++ l) (sym is)
   puts_on mid (Err e) new m p = omega (arith, p, ap length m, ap length is, length-append old a, length-append a b)
 
-  -- there is no room for the first
+  -- there is no room for the bytes of the first writer
   pub puts_first : (r : Result A E) (new : List ℕ) → IsErr r → n < length old + length a → Puts n whole old r new
   puts_first (Ok x) new e full = absurd (false≢true e)
   puts_first (Err e) new _ full = omega (arith, full, ap length is, length-append a b)

@@ -1,4 +1,4 @@
--- What is written of a tree that is described reads back as it.
+-- The text of a tree that is described parses as the tree.
 use Rattle.std.specs.List.{prefix_len}
 use Rattle.std.specs.Prelude.{◌==◌, ◌&&◌, ◌||◌, codes}
 use Rattle.std.proofs.Common.{◌≡◌, ℕ, ◌≤◌, List, [], ◌∷◌, ◌++◌, length, Bool, true, false, not, Ok, refl, ap, sym, subst, ◌∙◌, append_assoc, arith, suc, ◌-◌, length-append}
@@ -20,7 +20,7 @@ use Rattle.time_descriptions.proofs.WrittenLists.{text_of, ChoiceBack, GroupsBac
 use Rattle.time_descriptions.proofs.Written.{first_opens, group_read, no_next, optional_opens}
 use Rattle.time_describing.specs.Described.{are_plain, begins_run, has_words, is_literal, is_run}
 
--- An item reads back as it.
+-- The text of an item parses as the item.
 pub record Back (depth : ℕ) (nested : Bool) (i : Item) : Type 0 where
   pub reads : (after : List ℕ) → (is_run (tree_of i) ≡ true → stops nested after ≡ true)
       → item versions.Two depth nested (item_text i ++ after) ≡ Ok (i, after)
@@ -28,7 +28,7 @@ pub record Back (depth : ℕ) (nested : Bool) (i : Item) : Type 0 where
   pub on : (after : List ℕ) → ends nested (item_text i ++ after) ≡ false
   pub some : 1 ≤ length (item_text i)
 
--- Items in turn do.
+-- The text of items in turn parses as them.
 pub record AllBack (depth : ℕ) (nested : Bool) (is : List Item) : Type 0 where
   pub reads : (m : ℕ) (after : List ℕ) → length (text_of is) ≤ m → ends nested after ≡ true
       → items_by (item versions.Two depth nested) m nested (text_of is ++ after) ≡ Ok (is, after)
@@ -65,7 +65,7 @@ escaped_is_back depth nested b e =
       some = omega (arith, ap length w);
     }
 
--- A literal that stands for itself.
+-- A literal that needs no backslash.
 
 module _ (nested : Bool) where
   plain : ℕ → Bool
@@ -134,7 +134,7 @@ literal_is_back depth nested b [] e = by_escape (is_escaped b) refl
         let p : are_plain nested (b ∷ []) ≡ true = subst P q e in
         run_is_back depth nested b [] p (ap (written_byte b) q) (ap not q)
 
--- ---- What is written of items in turn, of lists and of groups that are described reads back as them
+-- ---- The text of items in turn, of lists and of groups that are described parses as them
 
 -- Items in turn.
 

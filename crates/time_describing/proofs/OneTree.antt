@@ -1,4 +1,4 @@
--- Trees of which the same is written are one tree.
+-- Trees are equal if the texts that are written of them are.
 use Rattle.std.specs.Prelude.{◌&&◌, is_ok}
 use Rattle.std.proofs.Common.{◌≡◌, ℕ, zero, suc, List, [], ◌∷◌, length, Bool, true, false, not, Ok, refl, ap, sym, subst, ◌∙◌, append-nil, arith, ◌≤◌, Err, inl, inr}
 use Rattle.std.proofs.lemmas.Bool.{and_parts, false≢true, not-true}
@@ -18,7 +18,7 @@ use Rattle.time_describing.specs.Described.{are_items, are_lists, begins_run, ha
 use Rattle.time_describing.proofs.DescribedText.{AllBack, Back, component_is_back, literal_is_back, choice_is_back, first_is_back, groups_are_back, list_is_back, more_back, none_back, optional_is_back}
 use Rattle.time_describing.proofs.ReadDescribed.{read_is_described}
 
--- ---- A tree that is described has items, and what is written of it describes it
+-- ---- A tree that is described has items, and the text that is written of it describes it
 
 abbrev IsBacked : ℕ → Bool → Tree → Type 0
 IsBacked depth nested t = (i : Item) × (tree_of i ≡ t) × Back depth nested i
@@ -130,14 +130,14 @@ unfolding Describes items_in
 one_tree_of version text a b p q =
     p.2 ∙ ap (λ (is : List Item). sequence (trees_of (items_of is))) (ap items_in (sym p.1 ∙ q.1)) ∙ sym q.2
 
--- a text that describes a tree is not refused, where there is room for as many steps as it has bytes
+-- parsing a text that describes a tree gives no error, if there is room for as many steps as it has bytes
 pub not_refused : (n : ℕ) (version : Version) (text : List ℕ) (r : Refusal) (tree : Tree) → Describes version text tree
     → length text ≤ n → IsRefused n version text r → ⊥
 unfolding Describes
 not_refused n version text r tree d h (inl x) = omega (arith, x.1, h)
 not_refused n version text r tree d h (inr x) = false≢true (ap is_ok (sym x.1 ∙ d.1))
 
--- what is written of a tree that some text describes, describes it
+-- the text that is written of a tree that some text describes, describes it
 pub text_describes : (tree : Tree) → HasText tree → Describes versions.Two (tree_text tree) tree
 text_describes tree h = described_by_text tree (read_is_described h.0 tree h.1)
 

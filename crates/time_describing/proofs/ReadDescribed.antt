@@ -1,4 +1,4 @@
--- What a text describes is a tree that is described.
+-- The tree that a text describes is one that is described.
 use Rattle.std.specs.List.{prefix_len}
 use Rattle.std.specs.Prelude.{◌==◌, ◌&&◌, IfOk, if◌then◌else◌}
 use Rattle.std.proofs.Common.{◌≡◌, ℕ, zero, suc, ◌+◌, List, [], ◌∷◌, take, drop, length, Bool, true, false, not, Option, Some, None, Result, Ok, Err, refl, ap, sym, ◌∙◌, arith, subst}
@@ -24,7 +24,7 @@ use Rattle.time_descriptions.proofs.WrittenLists.{list_item}
 use Rattle.time_descriptions.proofs.Written.{IsNamed, item_pick, word_named}
 use Rattle.time_describing.specs.Described.{are_items, are_lists, are_plain, begins_run, has_words, is_item, is_list, is_run, is_some, is_described}
 
--- The item in front of the text is one that is described. A run ends where no plain byte follows, and begins with one.
+-- The item at the start of the text is one that is described. A run ends before a byte that isn't plain, and begins with a plain one.
 pub record IsFine (depth : ℕ) (nested : Bool) (text : List ℕ) (x : Item × List ℕ) : Type 0 where
   pub fine : is_item depth nested (tree_of x.0) ≡ true
   pub ended : is_run (tree_of x.0) ≡ true → stops nested x.1 ≡ true
@@ -141,7 +141,7 @@ leaf_fine depth nested (b ∷ rest) e =
     (escaped_fine depth nested (b ∷ rest) rest)
     (λ x y. run_fine depth nested b rest x y e)
 
--- Items in turn, and lists, by how an item is read.
+-- Items in turn, and lists, by how an item is parsed.
 
 none_fine : (depth : ℕ) (nested : Bool) (text rest : List ℕ) → AreFine depth nested text ([], rest)
 unfolding are_items
@@ -260,7 +260,7 @@ module _ (depth : ℕ) (back : (text : List ℕ) → ends true text ≡ false �
   pub choice_fine : (opening n : ℕ) (text : List ℕ) → IfOk (lists_by (list_by (item versions.Two depth true) opening) (suc n) text) (ChoiceFine depth)
   choice_fine opening n text = first_fine opening n text (lists_fine opening n)
 
--- ---- What a text describes is a tree that is described: its groups, and the whole of it
+-- ---- The tree that a text describes is one that is described: its groups, and the whole tree
 
 optional_fine : (depth : ℕ) (nested : Bool) (text rest : List ℕ) (is : List Item) → are_items depth true (trees_of (items_of is)) ≡ true
     → IsFine (suc depth) nested text (group groups.Optional (items_of is), rest)

@@ -1,4 +1,4 @@
--- Which trees a text of version 2 describes: those of items in turn.
+-- The trees that a text of version 2 describes: those of items in turn.
 use Rattle.std.specs.Prelude.{ℕ, zero, suc, List, [], ◌∷◌, Bool, true, false, not, ◌&&◌, ◌||◌, nat_lt, ◌≡◌, ◌<◌, length, ◌↔◌}
 use Rattle.time_components.specs.declared.format_description.Component.{Component}
 use Rattle.time_components.specs.declared.format_description.Component.TheVariants as component
@@ -14,7 +14,7 @@ abbrev pub is_escape : List ℕ → Bool
 is_escape (b ∷ []) = is_escaped b
 is_escape bytes = false
 
--- bytes that stand for themselves
+-- bytes that need no backslash
 abbrev pub are_plain : Bool → List ℕ → Bool
 are_plain nested [] = true
 are_plain nested (b ∷ bytes) = is_plain versions.Two nested b && are_plain nested bytes
@@ -23,7 +23,7 @@ abbrev pub is_literal : Bool → List ℕ → Bool
 is_literal nested [] = false
 is_literal nested (b ∷ bytes) = is_escape (b ∷ bytes) || are_plain nested (b ∷ bytes)
 
--- a literal that stands for itself; one after another would be one literal
+-- a literal that needs no backslash; two in a row would be parsed as one literal
 abbrev pub is_run : Tree → Bool
 is_run (literal bytes) = not (is_escape bytes)
 is_run _ = false
@@ -42,7 +42,7 @@ is_some none = false
 is_some (more t ts) = true
 
 unfoldable mutual
-  -- an item, in which at most depth lists stand inside one another
+  -- an item with at most depth nested lists
   pub is_item : ℕ → Bool → Tree → Bool
   is_item depth nested (literal bytes) = is_literal nested bytes
   is_item depth nested (component_tree ends c) = not ends && has_words c
@@ -72,27 +72,27 @@ abbrev pub is_described : Tree → Bool
 is_described (sequence ts) = are_items most_lists false ts
 is_described _ = false
 
--- ---- The text that is written of a tree, and what has none
+-- ---- The text of a tree, and trees without a text
 
 -- Some text of version 2 describes the tree.
 abbrev pub HasText : Tree → Type 0
 HasText tree = (text : List ℕ) × Describes versions.Two text tree
 
--- These bytes are what is written of the tree, and describe it.
+-- These bytes are the text that is written of the tree, and describe it.
 abbrev pub IsTextOf : Tree → List ℕ → Type 0
 IsTextOf tree bytes = (bytes ≡ tree_text tree) × Describes versions.Two bytes tree
 
--- Why no bytes are, where there is room for n: no text describes the tree, or what is written of it is longer.
+-- Why there is no text of at most n bytes: no text describes the tree, or the text that is written of it is longer.
 abbrev pub IsNoText : ℕ → Tree → NoText → Type 0
 IsNoText n tree no_text.Undescribed = HasText tree → ⊥
 IsNoText n tree no_text.TooLong = HasText tree × (n < length (tree_text tree))
 
--- ---- What holds of texts of descriptions
+-- ---- Laws of texts of descriptions
 
--- The trees that some text describes are those of items in turn that may stand so.
+-- Texts describe exactly the trees that are valid items in turn.
 abbrev pub DescribedTrees : Type 0
 DescribedTrees = (tree : Tree) → (is_described tree ≡ true) ↔ HasText tree
 
--- Trees of which the same is written are one tree.
+-- Trees are equal if the texts that are written of them are.
 abbrev pub OneTree : Type 0
 OneTree = (a b : Tree) → HasText a → HasText b → tree_text a ≡ tree_text b → a ≡ b

@@ -1,7 +1,7 @@
 -- No public contract rests on this file.
 --
--- The parts of what is written of a component, between its brackets: its name with the modifiers that tell its form,
--- its padding, another modifier, and the digits of its count.
+-- The parts of the text of a component, between its brackets: its name with the modifiers that select its form, its
+-- padding, another modifier, and the digits of its count.
 use Rattle.std.specs.Prelude.{ℕ, List, [], ◌++◌, codes, if◌then◌else◌, ◌≡◌, ◌+◌, ◌<◌, length, Result, Ok, Err}
 use Rattle.std.specs.Fmt.{decimal}
 use Rattle.time_components.specs.declared.format_description.Component.{Component}
@@ -103,14 +103,14 @@ abbrev pub count_part : Component → List ℕ
 count_part (component.Ignore m) = decimal m.count.value
 count_part _ = []
 
--- all of them
+-- all parts in turn
 abbrev pub parts_of : Component → List ℕ
 parts_of c = name_part c ++ (padding_part c ++ (modifier_part c ++ count_part c))
 
--- ---- What a writer does to the bytes that stand
+-- ---- The effect of a writer on the bytes written so far
 
--- These bytes are put after the old ones, where there is room for n in all; where there isn't, nothing is said of what
--- stands.
+-- These bytes are appended to the old ones, if there is room for n in all; if there isn't, the bytes afterwards are
+-- unspecified.
 abbrev pub Puts : {A E : Type 0} → ℕ → List ℕ → List ℕ → Result A E → List ℕ → Type 0
 Puts n bytes old (Ok x) new = new ≡ old ++ bytes
 Puts n bytes old (Err e) new = n < length old + length bytes

@@ -1,4 +1,4 @@
-//! What is written of a component.
+//! Texts of components in descriptions.
 ghost use Rattle.std.specs.Prelude.{◌≡◌, ◌++◌, codes, false};
 ghost use Rattle.time_components.specs.Tree as tree;
 ghost use Rattle.time_descriptions.specs.Writing as writing;
@@ -10,7 +10,7 @@ use crate::writing::{DescriptionText, Full};
 use itoa::Buffer;
 use time_components::{Component, Padding, SubsecondDigits, TrailingInput};
 
-// The name, with the modifiers that tell the form.
+// The name, with the modifiers that select the form.
 fn name_part(component: Component) -> &'static str
     ensures { result.now ≡ parts.name_part component }
 {
@@ -57,7 +57,7 @@ fn name_part(component: Component) -> &'static str
     }
 }
 
-// What the modifiers say of a component that has one of the names, or else the last value.
+// An expression over the modifiers of a component with one of the names, or else the last value.
 macro_rules! of_names {
     ($component:ident, $modifiers:ident: $($($name:ident)|+ => $value:expr,)+ _ => $other:expr) => {
         match $component {
@@ -67,7 +67,7 @@ macro_rules! of_names {
     };
 }
 
-// What fills the number up, which of a component without a number is nothing to write.
+// The padding of the number. For a component without a number it is one that isn't written.
 fn padding_of(component: Component) -> Padding
     ensures { writing.padding_text result ≡ parts.padding_part component }
 {
@@ -103,7 +103,7 @@ fn sign_text(sign_is_mandatory: bool) -> &'static str
     }
 }
 
-// A modifier that is written where the flag isn't set.
+// A modifier that is written if the flag isn't set.
 fn where_false(modifier: &'static str, is_set: bool) -> &'static str
     ensures { result.now ≡ writing.where_false modifier.now is_set }
 {
@@ -136,7 +136,7 @@ fn trailing_input_text(trailing_input: TrailingInput) -> &'static str
     }
 }
 
-// The modifier after the padding, where it isn't the default.
+// The modifier after the padding, if it isn't the default.
 fn modifier_part(component: Component) -> &'static str
     ensures { result.now ≡ parts.modifier_part component }
 {
@@ -156,7 +156,7 @@ fn modifier_part(component: Component) -> &'static str
     )
 }
 
-// Puts the digits of a count.
+// Writes the digits of a count.
 fn put_count<const N: usize>(
     component: Component,
     text: &mut DescriptionText<N>,
@@ -169,7 +169,7 @@ fn put_count<const N: usize>(
     }
 }
 
-// Puts what stands in the component's brackets.
+// Writes the contents of the component's brackets.
 fn put_words<const N: usize>(
     component: Component,
     text: &mut DescriptionText<N>,
@@ -182,7 +182,7 @@ fn put_words<const N: usize>(
     put_count(component, text)
 }
 
-/// Puts the component in its brackets.
+/// Writes the component in its brackets.
 pub(crate) fn put_component<const N: usize>(
     component: Component,
     text: &mut DescriptionText<N>,

@@ -1,4 +1,4 @@
-//! Which items a text describes, and the text of items.
+//! Decides which items a text can describe, and formats items.
 ghost use Rattle.std.specs.Prelude.{◌≡◌, ◌&&◌, map, IfErr, IfOk};
 ghost use Rattle.std.specs.List.{prefix_len};
 ghost use Rattle.time_components.specs.Tree.{trees};
@@ -12,7 +12,7 @@ use crate::writing::{DescriptionText, put_item};
 use time_components::{Component, Inspect, Node};
 use time_descriptions::{Description, parse_borrowed};
 
-// How many lists may stand inside one another.
+// The greatest depth of nested lists.
 const MOST_LISTS: usize = 8;
 
 // Whether it is one byte that is written after a backslash.
@@ -22,7 +22,7 @@ fn is_escape(bytes: &[u8]) -> bool
     matches!(bytes, [b'[' | b'\\' | b']'])
 }
 
-// How many bytes in front stand for themselves.
+// The number of bytes at the start that need no backslash.
 fn plain_len(nested: bool, bytes: &[u8]) -> usize
     ensures { result ≡ prefix_len (grammar.is_plain versions.Two nested) bytes.now }
 {
@@ -45,7 +45,7 @@ fn is_literal(nested: bool, bytes: &[u8]) -> bool
     is_escape(bytes) || !bytes.is_empty() && are_plain(nested, bytes)
 }
 
-// A literal that stands for itself. Another one after it would be read with it.
+// Whether the item is a literal that needs no backslash. A text would join another one after it to one literal.
 fn is_run<I: Inspect>(item: &I) -> bool
     ensures { result ≡ described.is_run (I.shape item.now) }
 {
@@ -55,7 +55,8 @@ fn is_run<I: Inspect>(item: &I) -> bool
     }
 }
 
-// Whether words say the component. A count of 1 to 65535, which the type of an `ignore` asks for, is said by its digits.
+// Whether a text can describe the component. The type of an `ignore` limits a count to 1 to 65535, which digits can
+// write.
 fn has_words(component: Component) -> bool
     ensures { result ≡ described.has_words component }
 {
@@ -65,7 +66,7 @@ fn has_words(component: Component) -> bool
     }
 }
 
-// Whether a text has the item, where so many lists may stand inside one another.
+// Whether a text can describe the item, with at most `depth` nested lists.
 #[cycle(described)]
 fn is_item<I: Inspect>(depth: usize, nested: bool, item: &I) -> bool
     ensures { result ≡ described.is_item depth nested (I.shape item.now) }
@@ -80,7 +81,7 @@ fn is_item<I: Inspect>(depth: usize, nested: bool, item: &I) -> bool
     }
 }
 
-// Whether a text has these lists as a choice, which has one at least.
+// Whether a text can describe these lists as a choice, which has at least one.
 #[cycle(described)]
 #[tactic(auto, using(crate::proofs::Checks::some_trees))]
 fn is_choice<I: Inspect>(depth: usize, lists: &[I]) -> bool
@@ -89,7 +90,7 @@ fn is_choice<I: Inspect>(depth: usize, lists: &[I]) -> bool
     !lists.is_empty() && are_lists(depth, lists)
 }
 
-// Whether a text has it as a list of a group.
+// Whether a text can describe the item as a list of a group.
 #[cycle(described)]
 #[tactic(auto, unfolding(crate::specs::Described::is_list))]
 fn is_list<I: Inspect>(depth: usize, item: &I) -> bool
@@ -101,7 +102,7 @@ fn is_list<I: Inspect>(depth: usize, item: &I) -> bool
     }
 }
 
-// Whether a text has these lists of a choice.
+// Whether a text can describe these lists of a choice.
 #[cycle(described)]
 fn are_lists<I: Inspect>(depth: usize, lists: &[I]) -> bool
     ensures { result ≡ described.are_lists depth (trees (map I.shape lists.now)) }
@@ -114,7 +115,7 @@ fn are_lists<I: Inspect>(depth: usize, lists: &[I]) -> bool
     true
 }
 
-// Whether a text has these items in turn.
+// Whether a text can describe these items in turn.
 #[cycle(described)]
 fn are_items<I: Inspect>(depth: usize, nested: bool, items: &[I]) -> bool
     ensures { result ≡ described.are_items depth nested (trees (map I.shape items.now)) }
@@ -135,10 +136,10 @@ fn are_items<I: Inspect>(depth: usize, nested: bool, items: &[I]) -> bool
 
 /// Whether a text of version 2 describes the item.
 ///
-/// One does where the item is a list, of items that are a component; a literal; an optional list; or a choice of one list
-/// or more. A literal is one byte that is written after a backslash, `[`, `\` or `]`; or else it is bytes without those
-/// (outside all lists `]` is one of them), at least one, and then no other such literal follows it. Eight lists may stand
-/// inside one another. None describes a component of version 3, which has to end between characters.
+/// The item has to be a list of items, each a component, a literal, an optional list, or a choice of at least one list.
+/// A literal is one byte that is written after a backslash, `[`, `\` or `]`; or else it is at least one byte without
+/// those (outside all lists it may contain `]`), and then no other such literal follows it. Lists may be nested eight
+/// deep. No text describes a component of version 3, which has to end between characters.
 pub fn is_described<I: Inspect>(item: &I) -> bool
     ensures { result ≡ described.is_described (I.shape item.now) }
 {
@@ -151,19 +152,19 @@ pub fn is_described<I: Inspect>(item: &I) -> bool
 /// Why an item has no text.
 #[derive(Clone, Copy, Debug, PartialEq, Eq)]
 pub enum NoText {
-    /// No text describes it, as [`is_described`](crate::is_described) says.
+    /// No text describes it, by [`is_described`](crate::is_described).
     Undescribed,
-    /// Its text has more bytes than there is room for.
+    /// Its text is longer than the limit.
     TooLong,
 }
 
-/// The text that describes an item, by version 2, of at most `N` bytes. Of a component's modifiers it has those that
-/// aren't the default, and of white space one byte before each modifier and each list.
+/// The text that describes an item, by version 2, of at most `N` bytes. It has those modifiers of a component that
+/// aren't the default, and as white space one byte before each modifier and each list.
 ///
 /// # Errors
 ///
-/// [`NoText::Undescribed`] exactly where no text describes the item, whatever its length; [`NoText::TooLong`] exactly
-/// where one does, and this one has more than `N` bytes.
+/// [`NoText::Undescribed`] exactly if no text describes the item, whatever its length; [`NoText::TooLong`] exactly if a
+/// text does, and this one has more than `N` bytes.
 pub fn text_of<const N: usize, I: Inspect>(item: &I) -> Result<DescriptionText<N>, NoText>
     ensures ok { IfOk result (λ text. IsTextOf (I.shape item.now) text.bytes.items) }
     ensures err { IfErr result (λ e. IsNoText N (I.shape item.now) e) }
@@ -178,11 +179,11 @@ pub fn text_of<const N: usize, I: Inspect>(item: &I) -> Result<DescriptionText<N
     }
 }
 
-/// The description of an item, of at most `N` steps: its text, read back. It has the item's tree.
+/// The description of an item, of at most `N` steps: its text, parsed again. It has the item's tree.
 ///
 /// # Errors
 ///
-/// Those of [`text_of`].
+/// The errors of [`text_of`].
 pub fn description_of<const N: usize, I: Inspect>(item: &I) -> Result<Description<N>, NoText>
     ensures ok { IfOk result (λ d. description.shape d ≡ I.shape item.now) }
     ensures err { IfErr result (λ e. IsNoText N (I.shape item.now) e) }

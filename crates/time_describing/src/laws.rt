@@ -1,12 +1,12 @@
-//! What holds of texts of descriptions, each as a function's contract.
+//! Laws of texts of descriptions, each as a function's contract.
 ghost use Rattle.time_describing.specs.Described.{DescribedTrees, OneTree};
 
-/// A text of version 2 describes a tree exactly where the tree is of items in turn that may stand so.
+/// Texts of version 2 describe exactly the trees that are valid items in turn.
 pub fn law_described_trees()
     ensures { DescribedTrees }
 {}
 
-/// Trees that texts describe, and of which the same text is written, are one tree.
+/// Trees that texts describe are equal if the texts that are written of them are.
 #[tactic(auto, using(crate::proofs::OneTree::one_tree))]
 pub fn law_one_tree()
     ensures { OneTree }

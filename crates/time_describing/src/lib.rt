@@ -1,4 +1,4 @@
-//! The texts that describe items, as [`time_descriptions`] reads them in version 2.
+//! Formats items as texts of descriptions, which [`time_descriptions`] parses in version 2.
 #![tactic(auto)]
 
 mod component;

@@ -1,4 +1,4 @@
-//! What is written of items, in a text of at most so many bytes.
+//! Writes items into a text of limited length.
 ghost use Rattle.std.specs.Prelude.{map, ◌≡◌, ◌≤◌, [], length};
 ghost use Rattle.time_components.specs.Tree as tree;
 ghost use Rattle.time_components.specs.Tree.{trees};
@@ -9,7 +9,7 @@ use crate::component::put_component;
 use arrayvec::ArrayVec;
 use time_components::{Inspect, Node};
 
-// Puts a literal, with a backslash before a byte that is none by itself.
+// Writes a literal, with a backslash before a byte that needs one.
 fn put_literal<const N: usize>(bytes: &[u8], text: &mut DescriptionText<N>) -> Result<(), Full>
     ensures { Puts N (tree_text (tree.literal bytes.now)) text.old.bytes.items result text.new.bytes.items }
 {
@@ -19,7 +19,7 @@ fn put_literal<const N: usize>(bytes: &[u8], text: &mut DescriptionText<N>) -> R
     text.put(bytes)
 }
 
-/// Puts the text of an item.
+/// Writes an item.
 #[cycle(items)]
 pub(crate) fn put_item<const N: usize, I: Inspect>(
     item: &I,
@@ -38,7 +38,7 @@ pub(crate) fn put_item<const N: usize, I: Inspect>(
     }
 }
 
-// Puts the texts of items in turn.
+// Writes items in turn.
 #[cycle(items)]
 fn put_items<const N: usize, I: Inspect>(
     items: &[I],
@@ -52,7 +52,7 @@ fn put_items<const N: usize, I: Inspect>(
     Ok(())
 }
 
-// Puts an item that may be missing.
+// Writes an optional item.
 #[cycle(items)]
 fn put_optional<const N: usize, I: Inspect>(
     item: &I,
@@ -65,7 +65,7 @@ fn put_optional<const N: usize, I: Inspect>(
     text.put(b"]]")
 }
 
-// Puts a choice.
+// Writes a choice.
 #[cycle(items)]
 fn put_first<const N: usize, I: Inspect>(
     items: &[I],
@@ -79,7 +79,7 @@ fn put_first<const N: usize, I: Inspect>(
     text.put(b"]")
 }
 
-// Puts the lists of a choice.
+// Writes the lists of a choice.
 #[cycle(items)]
 fn put_lists<const N: usize, I: Inspect>(
     items: &[I],
@@ -93,7 +93,7 @@ fn put_lists<const N: usize, I: Inspect>(
     Ok(())
 }
 
-// Puts a list of a choice.
+// Writes a list of a choice.
 #[cycle(items)]
 fn put_list<const N: usize, I: Inspect>(item: &I, text: &mut DescriptionText<N>) -> Result<(), Full>
     ensures { Puts N (list_text (I.shape item.now)) text.old.bytes.items result text.new.bytes.items }
@@ -109,7 +109,7 @@ pub struct DescriptionText<const N: usize> {
     pub(crate) bytes: ArrayVec<u8, N>,
 }
 
-/// There is no room for a text.
+/// A text has no room left.
 #[derive(Clone, Copy)]
 pub(crate) struct Full;
 
@@ -131,7 +131,7 @@ impl<const N: usize> DescriptionText<N> {
         }
     }
 
-    // Puts bytes after those that stand, if there is room.
+    // Appends bytes, if there is room.
     pub(crate) fn put(&mut self, bytes: &[u8]) -> Result<(), Full>
         ensures { Puts N bytes.now self.old.bytes.items result self.new.bytes.items }
     {

@@ -1,4 +1,4 @@
--- The steps of items, and one step of a list.
+-- The steps of items, and one iteration over a list.
 use Rattle.std.specs.Prelude.{◌⊎◌, slice_set, IfOk, IsErr, IsErrAnd}
 use Rattle.std.proofs.Common.{◌≡◌, ℕ, zero, suc, ◌+◌, ◌-◌, ◌<◌, ◌≤◌, List, [], ◌∷◌, ◌++◌, length, Bor, Bool, true, false, Result, Ok, Err, Some, None, refl, ap, sym, ◌∙◌, append_assoc, append-nil, arith, length-append, inl, inr}
 use Rattle.std.proofs.Math.Seq.{set-append_seam}
@@ -20,14 +20,14 @@ flat-append [] js = refl
 flat-append (i ∷ is) js =
     ap (λ (ss : List Step). steps_of i ++ ss) (flat-append is js) ∙ sym (append_assoc (steps_of i) (flat is) (flat js))
 
--- there is no room, where a fault is handed on
+-- there is no room, and the fault is propagated
 pub no_room : {A : Type 0} (steps : A → List Step) (n : ℕ) (read : Read A) (begun bytes : ℕ) (old : List Step) (r : Result (Bor (List ℕ)) Fault)
     (new : List Step) {e : Fault} → IsErr r × IsErrAnd r (λ x. x ≡ e) → e ≡ fault.NoRoom → n < length old + bytes → n - length old < begun
     → Adds steps n read begun bytes old r new
 no_room steps n read begun bytes old (Ok rest) new by h l m = absurd (false≢true by.0)
 no_room steps n read begun bytes old (Err x) new by h l m = inl (by.1 ∙ h, l, m)
 
--- a group whose steps are counted once they stand
+-- a group whose length is set after its steps are appended
 pub closed_group : (old : List Step) (g : Group) (is : List Item)
     → slice_set ((old ++ step.Group g 0 ∷ []) ++ flat is) (length old)
     (step.Group g (length ((old ++ step.Group g 0 ∷ []) ++ flat is) - length old - 1))
@@ -40,7 +40,7 @@ closed_group old g is =
     ∙ set-append_seam old (step.Group g 0) inner (step.Group g (length (old ++ step.Group g 0 ∷ inner) - length old - 1))
     ∙ ap (λ (n : ℕ). old ++ step.Group g n ∷ inner) count
 
--- more bytes
+-- a greater bound on bytes
 pub more_bytes : {A : Type 0} (steps : A → List Step) (n : ℕ) (read : Read A) (begun a b : ℕ) (old : List Step)
     (r : Result (Bor (List ℕ)) Fault) (new : List Step)
     → a ≤ b → Adds steps n read begun a old r new → Adds steps n read begun b old r new
@@ -68,7 +68,7 @@ module _ (read : List ℕ → Read Item) (nested : Bool) (rest : List ℕ) where
   unfolding items_by
   went_on m k i unread h n r = rw (h, n, r) refl
 
-  -- Where items are read, and at most m items of the rest are left.
+  -- Items are being read, with at most m items in the rest.
   module _ (whole : Read (List Item)) (front : List Item) (m : ℕ) (told : whole ≡ before front (items_by read m nested rest)) where
     pub at_end : ends nested rest ≡ true → whole ≡ Ok (front, rest)
     at_end e = told ∙ ap (before front) (ended m e) ∙ ap (λ (is : List Item). Ok (is, rest)) (append-nil front)
@@ -99,7 +99,7 @@ module _ (list : List ℕ → Read (List Item)) (inside : List ℕ) where
   unfolding lists_by
   next m k is rest further h r n = rw (h, r, n) refl
 
-  -- Where lists are read, and at most m lists are left.
+  -- Lists are being read, with at most m lists remaining.
   module _ (whole : Read (List Item)) (front : List Item) (m : ℕ) (told : whole ≡ before front (lists_by list m inside)) where
     pub at_list_fault : (e : Fault) → 0 < m → list inside ≡ Err e → whole ≡ Err e
     at_list_fault e h r = told ∙ ap (before front) (no_list m e h r)
@@ -138,7 +138,7 @@ pub closed_steps : (old mid new : List Step) (g : Group) (is : List Item) → mi
 closed_steps old mid new g is m n =
     n ∙ ap (λ (ss : List Step). slice_set ss (length old) (step.Group g (length ss - length old - 1))) m ∙ closed_group old g is
 
--- and how many they are
+-- and their number
 pub closed_length : (old mid new : List Step) (g : Group) (is : List Item) → mid ≡ (old ++ step.Group g 0 ∷ []) ++ flat is
     → new ≡ slice_set mid (length old) (step.Group g (length mid - length old - 1)) → length new ≡ length mid
 closed_length old mid new g is m n =
@@ -186,7 +186,7 @@ pub list_ends : (n begun : ℕ) (read : List ℕ → Read Item) (opening : ℕ) 
 list_ends n begun read opening text rest is old new (Ok x) i q h s b d l = (is, rw (i, q) refl, s, omega (arith, h, b), d, l)
 list_ends n begun read opening text rest is old new (Err e) i q h s b d l = inr (rw (i, q) refl, l)
 
--- a fault of a part, where there is more room and the part's fault is the whole's
+-- a fault of a part becomes the fault of the whole, whose bound on bytes is greater
 pub fault_on : (n a b : ℕ) (e : Fault) (L M P Q : Type 0) → ((e ≡ fault.NoRoom) × (n < a) × L) ⊎ P → a ≤ b → (L → M) → (P → Q)
     → ((e ≡ fault.NoRoom) × (n < b) × M) ⊎ Q
 fault_on n a b e L M P Q (inl x) h l f = inl (x.0, omega (arith, h, x.1), l x.2)
@@ -205,7 +205,7 @@ before_none (Err e) = refl
 pub flat_one : (front : List Item) (i : Item) → flat (front ++ i ∷ []) ≡ flat front ++ steps_of i
 flat_one front i = flat-append front (i ∷ []) ∙ ap (λ (ss : List Step). flat front ++ ss) (append-nil (steps_of i))
 
--- the steps with one item more
+-- the steps with one more item
 pub next_steps : (old cur new : List Step) (front : List Item) (i : Item) → cur ≡ old ++ flat front → new ≡ cur ++ steps_of i
     → new ≡ old ++ flat (front ++ i ∷ [])
 next_steps old cur new front i c n =
@@ -216,7 +216,7 @@ pub not_ended : (nested : Bool) (rest : List ℕ) → ends nested rest ≡ false
 not_ended nested [] e = grind (arith, e)
 not_ended nested (b ∷ rest) e = omega arith
 
--- ---- How many steps are begun, item by item and list by list
+-- ---- How many steps are started, item by item and list by list
 
 module _ (read : List ℕ → Read Item) (begun : List ℕ → ℕ) where
   module _ (nested : Bool) (rest : List ℕ) where

@@ -1,4 +1,4 @@
--- A component that is read is one that a text may name: what it skips is at most 65535 bytes.
+-- A component that is parsed is one that a text can name: it skips at most 65535 bytes.
 use Rattle.std.specs.Char.{is_ascii_digit}
 use Rattle.std.specs.List.{prefix_len}
 use Rattle.std.specs.Option.{option_map}
@@ -196,7 +196,7 @@ named_of true e f g opening o m h = tt
 named_of false e f g opening None m h = tt
 named_of false e f g opening (Some n) m h = read_of n g opening (m n) (h n)
 
--- so is the component of brackets
+-- the component of brackets skips at most 65535 bytes
 pub bracketed_fits : (text : List ℕ) → IfOk (bracketed text) Named
 unfolding bracketed
 bracketed_fits text =
@@ -209,9 +209,9 @@ bracketed_fits text =
     (fault.InvalidComponentName (length named) len) (fault.MissingCount (length named)) (length text) (look_up component_names (take len named))
     (λ n. modifiers n (suc (length rest)) chosen.default rest) (λ n. modifiers_fit n (suc (length rest)) chosen.default rest tt)
 
--- ---- Where items are read, as many steps are begun as they have
+-- ---- If items are parsed, as many steps are started as the items have
 
--- what is read has so many steps
+-- what is read has n steps
 abbrev Has : {A : Type 0} → (A → List Step) → Read A → ℕ → Type 0
 Has steps read n = IfOk read (λ x. n ≡ length (steps x.0))
 
@@ -220,7 +220,7 @@ with_next : (i : Item) (n k : ℕ) (r : Read (List Item)) → n ≡ length (step
 with_next i n k (Ok x) h t = omega (arith, h, t, length-append (steps_of i) (flat x.0))
 with_next i n k (Err e) h t = tt
 
--- what comes after an item that is read
+-- the items after an item that is read
 then_items : (count : Item × List ℕ → ℕ) (next : Item × List ℕ → Read (List Item)) → ((x : Item × List ℕ) → Has flat (next x) (count x))
     → (n : ℕ) (r : Read Item) → Has steps_of r n → Has flat (r >>= λ x. before (x.0 ∷ []) (next x)) (n + counted count r)
 then_items count next h n (Ok x) t = with_next x.0 n (count x) (next x) t (h x)
@@ -231,7 +231,7 @@ at_end_or : (b : Bool) (text : List ℕ) (r : Read (List Item)) (n : ℕ) → Ha
 at_end_or true text r n h = refl
 at_end_or false text r n h = h
 
--- what is read before a bracket that closes it
+-- what is read before its closing bracket
 shut : {A : Type 0} (steps : A → List Step) (x : A) (n : ℕ) (r : Result (List ℕ) Fault) → n ≡ length (steps x)
     → Has steps (r >>= λ rest. Ok (x, rest)) n
 shut steps x n (Ok rest) h = h

@@ -34,7 +34,7 @@ drop_further : (bytes : List ℕ) (after : List Step) → drop (length bytes) (m
 drop_further [] after = refl
 drop_further (b ∷ bytes) after = drop_further bytes after
 
--- the trees of these steps, if there is fuel enough
+-- the trees of these steps, with enough fuel
 abbrev Are : List Step → Trees → Type 0
 Are steps ts = (n : ℕ) → length steps ≤ n → trees_in n steps ≡ ts
 
@@ -77,7 +77,7 @@ pub at_top : (rest : List ℕ) → ends false rest ≡ true → rest ≡ []
 at_top [] e = refl
 at_top (b ∷ rest) e = absurd (grind (arith, e))
 
--- steps of what is read describe the tree
+-- the steps of what is read have the tree that the text describes
 pub described : (version : Version) (text rest : List ℕ) (is : List Item) (old steps : List Step) → description version text ≡ Ok (is, rest)
     → ends false rest ≡ true → old ≡ [] → steps ≡ old ++ flat is → Describes version text (steps_shape steps)
 unfolding Describes
@@ -88,7 +88,7 @@ described version text rest is old steps read e o s =
       ap steps_shape all ∙ steps_shape-flat is,
     )
 
--- a fault is told with its place
+-- a fault is reported with its index
 pub refused : (n : ℕ) (version : Version) (text : List ℕ) (e : Fault) (refusal : Refusal) (old : List Step)
     → ((e ≡ fault.NoRoom) × (n < length old + length text) × (n - length old < steps_begun version text))
     ⊎ ((description version text ≡ Err e) × (steps_begun version text ≤ n - length old))
@@ -97,19 +97,19 @@ refused n version text e refusal old (inl x) o r =
     inl (r ∙ ap (refusal_at text) x.0, omega (arith, x.1, ap length o), omega (arith, x.2, ap length o))
 refused n version text e refusal old (inr x) o r = inr (e, x.0, r, omega (arith, x.1, ap length o))
 
--- what there is room for
+-- the steps that there is room for
 pub fitting : (n begun : ℕ) (old : List Step) → old ≡ [] → begun ≤ n - length old → begun ≤ n
 fitting n begun old o h = omega (arith, h, ap length o)
 
 -- ---- Items that own their parts, one after another
 
--- why nothing is read is handed on
+-- a failure is propagated
 pub fails_on : {A X : Type 0} (says : X → A → Type 0) (read : Read A) (r : Result (X × Bor (List ℕ)) Unread) (u : Unread)
     → IsErr r × IsErrAnd r (λ x. x ≡ u) → Fails read u → Owns says read r
 fails_on says read (Ok x) u by h = absurd (false≢true by.0)
 fails_on says read (Err x) u by h = subst (λ (w : Unread). Fails read w) (sym by.1) h
 
--- where a part fails, so does the whole
+-- if a part fails, the whole fails
 pub fails_whole : {A B : Type 0} (part : Read A) (whole : Read B) (u : Unread) → ((e : Fault) → part ≡ Err e → whole ≡ Err e)
     → Fails part u → Fails whole u
 fails_whole part whole (unread.Fault e) h f = h e f
@@ -138,7 +138,7 @@ map-one : {A B : Type 0} (f : A → B) (xs : List A) (x : A) → map f (xs ++ x 
 map-one f [] x = refl
 map-one f (y ∷ xs) x = ap (λ ys. f y ∷ ys) (map-one f xs x)
 
--- one item more
+-- one more item
 pub one_more : (items : List OwnedFormatItem) (is : List Item) (item : OwnedFormatItem) (i : Item) → SaysItems items is → SaysItem item i
     → SaysItems (items ++ item ∷ []) (is ++ i ∷ [])
 one_more items is item i s t =
@@ -168,7 +168,7 @@ module _ (read : List ℕ → Read Item) (opening : ℕ) where
     unfolding group_by
     group_read unread rest is i c = rw (o, i, c) refl
 
--- items of what is read are a list of the tree that the text describes
+-- the list of the items that are read has the tree that the text describes
 pub owned_description : (version : Version) (text rest : List ℕ) (is : List Item) (items : List OwnedFormatItem) (item : OwnedFormatItem)
     → description version text ≡ Ok (is, rest) → ends false rest ≡ true → SaysItems items is
     → owned_shape item ≡ sequence (trees (map owned_shape items)) → Describes version text (owned_shape item)

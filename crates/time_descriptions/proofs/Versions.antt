@@ -1,4 +1,4 @@
--- Versions 1 and 2 read a text alike in which neither has an escape.
+-- Versions 1 and 2 parse a text without escapes alike.
 use Rattle.std.proofs.Common.{◌≡◌, ℕ, zero, suc, List, [], ◌∷◌, ◌++◌, take, drop, length, Bool, true, false, Option, Some, None, Result, Ok, Err, refl, ap, subst}
 use Rattle.std.proofs.lemmas.Bool.{and_parts, not-true, true≢false}
 use Rattle.std.specs.List.{prefix_len}
@@ -25,11 +25,11 @@ use Rattle.time_descriptions.specs.Values.{component_names, is_of_word, is_space
 abbrev pub Bare : List ℕ → Type 0
 Bare text = has_no_escape text ≡ true
 
--- what is left after what is read is bare
+-- the rest after what is read has no escapes
 abbrev pub Leaves : {A : Type 0} → A × List ℕ → Type 0
 Leaves x = Bare x.1
 
--- both give one, and what they give is so
+-- both results are equal, and their value has the property
 abbrev pub Same : {A : Type 0} → (A → Type 0) → Result A Fault → Result A Fault → Type 0
 Same Q one two = (one ≡ two) × IfOk one Q
 
@@ -50,7 +50,7 @@ bare_drop zero text p = p
 bare_drop (suc n) [] p = p
 bare_drop (suc n) (b ∷ rest) p = bare_drop n rest (bare_rest b rest p)
 
--- What a component's brackets leave is bare.
+-- The rest after a component's brackets has no escapes.
 
 after_pick : (c d : Bool) (e f : Fault) (rest : List ℕ) → Bare rest → IfOk (if c then Ok rest else (if d then Err e else Err f)) Bare
 after_pick true d e f rest p = p
@@ -146,7 +146,7 @@ same_leaf nested (b ∷ rest) p =
     (no_brackets b rest p) (no_backslash b rest p) (ap run (plain_len nested rest (bare_rest b rest p)))
     (component_bare (bracketed (b ∷ rest)) (bracketed_bare (b ∷ rest) p)) (bare_drop one rest (bare_rest b rest p))
 
--- What both readers of an item give is one, and so is what stands around items.
+-- Both parsers of an item agree, and so do those of the syntax around items.
 
 bound : {A B : Type 0} (Q : A → Type 0) (R : B → Type 0) (f g : A → Result B Fault) → ((x : A) → Q x → Same R (f x) (g x))
     → (r : Result A Fault) → IfOk r Q → Same R (r >>= f) (r >>= g)
@@ -293,6 +293,6 @@ same_item (suc depth) nested text p =
     (same_group (item versions.One depth true) (item versions.Two depth true) (same_item depth true) (length text)) (group_word text)
     (leaf versions.One nested text) (leaf versions.Two nested text) (word_bare text p) (same_leaf nested text p)
 
--- both versions read a bare text alike
+-- both versions parse a text without escapes alike
 pub alike : (text : List ℕ) → has_no_escape text ≡ true → description versions.One text ≡ description versions.Two text
 alike text p = (same_items (item versions.One 8 false) (item versions.Two 8 false) (same_item 8 false) (length text) false text p).0

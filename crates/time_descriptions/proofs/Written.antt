@@ -1,4 +1,4 @@
--- What is written of items that were read reads back as them.
+-- The text of items that were parsed parses back as these items.
 use Rattle.std.proofs.Common.{◌≡◌, ℕ, zero, suc, List, [], ◌∷◌, ◌++◌, take, drop, length, Bool, true, false, Option, Some, None, Result, Ok, Err, refl, ap, sym, subst, ◌∙◌, append_assoc, append-nil, arith}
 use Rattle.std.proofs.lemmas.Bool.{false≢true}
 use Rattle.std.specs.List.{prefix_len}
@@ -167,7 +167,7 @@ item_back (suc depth) nested text e =
     (group_by (item versions.Two depth true) (length text)) (group_word text) (leaf_back (suc depth) nested text e)
     (word_named text) (λ x named. group_back depth (item_back depth true) nested text (length text) x named)
 
--- what is written of what a text describes is described by it
+-- the canonical text of what a text describes has an equal description
 pub written_back : (text : List ℕ) (is : List Item) → description versions.Two text ≡ Ok (is, [])
     → description versions.Two (text_of is) ≡ Ok (is, [])
 written_back text is e =

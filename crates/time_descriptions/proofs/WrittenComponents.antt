@@ -1,4 +1,4 @@
--- What is written of a component reads back as it.
+-- The text of a component parses back as the component.
 use Rattle.std.specs.List.{prefix_len}
 use Rattle.std.specs.Char.{is_ascii_digit}
 use Rattle.std.specs.Fmt.{decimal}
@@ -33,7 +33,7 @@ use Rattle.time_descriptions.specs.Grammar.{group_word}
 use Rattle.time_descriptions.specs.Modifiers as chosen
 use Rattle.time_descriptions.specs.Writing.{words_of}
 
--- ---- What skips a number of bytes is told by the number
+-- ---- A component that skips bytes is determined by its number of bytes
 
 ignored_make : (n : ℕ) → 0 < n → Ignore
 ignored_make n p = record { count = record { value = n; ok = p } }
@@ -77,7 +77,7 @@ module _ (k : ComponentName) (values : Modifiers) (text begun : List ℕ) (blank
   goes zero len made h l e m = absurd (omega arith)
   goes (suc n) len made h l e m = let z = is_some len e in rw (← b, ← g, ← l, z, m) refl
 
-  -- a word follows that is none
+  -- a word follows that isn't a modifier
   pub fails : (n len : ℕ) (fault : Fault) → length text < n → len ≡ prefix_len is_of_word begun → 0 < len
       → modifier k (take len begun) (length begun) ≡ Err fault
       → modifiers k n values text ≡ Err fault
@@ -85,14 +85,14 @@ module _ (k : ComponentName) (values : Modifiers) (text begun : List ℕ) (blank
   fails zero len fault h l e m = absurd (omega arith)
   fails (suc n) len fault h l e m = let z = is_some len e in rw (← b, ← g, ← l, z, m) refl
 
--- ---- What is written of a component that skips bytes reads back as it: its digits say its count
+-- ---- The text of a component that skips bytes parses back as the component: its digits give its count
 
--- a component that a text may name
+-- a component that a text can name
 abbrev pub Fits : Component → Type 0
 Fits (component.Ignore m) = m.count.value ≤ 65535
 Fits _ = Unit {0}
 
--- what is written of the component is read as it, and opens no group
+-- the text of the component parses as the component, and opens no group
 abbrev pub Back : Component → List ℕ → Type 0
 Back c after =
     (bracketed (91 ∷ (words_of c ++ 93 ∷ after)) ≡ Ok (c, after)) × (group_word (91 ∷ (words_of c ++ 93 ∷ after)) ≡ None)
@@ -103,14 +103,14 @@ digit_of_word n h = agree_below_at (λ n. is_of_word (48 + n)) (λ n. true) 10 n
 digit_is : (n : ℕ) → n < 10 → is_ascii_digit (48 + n) ≡ true
 digit_is n h = agree_below_at (λ n. is_ascii_digit (48 + n)) (λ n. true) 10 n refl h
 
--- one digit more
+-- one more digit
 count_digit : (n d m : ℕ) (rest : List ℕ) → d < 10 → m ≤ 65535 → n * 10 + d ≡ m → count_on n ((48 + d) ∷ rest) ≡ count_on m rest
 count_digit n d m rest h l e =
     let a : n * 10 + (48 + d - 48) ≡ m = omega (arith, e) in
     let b = le-ltb 65535 m l in
     rw (digit_is d h, a, b) refl
 
--- digits are one word, and say their number
+-- digits are one word, and give their number
 abbrev Says : ℕ → List ℕ → Type 0
 Says n ds =
     ((rest : List ℕ) → prefix_len is_of_word (ds ++ rest) ≡ length ds + prefix_len is_of_word rest)
@@ -181,19 +181,19 @@ ignore m f after =
     let e = read m f after (suc (length (32 ∷ text))) (omega arith) in
     (rw e refl, refl)
 
--- a component made of a padding reads back if it does under each
+-- a component with a padding parses back if it does with each padding
 by_padding : (make : Padding → Component) (after : List ℕ) → Back (make padding.Zero) after → Back (make padding.Space) after
     → Back (make padding.None) after → (p : Padding) → Back (make p) after
 by_padding make after by_zero by_space by_none padding.Zero = by_zero
 by_padding make after by_zero by_space by_none padding.Space = by_space
 by_padding make after by_zero by_space by_none padding.None = by_none
 
--- likewise one made of a yes or no
+-- likewise a component with a flag
 by_flag : (make : Bool → Component) (after : List ℕ) → Back (make true) after → Back (make false) after → (b : Bool) → Back (make b) after
 by_flag make after set unset true = set
 by_flag make after set unset false = unset
 
--- likewise one made of both
+-- likewise a component with a padding and a flag
 by_padding_and_flag : (make : Padding → Bool → Component) (after : List ℕ) → Back (make padding.Zero true) after → Back (make padding.Space true) after
     → Back (make padding.None true) after → Back (make padding.Zero false) after → Back (make padding.Space false) after
     → Back (make padding.None false) after → (p : Padding) (b : Bool) → Back (make p b) after
@@ -210,7 +210,7 @@ unfolding bracketed modifier modifiers group_word component_of component_names m
 ending after trailing.Prohibit = (refl, refl)
 ending after t = (refl, refl)
 
--- what is written of a component reads back as it
+-- the text of a component parses back as the component
 pub component_back : (c : Component) → Fits c → (after : List ℕ) → Back c after
 unfolding bracketed modifier modifiers group_word component_of component_names modifier_keys look_up paddings representations bases ranges
     signs bools cases precisions digits trailing_inputs
@@ -293,7 +293,7 @@ component_back (component.Ignore m) f after = ignore m f after
 
 -- ---- The first row of a table
 
--- a row, without where its name lies
+-- a row, without memory addresses
 abbrev pub seen_row : {V : Type 0} → Bor (List ℕ) × V → List ℕ × V
 seen_row r = (r.0.now, r.1)
 

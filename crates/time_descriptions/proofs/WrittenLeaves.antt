@@ -1,4 +1,4 @@
--- What is written of a leaf that was read reads back as it.
+-- The text of a leaf that was parsed parses back as the leaf.
 use Rattle.std.proofs.Common.{◌≡◌, ℕ, suc, ◌+◌, ◌≤◌, List, [], ◌∷◌, ◌++◌, take, drop, length, Bool, true, false, not, None, Ok, Err, refl, ap, sym, subst, ◌∙◌, append_assoc, arith}
 use Rattle.std.proofs.Math.Seq.{take-append_seam, drop-append_seam}
 use Rattle.std.proofs.lemmas.Bool.{false≢true, not-true}
@@ -17,11 +17,11 @@ use Rattle.time_descriptions.proofs.Adding.{plain_item}
 use Rattle.time_descriptions.proofs.ReadComponents.{Named, bracketed_fits}
 use Rattle.time_descriptions.proofs.WrittenComponents.{component_back, Fits}
 
--- what is written of an item
+-- the text of an item
 abbrev pub item_text : Item → List ℕ
 item_text i = tree_text (tree_of i)
 
--- whether a literal is written as it stands, so that a plain byte after it would be read with it
+-- whether a literal is written unchanged, so that a plain byte after it would be parsed with it
 abbrev pub is_run_of : ℕ → List ℕ → Bool
 is_run_of b [] = not (is_escaped b)
 is_run_of b (c ∷ bytes) = true
@@ -30,7 +30,7 @@ abbrev pub is_run : Item → Bool
 is_run (literal b bytes) = is_run_of b bytes
 is_run _ = false
 
--- no plain byte stands in front
+-- whether the text begins with no plain byte
 abbrev pub stops : Bool → List ℕ → Bool
 stops nested [] = true
 stops nested (b ∷ rest) = not (is_plain versions.Two nested b)
@@ -38,7 +38,7 @@ stops nested (b ∷ rest) = not (is_plain versions.Two nested b)
 abbrev pub Apart : Bool → Item → List ℕ → Type 0
 Apart nested i after = is_run i ≡ true → stops nested after ≡ true
 
--- what is written of the item in front of the text reads back as it
+-- the text of the item that a text begins with parses back as the item
 abbrev pub IsBack : (List ℕ → Read Item) → Bool → List ℕ → Item × List ℕ → Type 0
 IsBack read nested text x =
     record {
@@ -170,7 +170,7 @@ run_leaf depth nested b rest after x y s =
     plain_item versions.Two depth nested (b ∷ (bytes ++ after)) (no_group b (bytes ++ after) x)
     ∙ plain_leaf nested b bytes after x y (front_is nested rest after s)
 
--- a literal that is written as it stands
+-- a literal that is written unchanged
 run_is_back : (depth : ℕ) (nested : Bool) (b : ℕ) (rest : List ℕ) → (b == 91) ≡ false → (b == 92) ≡ false → (nested && b == 93) ≡ false
     → is_run_of b (front nested rest) ≡ true → written_literal b (front nested rest) ≡ b ∷ front nested rest
     → IsBack (item versions.Two depth nested) nested (b ∷ rest) (literal b (front nested rest), behind nested rest)

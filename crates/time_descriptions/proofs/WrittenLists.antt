@@ -1,4 +1,4 @@
--- What is written of items in turn, and of lists, reads back as them.
+-- The text of items in order, and of lists, parses back as the items and the lists.
 use Rattle.std.proofs.Common.{◌≡◌, ℕ, zero, suc, ◌-◌, ◌≤◌, List, [], ◌∷◌, ◌++◌, length, Bool, true, false, not, Option, Some, None, Result, Ok, Err, refl, ap, sym, ◌∙◌, append_assoc, append-nil, length-append, arith}
 use Rattle.std.proofs.lemmas.Bool.{and_right}
 use Rattle.std.specs.Prelude.{◌==◌, ◌&&◌, IfOk, if◌then◌else◌}
@@ -12,20 +12,20 @@ use Rattle.time_descriptions.specs.Writing.{lists_text, trees_text}
 use Rattle.time_descriptions.proofs.Adding.{ended, went_on}
 use Rattle.time_descriptions.proofs.WrittenLeaves.{IsBack, item_text, stops}
 
--- what is written of items, and of the lists of a choice
+-- the text of items, and of the lists of a choice
 abbrev pub text_of : List Item → List ℕ
 text_of is = trees_text (trees_of (items_of is))
 
 abbrev pub lists_of : List Item → List ℕ
 lists_of is = lists_text (trees_of (items_of is))
 
--- Items in turn.
+-- Items in order.
 
 pub ends_stops : (nested : Bool) (after : List ℕ) → ends nested after ≡ true → stops nested after ≡ true
 ends_stops nested [] e = refl
 ends_stops nested (b ∷ after) e = ap not (and_right (not (b == 91) && not (b == 92)) (not (nested && b == 93)) (ap not e))
 
--- what is written of the items in front of the text reads back as them
+-- the text of the items that a text begins with parses back as these items
 abbrev pub AreBack : (List ℕ → Read Item) → Bool → List ℕ → List Item × List ℕ → Type 0
 AreBack read nested text x =
     record {
@@ -89,13 +89,13 @@ listed read text x p opening after =
 abbrev pub list_item : List Item → Item
 list_item is = group groups.List (items_of is)
 
--- what is written of further lists reads back as them
+-- the text of further lists parses back as the lists
 abbrev pub GroupsBack : (List ℕ → Read Item) → List Item → Type 0
 GroupsBack read ls =
     (opening m : ℕ) (after : List ℕ) → length (lists_of ls) ≤ m → next_list after ≡ None
     → by_option (Ok ([], lists_of ls ++ after)) (lists_by (list_by read opening) m) (next_list (lists_of ls ++ after)) ≡ Ok (ls, after)
 
--- and of the lists of a choice
+-- the text of the lists of a choice parses back as the lists
 abbrev pub ChoiceBack : (List ℕ → Read Item) → List Item → Type 0
 ChoiceBack read ls =
     (after : List ℕ) → next_list after ≡ None

@@ -1,4 +1,4 @@
--- What brackets around a component's name say. Bytes are read from the left, and the first fault counts.
+-- A component in brackets: its name and its modifiers. Bytes are read from the left, and the first fault counts.
 use Rattle.std.specs.Prelude.{◌≡◌, ℕ, zero, suc, List, [], ◌∷◌, not, ◌==◌, ◌+◌, ◌-◌, length, take, drop, Option, Some, None, Result, Ok, Err, if◌then◌else◌, ◌⊎◌, ◌<◌, ◌≤◌, ◌++◌}
 use Rattle.std.specs.List.{prefix_len}
 use Rattle.std.proofs.Common.{Bor}
@@ -13,7 +13,7 @@ use Rattle.time_descriptions.specs.declared.values.Modifier.{Modifier}
 use Rattle.time_descriptions.specs.Modifiers as chosen
 use Rattle.time_descriptions.specs.Values.{component_names, modifier_keys, modifier_value, is_space, is_of_word, look_up}
 
--- what is read in front of a text, and the bytes left after it; or the first fault
+-- what a text begins with, and the bytes after it; or the first fault
 abbrev pub Read : Type 0 → Type 0
 Read A = Result (A × List ℕ) Fault
 
@@ -22,21 +22,21 @@ abbrev pub ◌>>=◌ : {A B : Type 0} → Result A Fault → (A → Result B Fau
 (Ok x) >>= f = f x
 (Err e) >>= f = Err e
 
--- what an option has, or else the fault
+-- the value of an option, or else the fault
 abbrev pub or_fault : {A : Type 0} → Fault → Option A → Result A Fault
 or_fault e (Some x) = Ok x
 or_fault e None = Err e
 
--- What a function returned, seen by view, is what reading gives.
+-- The result of a function, mapped by view, is the result of reading.
 abbrev pub Gives : {X Y : Type 0} → (X → Y) → Result X Fault → Result Y Fault → Type 0
 Gives view (Ok x) read = read ≡ Ok (view x)
 Gives view (Err e) read = read ≡ Err e
 
--- how many bytes stand before the first colon
+-- the number of bytes before the first colon, or of all bytes without a colon
 abbrev pub colon : List ℕ → ℕ
 colon text = prefix_len (λ b. not (b == 58)) text
 
--- modifier = key , ":" , value; so many bytes are left from it on
+-- modifier = key , ":" , value; `left` counts the bytes from it to the end of the whole text
 unfoldable pub modifier : ComponentName → List ℕ → ℕ → Result Modifier Fault
 modifier name text left =
     let at = colon text in
@@ -45,7 +45,7 @@ modifier name text left =
     >>= λ key. or_fault (fault.InvalidModifier (left - at - 1) (length (drop (at + 1) text)))
     (modifier_value name key (drop (at + 1) text)))
 
--- { space , modifier } , [ space ], with at most n modifiers: the values so far with theirs
+-- { space , modifier } , [ space ], with at most n modifiers: the values so far, updated by these
 unfoldable pub modifiers : ComponentName → ℕ → Modifiers → List ℕ → Read Modifiers
 modifiers name zero values text = Ok (values, text)
 modifiers name (suc n) values text =
@@ -55,7 +55,8 @@ modifiers name (suc n) values text =
     else (modifier name (take len begun) (length begun)
     >>= λ made. modifiers name n (chosen.with_modifier values made) (drop len begun))
 
--- what stands after a component's closing bracket; so many bytes are left from its opening one on
+-- the text after a component's closing bracket; `opening` counts the bytes from its opening bracket to the end of the
+-- whole text
 abbrev pub after_component : ℕ → List ℕ → Result (List ℕ) Fault
 after_component opening [] = Err (fault.UnclosedOpeningBracket opening)
 after_component opening (b ∷ rest) =
@@ -77,11 +78,11 @@ bracketed text =
     >>= λ rest. or_fault (fault.MissingCount (length named)) (chosen.component_of name read.0)
     >>= λ c. Ok (c, rest))
 
--- ---- What a reader of items does to the steps that are there
+-- ---- How a parser of items appends steps
 
--- So many steps are begun beside the old ones, where there is room for n in all. What was added are the steps of what
--- is read, which are those that are begun; or the first fault is told; or exactly where more are begun than there is
--- room for, that there is none. Steps that were added and bytes left are no more than bytes.
+-- A text starts steps after the old ones, with room for n in all. If they fit, they are appended, as the steps of what
+-- was read, and the result is the rest; or the result is the first fault. If they don't fit, the result is that there
+-- is no room. The appended steps and the remaining bytes together are at most `bytes`.
 abbrev pub Adds : {A : Type 0} → (A → List Step) → ℕ → Read A → ℕ → ℕ
     → List Step → Result (Bor (List ℕ)) Fault → List Step → Type 0
 Adds {A} steps n read begun bytes old (Ok rest) new =

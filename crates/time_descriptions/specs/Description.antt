@@ -1,4 +1,4 @@
--- What a text describes, as a reader of descriptions answers it.
+-- What a text describes, in terms of the results of the parsers.
 use Rattle.std.specs.Prelude.{◌≡◌, ◌⊎◌, ℕ, ◌==◌, ◌<◌, List, length, Err, if◌then◌else◌, [], ◌∷◌, ◌++◌, option_and_then, Option, Some, None, ◌↔◌, Bool, true, not, ◌&&◌, Ok}
 use Rattle.std.specs.List.{flat_map}
 use Rattle.std.specs.Option.{option_map}
@@ -13,25 +13,25 @@ use Rattle.time_descriptions.specs.Items.{Item, literal, component, items_of, tr
 use Rattle.time_descriptions.specs.Strftime.{meaning, flag_padding, padded, DescribesStrftime, Fits, IsRefusedStrftime}
 use Rattle.time_descriptions.specs.Writing.{tree_text}
 
--- the tree that a description is
+-- the tree of a description
 abbrev pub shape : {N : ℕ} → Description N → Tree
 shape d = steps_shape d.steps.items
 
--- the version of that number
+-- the version with that number
 abbrev pub version_of : ℕ → Version
 version_of number = if number == 1 then versions.One else versions.Two
 
--- The text is refused so, where there is room for n steps: as too long exactly where it begins more of them, which it
--- does only where it has more bytes.
+-- The error of a rejected text, with room for n steps: it is too long exactly if it starts more than n steps, and then
+-- it also has more than n bytes.
 abbrev pub IsRefused : ℕ → Version → List ℕ → Refusal → Type 0
 IsRefused n version text refusal =
     ((refusal ≡ too_long) × (n < length text) × TakesMore n version text)
     ⊎ ((e : Fault) × (description version text ≡ Err e) × (refusal ≡ refusal_at text e) × TakesAtMost n version text)
 
--- ---- A description as strftime has it, piece by piece
+-- ---- A description in strftime's syntax, piece by piece
 
 pub data Piece : Type 0 where
-  -- a byte that stands as it is
+  -- a literal byte
   byte : ℕ → Piece
   -- a conversion, by its letter
   conversion : ℕ → Piece
@@ -43,33 +43,33 @@ piece_text (byte b) = b ∷ []
 piece_text (conversion letter) = 37 ∷ letter ∷ []
 piece_text (flagged flag letter) = 37 ∷ flag ∷ letter ∷ []
 
--- what a piece stands for, by the tables of letters and of flags
+-- the items of a piece, by the tables of letters and flags
 abbrev pub piece_items : Piece → Option (List Item)
 piece_items (byte b) = if b == 37 then None else Some (literal b [] ∷ [])
 piece_items (conversion letter) = meaning letter
 piece_items (flagged flag letter) =
     option_and_then (λ p. option_map (λ c. component c ∷ []) (padded p letter)) (flag_padding flag)
 
--- what pieces in turn stand for, if each stands for something
+-- the items of pieces in order, if each piece has a meaning
 abbrev pub all_items : List Piece → Option (List Item)
 all_items [] = Some []
 all_items (piece ∷ pieces) =
     option_and_then (λ here. option_map (λ there. here ++ there) (all_items pieces)) (piece_items piece)
 
--- The text is of pieces that stand for the tree's items in turn.
+-- The text splits into pieces that give the tree's items in order.
 abbrev pub HasPieces : List ℕ → Tree → Type 0
 HasPieces text tree =
     (pieces : List Piece) × (is : List Item) × (text ≡ flat_map piece_text pieces) × (all_items pieces ≡ Some is)
     × (tree ≡ sequence (trees_of (items_of is)))
 
--- ---- What holds of descriptions
+-- ---- Laws of descriptions
 
--- a text describes one tree
+-- a text describes at most one tree
 abbrev pub OneDescription : Type 0
 OneDescription = (version : Version) (text : List ℕ) (a b : Tree) → Describes version text a
     → Describes version text b → a ≡ b
 
--- a text describes one tree, as strftime has it
+-- a text describes at most one tree in strftime's syntax
 abbrev pub OneStrftimeDescription : Type 0
 OneStrftimeDescription = (text : List ℕ) (a b : Tree) → DescribesStrftime text a → DescribesStrftime text b → a ≡ b
 
@@ -78,35 +78,34 @@ unfoldable pub has_no_escape : List ℕ → Bool
 has_no_escape [] = true
 has_no_escape (b ∷ rest) = not (b == 92) && not (b == 91 && begins_with 91 rest) && has_no_escape rest
 
--- versions 1 and 2 read such a text alike: it describes the same trees, and it is refused in the same way
+-- versions 1 and 2 agree on such a text: it describes equal trees, and it has equal errors
 abbrev pub VersionsAgree : Type 0
 VersionsAgree = (text : List ℕ) → has_no_escape text ≡ true
     → ((tree : Tree) → (Describes versions.One text tree ↔ Describes versions.Two text tree))
     × ((n : ℕ) (r : Refusal) → (IsRefused n versions.One text r ↔ IsRefused n versions.Two text r))
 
--- The text that is written of a tree describes it, if any text does.
+-- The canonical text of a tree describes it, if any text does.
 abbrev pub DescribedBack : Type 0
 DescribedBack = (text : List ℕ) (tree : Tree) → Describes versions.Two text tree
     → Describes versions.Two (tree_text tree) tree
 
--- A text of strftime that is refused, where there is room for n steps, is refused in one way, and describes no tree of
--- so many.
+-- A text of strftime that is rejected, with room for n steps, has one error, and describes no tree of at most n steps.
 abbrev pub OneStrftimeOutcome : Type 0
 OneStrftimeOutcome = (n : ℕ) (text : List ℕ) (r : Refusal) → IsRefusedStrftime n text r
     → ((s : Refusal) → IsRefusedStrftime n text s → r ≡ s)
     × ((tree : Tree) → DescribesStrftime text tree → Fits n text → ⊥)
 
--- A text that is refused, where there is room for n steps, is refused in one way, and describes no tree in so many.
+-- A text that is rejected, with room for n steps, has one error, and describes no tree in at most n steps.
 abbrev pub OneOutcome : Type 0
 OneOutcome = (n : ℕ) (version : Version) (text : List ℕ) (r : Refusal) → IsRefused n version text r
     → ((s : Refusal) → IsRefused n version text s → r ≡ s)
     × ((tree : Tree) → Describes version text tree → TakesAtMost n version text → ⊥)
 
--- A text that is read begins the steps of its items.
+-- A text that is parsed starts exactly the steps of its items.
 abbrev pub StepsOfRead : Type 0
 StepsOfRead = (version : Version) (text : List ℕ) (is : List Item) → description version text ≡ Ok (is, [])
     → steps_begun version text ≡ length (flat is)
 
--- A text of strftime describes the tree of its pieces, each of which stands for what the tables say, and no other.
+-- A text of strftime describes the tree of its pieces, whose items the tables define, and no other tree.
 abbrev pub StrftimePieces : Type 0
 StrftimePieces = (text : List ℕ) (tree : Tree) → (DescribesStrftime text tree ↔ HasPieces text tree)

@@ -32,21 +32,21 @@ use Rattle.time_descriptions.specs.declared.owned.Unread.{Unread}
 use Rattle.time_descriptions.specs.declared.owned.Unread.TheVariants as unread
 use Rattle.time_descriptions.specs.Refusal.{refusal_at, refusal_of, refusal_text}
 
--- whether a backslash escapes
+-- whether a backslash escapes the next byte
 abbrev pub has_backslash : Version → Bool
 has_backslash versions.One = false
 has_backslash versions.Two = true
 
--- the items end with the text, or inside a list before its closing bracket
+-- whether the items end here: with the text or, inside a list, before its closing bracket
 abbrev pub ends : Bool → List ℕ → Bool
 ends nested [] = true
 ends nested (b ∷ rest) = nested && b == 93
 
--- plain
+-- whether the byte is plain
 abbrev pub is_plain : Version → Bool → ℕ → Bool
 is_plain version nested b = not (b == 91) && not (has_backslash version && b == 92) && not (nested && b == 93)
 
--- what stands after that byte in front of the text, or else the fault
+-- the text after that byte at its start, or else the fault
 abbrev pub after_byte : ℕ → Fault → List ℕ → Result (List ℕ) Fault
 after_byte byte e [] = Err e
 after_byte byte e (b ∷ rest) = if b == byte then Ok rest else Err e
@@ -55,12 +55,12 @@ abbrev pub begins_with : ℕ → List ℕ → Bool
 begins_with byte [] = false
 begins_with byte (b ∷ rest) = b == byte
 
--- what follows that byte in front of a text
+-- the text after that byte at its start, if it begins with it
 abbrev pub tail_after : ℕ → List ℕ → Option (List ℕ)
 tail_after byte [] = None
 tail_after byte (b ∷ rest) = if b == byte then Some rest else None
 
--- the one of nothing, and the other of what is there
+-- a default for nothing, and a function of a value
 abbrev pub by_option : {A B : Type 0} → B → (A → B) → Option A → B
 by_option without with_it None = without
 by_option without with_it (Some x) = with_it x
@@ -72,7 +72,7 @@ escaped (b ∷ rest) =
     if (b == 91 || b == 92 || b == 93) then Ok (literal b [], rest)
     else Err (fault.Expected expected.EscapedByte (length (b ∷ rest)))
 
--- literal, escape or component; a list ends where there is no byte
+-- literal, escape or component; items end if there is no byte
 unfoldable pub leaf : Version → Bool → List ℕ → Read Item
 leaf version nested [] = Err (fault.MissingComponentName 0)
 leaf version nested (b ∷ rest) =
@@ -88,7 +88,7 @@ group_named word =
     if bytes_eq word (codes "optional") then Some groups.Optional
     else (if bytes_eq word (codes "first") then Some groups.First else None)
 
--- "[" , [ space ] , ( "optional" | "first" ): the group, and what stands after the word
+-- "[" , [ space ] , ( "optional" | "first" ): the group, and the text after the word
 unfoldable pub group_word : List ℕ → Option (Group × List ℕ)
 group_word [] = None
 group_word (b ∷ rest) =
@@ -100,36 +100,38 @@ abbrev pub space_after : Group → Expectation
 space_after groups.Optional = expected.SpaceAfterOptional
 space_after _ = expected.SpaceAfterFirst
 
--- space , "[": what stands in the first list of a group
+-- space , "[": the text inside the first list of a group
 unfoldable pub opened : Group → List ℕ → Result (List ℕ) Fault
 opened g text =
     let space = prefix_len is_space text in
     if space == 0 then Err (fault.Expected (space_after g) (length text))
     else after_byte 91 (fault.Expected expected.OpeningBracket (length (drop space text))) (drop space text)
 
--- [ space ] , "]": what stands after a group; so many bytes are left from its opening bracket on
+-- [ space ] , "]": the text after a group; `opening` counts the bytes from its opening bracket to the end of the whole
+-- text
 unfoldable pub closed : ℕ → List ℕ → Result (List ℕ) Fault
 closed opening text = after_byte 93 (fault.UnclosedOpeningBracket opening) (drop (prefix_len is_space text) text)
 
--- these items, and then those that are read
+-- the given items, followed by those that are read
 abbrev pub before : List Item → Read (List Item) → Read (List Item)
 before front read = read >>= λ x. Ok (front ++ x.0, x.1)
 
--- { item }, by a reader of an item; each takes a byte at least, so as many as there are bytes are enough
+-- { item }, by a parser of an item; each item takes at least one byte, so a bound of the number of bytes is enough
 unfoldable pub items_by : (List ℕ → Read Item) → ℕ → Bool → List ℕ → Read (List Item)
 items_by item zero nested text = Ok ([], text)
 items_by item (suc n) nested text =
     if ends nested text then Ok ([], text)
     else (item text >>= λ x. before (x.0 ∷ []) (items_by item n nested x.1))
 
--- { item } , "]", where a list is open; so many bytes are left from its group's opening bracket on
+-- { item } , "]", of a list that is open; `opening` counts the bytes from its group's opening bracket to the end of the
+-- whole text
 abbrev pub list_by : (List ℕ → Read Item) → ℕ → List ℕ → Read (List Item)
 list_by item opening text =
     items_by item (length text) true text
     >>= λ x. after_byte 93 (fault.UnclosedOpeningBracket opening) x.1
     >>= λ rest. Ok (x.0, rest)
 
--- [ space ] , "[": what stands in the next list, if one follows
+-- [ space ] , "[": the text inside the next list, if one follows
 unfoldable pub next_list : List ℕ → Option (List ℕ)
 next_list text = tail_after 91 (drop (prefix_len is_space text) text)
 
@@ -141,12 +143,12 @@ lists_by list (suc n) text =
     >>= λ x. by_option (Ok (group groups.List (items_of x.0) ∷ [], x.1))
     (λ inside. before (group groups.List (items_of x.0) ∷ []) (lists_by list n inside)) (next_list x.1)
 
--- what stands in a group
+-- the contents of a group
 abbrev pub inside_by : (List ℕ → Read (List Item)) → Group → List ℕ → Read (List Item)
 inside_by list groups.Optional text = list text
 inside_by list _ text = lists_by list (suc (length text)) text
 
--- optional or first, after its word; so many bytes are left from its opening bracket on
+-- optional or first, after its word; `opening` counts the bytes from its opening bracket to the end of the whole text
 unfoldable pub group_by : (List ℕ → Read Item) → ℕ → Group × List ℕ → Read Item
 group_by item opening found =
     opened found.0 found.1
@@ -154,7 +156,7 @@ group_by item opening found =
     >>= λ x. closed opening x.1
     >>= λ rest. Ok (group found.0 (items_of x.0), rest)
 
--- item, in which at most depth lists stand inside one another
+-- item, in which lists nest at most depth deep
 unfoldable pub item : Version → ℕ → Bool → List ℕ → Read Item
 item version zero nested text =
     by_option (leaf version nested text) (λ found. Err (fault.NotSupported unsupported.DeepList (length text)))
@@ -166,7 +168,7 @@ item version (suc depth) nested text =
 abbrev pub items : Version → ℕ → Bool → List ℕ → Read (List Item)
 items version depth nested text = items_by (item version depth nested) (length text) nested text
 
--- how many lists may stand inside one another
+-- how deep lists may nest
 abbrev pub most_lists : ℕ
 most_lists = 8
 
@@ -179,15 +181,15 @@ unfoldable pub Describes : Version → List ℕ → Tree → Type 0
 Describes version text tree =
     (is : List Item) × (description version text ≡ Ok (is, [])) × (tree ≡ sequence (trees_of (items_of is)))
 
--- ---- How many steps a text begins, up to its first fault or its end: those of what is read; of a group that is open
--- there one for itself and one for each list that is begun in a choice, and what those begin
+-- ---- How many steps a text starts, up to its first fault or its end: those of what is read; and for a group that is
+-- still open there, one for itself, one for each list that is started in a choice, and those that they start
 
--- what is counted of what is read, and nothing of a fault
+-- the count for what is read, and 0 for a fault
 abbrev pub counted : {A : Type 0} → (A → ℕ) → Result A Fault → ℕ
 counted count (Ok x) = count x
 counted count (Err e) = 0
 
--- of items, by a reader of an item and how many that begins
+-- of items, given a parser of an item and the steps that an item starts
 unfoldable pub items_begun : (List ℕ → Read Item) → (List ℕ → ℕ) → ℕ → Bool → List ℕ → ℕ
 items_begun item begun zero nested text = 0
 items_begun item begun (suc n) nested text =
@@ -198,19 +200,19 @@ items_begun item begun (suc n) nested text =
 abbrev pub list_begun : (List ℕ → Read Item) → (List ℕ → ℕ) → List ℕ → ℕ
 list_begun item begun text = items_begun item begun (length text) true text
 
--- of lists, each with one for itself
+-- of lists, with one step for each list itself
 unfoldable pub lists_begun : (List ℕ → Read Item) → (List ℕ → ℕ) → ℕ → ℕ → List ℕ → ℕ
 lists_begun item begun opening zero text = 0
 lists_begun item begun opening (suc n) text =
     1 + list_begun item begun text
     + counted (λ x. by_option 0 (lists_begun item begun opening n) (next_list x.1)) (list_by item opening text)
 
--- of what stands in a group
+-- of the contents of a group
 abbrev pub inside_begun : (List ℕ → Read Item) → (List ℕ → ℕ) → ℕ → Group → List ℕ → ℕ
 inside_begun item begun opening groups.Optional text = list_begun item begun text
 inside_begun item begun opening _ text = lists_begun item begun opening (suc (length text)) text
 
--- of a group, one for itself
+-- of a group, with one step for itself
 unfoldable pub group_begun : (List ℕ → Read Item) → (List ℕ → ℕ) → ℕ → Group × List ℕ → ℕ
 group_begun item begun opening found =
     counted (λ text. 1 + inside_begun item begun opening found.0 text) (opened found.0 found.1)
@@ -219,7 +221,7 @@ group_begun item begun opening found =
 abbrev pub leaf_begun : Version → Bool → List ℕ → ℕ
 leaf_begun version nested text = counted (λ x. length (steps_of x.0)) (leaf version nested text)
 
--- of an item, in which at most depth lists stand inside one another
+-- of an item, in which lists nest at most depth deep
 unfoldable pub item_begun : Version → ℕ → Bool → List ℕ → ℕ
 item_begun version zero nested text = by_option (leaf_begun version nested text) (λ found. 0) (group_word text)
 item_begun version (suc depth) nested text =
@@ -231,42 +233,42 @@ abbrev pub steps_begun : Version → List ℕ → ℕ
 steps_begun version text =
     items_begun (item version most_lists false) (item_begun version most_lists false) (length text) false text
 
--- The text begins more than n steps.
+-- The text starts more than n steps.
 abbrev pub TakesMore : ℕ → Version → List ℕ → Type 0
 TakesMore n version text = n < steps_begun version text
 
--- It begins at most n.
+-- The text starts at most n steps.
 abbrev pub TakesAtMost : ℕ → Version → List ℕ → Type 0
 TakesAtMost n version text = steps_begun version text ≤ n
 
--- ---- What a reader of owned items answers
+-- ---- Results of the parser of owned items
 
--- The text describes the tree of the item; or it is refused at its first fault; or memory is short.
+-- The text describes the tree of the item; or the error is its first fault; or memory is exhausted.
 abbrev pub OwnedOutcome : Version → List ℕ → Result OwnedFormatItem OwnedError → Type 0
 OwnedOutcome version text (Ok item) = Describes version text (owned_shape item)
 OwnedOutcome version text (Err (error.Invalid e)) =
     (f : Fault) × (description version text ≡ Err f) × (refusal_of e ≡ refusal_at text f)
 OwnedOutcome version text (Err (error.Memory e)) = Unit {0}
 
--- what is printed
+-- the printed text of the error
 abbrev pub owned_error_text : OwnedError → Option (List ℕ)
 owned_error_text (error.Invalid e) = refusal_text (refusal_of e)
 owned_error_text (error.Memory e) = Some (codes "memory is short")
 
--- Nothing is read, since there is that fault, or memory is short.
+-- Parsing failed, with that fault, or out of memory.
 abbrev pub Fails : {A : Type 0} → Read A → Unread → Type 0
 Fails read (unread.Fault e) = read ≡ Err e
 Fails read (unread.Memory e) = Unit {0}
 
--- What is read is what the result says, or it fails.
+-- The result is related to what is read, or parsing failed.
 abbrev pub Owns : {A X : Type 0} → (X → A → Type 0) → Read A → Result (X × Bor (List ℕ)) Unread → Type 0
 Owns {A} says read (Ok x) = (a : A) × (read ≡ Ok (a, x.1.now)) × says x.0 a
 Owns says read (Err u) = Fails read u
 
--- the item has the tree of that one
+-- the owned item and the specified item have one tree
 abbrev pub SaysItem : OwnedFormatItem → Item → Type 0
 SaysItem item i = owned_shape item ≡ tree_of i
 
--- the items have the trees of those
+-- the owned items and the specified items have equal trees
 abbrev pub SaysItems : List OwnedFormatItem → List Item → Type 0
 SaysItems items is = map owned_shape items ≡ map tree_of is

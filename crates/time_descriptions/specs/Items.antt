@@ -1,4 +1,4 @@
--- The items of a description, with the steps that hold them and the trees that they are.
+-- The items of a description, with their steps and their trees.
 use Rattle.std.specs.Prelude.{ℕ, List, [], ◌∷◌, ◌++◌, length, map, false, ◌≡◌, Option, Some, None}
 use Rattle.time_components.specs.declared.format_description.Component.{Component}
 use Rattle.time_components.specs.Tree.{group_tree, Tree, Trees, literal as literal_tree, component as component_tree, none as no_trees, more as more_trees}
@@ -20,7 +20,7 @@ mutual
     none : Items
     more : Item → Items → Items
 
--- items in turn
+-- a list of items, as `Items`
 abbrev pub items_of : List Item → Items
 items_of [] = none
 items_of (i ∷ is) = more i (items_of is)
@@ -47,18 +47,18 @@ abbrev mutual
   all_steps_of none = []
   all_steps_of (more i is) = steps_of i ++ all_steps_of is
 
--- the steps of items in turn
+-- the steps of items in order
 abbrev pub flat : List Item → List Step
 flat is = all_steps_of (items_of is)
 
--- ---- Items that have none inside them
+-- ---- Items without other items inside them
 
--- the item that a leaf is
+-- the item of a leaf
 abbrev pub leaf_item : Leaf → Item
 leaf_item (leaf.Literal b bytes) = literal b bytes.now
 leaf_item (leaf.Component c) = component c
 
--- What a function returned, seen by view, is what is found, if anything is.
+-- The result of a function, mapped by view, is what is found, if anything.
 abbrev pub Sees : {X Y : Type 0} → (X → Y) → Option X → Option Y → Type 0
 Sees view (Some x) found = found ≡ Some (view x)
 Sees view None found = found ≡ None

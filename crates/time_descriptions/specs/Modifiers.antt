@@ -1,4 +1,4 @@
--- The values of a component's modifiers, and the component that they pick.
+-- The values of a component's modifiers, and the component that they select.
 use Rattle.std.specs.Prelude.{Bool, true, false, Option, Some, None}
 use Rattle.std.specs.Option.{option_map}
 use Rattle.time_digits.specs.declared.Padding.TheVariants as padding
@@ -16,7 +16,7 @@ use Rattle.time_descriptions.specs.declared.values.Precision.TheVariants as prec
 use Rattle.time_descriptions.specs.declared.values.Representation.{Representation}
 use Rattle.time_descriptions.specs.declared.values.Representation.TheVariants as form
 
--- what holds where no modifier stands
+-- the values without any modifier
 abbrev pub default : Modifiers
 default =
     record {
@@ -34,7 +34,7 @@ default =
       trailing_input = trailing.Prohibit;
     }
 
--- the values with one more, which replaces an earlier one of its key
+-- the values with one more modifier, which replaces an earlier value of its key
 abbrev pub with_modifier : Modifiers → Modifier → Modifiers
 with_modifier m (modifier.Base value) = record m { is_iso_week = value }
 with_modifier m (modifier.Case value) = record m { is_uppercase = value }
@@ -49,7 +49,7 @@ with_modifier m (modifier.Representation value) = record m { representation = va
 with_modifier m (modifier.Sign value) = record m { sign_is_mandatory = value }
 with_modifier m (modifier.TrailingInput value) = record m { trailing_input = value }
 
--- a full year: whether it is of an ISO week date, and whether its range is extended
+-- a full year, given whether it is of an ISO week date, and whether its range is extended
 abbrev pub full_year : Bool → Bool → Modifiers → Component
 full_year false true m =
     component.CalendarYearFullExtendedRange (record { padding = m.padding; sign_is_mandatory = m.sign_is_mandatory })
@@ -60,7 +60,7 @@ full_year true true m =
 full_year true false m =
     component.IsoYearFullStandardRange (record { padding = m.padding; sign_is_mandatory = m.sign_is_mandatory })
 
--- a century, likewise
+-- a century, given as for a full year
 abbrev pub century : Bool → Bool → Modifiers → Component
 century false true m =
     component.CalendarYearCenturyExtendedRange (record {
@@ -79,7 +79,7 @@ century true true m =
 century true false m =
     component.IsoYearCenturyStandardRange (record { padding = m.padding; sign_is_mandatory = m.sign_is_mandatory })
 
--- the last two digits of a year: whether it is of an ISO week date
+-- the last two digits of a year, given whether it is of an ISO week date
 abbrev pub last_two : Bool → Modifiers → Component
 last_two false m = component.CalendarYearLastTwo (record { padding = m.padding })
 last_two true m = component.IsoYearLastTwo (record { padding = m.padding })
@@ -139,7 +139,7 @@ unix_timestamp_as precision.Nanosecond m =
 abbrev pub unix_timestamp : Modifiers → Component
 unix_timestamp m = unix_timestamp_as m.precision m
 
--- the component of that name that the values pick; nothing of `ignore` without a count
+-- the component with that name that the values select; nothing for `ignore` without a count
 unfoldable pub component_of : ComponentName → Modifiers → Option Component
 component_of name.Day m = Some (component.Day (record { padding = m.padding }))
 component_of name.End m = Some (component.End (record { trailing_input = m.trailing_input }))

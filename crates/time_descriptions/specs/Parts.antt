@@ -1,6 +1,6 @@
 -- No public contract rests on this file.
 --
--- What a reader of strftime's descriptions keeps of a byte or a conversion.
+-- What the parser of strftime's descriptions keeps of a byte or a conversion.
 use Rattle.std.proofs.Common.{Bor}
 use Rattle.std.specs.Prelude.{◌≡◌, ℕ, List, [], ◌∷◌, map, None, Result, Ok, Err}
 use Rattle.time_descriptions.specs.declared.error.Fault.{Fault}
@@ -18,11 +18,11 @@ part_items (part.Component c) = component c ∷ []
 part_items part.Offset = offset
 part_items (part.Shorthand letter) = by_option [] (map item_of_byte) (row_of shorthands letter)
 
--- What is found is what was read, and then what the bytes left after it have; or it is only the fault.
+-- The whole finding is the items of what was read, followed by what is found in the rest; or it is only the fault.
 abbrev pub Begins : Found → Result (Part × Bor (List ℕ)) Fault → Type 0
 Begins found (Ok x) = found ≡ followed (part_items x.0) (strftime x.1.now)
 Begins found (Err e) = found ≡ failed e
 
--- The text describes items of these steps.
+-- The text describes items with these steps.
 abbrev pub HasSteps : List ℕ → List Step → Type 0
 HasSteps text steps = ((strftime text).1 ≡ None) × (steps ≡ flat (strftime text).0)

@@ -1,4 +1,4 @@
--- Why a text is no description, without where its bytes lie in memory, and what is printed of it.
+-- The errors of texts that aren't descriptions, without memory addresses, and their printed texts.
 use Rattle.std.specs.Prelude.{ℕ, ◌-◌, ◌++◌, List, length, take, drop, codes, Option, Some, None}
 use Rattle.std.specs.Fmt.{decimal}
 use Rattle.time_descriptions.specs.declared.error.InvalidFormatDescription.{InvalidFormatDescription}
@@ -10,7 +10,7 @@ use Rattle.time_descriptions.specs.declared.error.Fault.TheVariants as fault
 use Rattle.time_descriptions.specs.declared.error.Unsupported.{Unsupported}
 use Rattle.time_descriptions.specs.declared.error.Unsupported.TheVariants as unsupported
 
--- each with its index in the text last, and before it the words that it names
+-- an error: the words that it names, and then its index in the text
 pub data Refusal : Type 0 where
   unclosed : ℕ → Refusal
   component_name : List ℕ → ℕ → Refusal
@@ -21,7 +21,7 @@ pub data Refusal : Type 0 where
   not_supported : List ℕ → List ℕ → ℕ → Refusal
   too_long : Refusal
 
--- what an error says
+-- an error, without memory addresses
 abbrev pub refusal_of : InvalidFormatDescription → Refusal
 refusal_of (error.UnclosedOpeningBracket index) = unclosed index
 refusal_of (error.InvalidComponentName name index) = component_name name.now index
@@ -32,7 +32,7 @@ refusal_of (error.Expected what index) = expected_here what.now index
 refusal_of (error.NotSupported what context index) = not_supported what.now context.now index
 refusal_of error.TooLong = too_long
 
--- the index of the first fault, where there is one
+-- the index of the first fault, if there is one
 abbrev pub index_of : Refusal → Option ℕ
 index_of (unclosed index) = Some index
 index_of (component_name name index) = Some index
@@ -43,7 +43,8 @@ index_of (expected_here what index) = Some index
 index_of (not_supported what context index) = Some index
 index_of too_long = None
 
--- what is printed; a word that the text has may have any bytes, and nothing is said of how it is printed
+-- the printed text; it isn't specified for an error that quotes a word of the text, since such a word may have any
+-- bytes
 abbrev pub refusal_text : Refusal → Option (List ℕ)
 refusal_text (unclosed index) = Some (codes "unclosed opening bracket at byte index " ++ decimal index)
 refusal_text (component_name name index) = None
@@ -72,7 +73,7 @@ abbrev pub context_text : Unsupported → List ℕ
 context_text unsupported.DeepList = codes "a description"
 context_text unsupported.Conversion = codes "a strftime description"
 
--- what is refused where a fault is the first, by the bytes left from its place on
+-- the error for a first fault, whose place is given by the number of bytes that remain there
 abbrev pub refusal_at : List ℕ → Fault → Refusal
 refusal_at text (fault.UnclosedOpeningBracket left) = unclosed (length text - left)
 refusal_at text (fault.InvalidComponentName left len) =

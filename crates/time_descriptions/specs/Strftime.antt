@@ -1,4 +1,4 @@
--- Descriptions as strftime has them. Bytes are read from the left, and the first fault counts.
+-- Descriptions in strftime's syntax. Bytes are read from the left, and the first fault counts.
 --     description = { byte | conversion }                   to the end of the text
 --     byte        = any byte but "%"
 --     conversion  = "%" , [ flag ] , letter
@@ -20,18 +20,18 @@ use Rattle.time_descriptions.specs.declared.error.Unsupported.TheVariants as uns
 use Rattle.time_descriptions.specs.Components.{◌>>=◌, or_fault}
 use Rattle.time_descriptions.specs.Refusal.{Refusal, refusal_at, too_long}
 
--- ---- The letters of strftime, with what they stand for
+-- ---- The letters of strftime, with their meanings
 
--- letters, and what each of them has
+-- letters, each with a value
 abbrev pub Rows : Type 0 → Type 0
 Rows V = List (ℕ × V)
 
--- what the first row with that letter has
+-- the value of the first row with that letter
 unfoldable pub row_of : {V : Type 0} → Rows V → ℕ → Option V
 row_of [] letter = None
 row_of (r ∷ rows) letter = if r.0 == letter then Some r.1 else row_of rows letter
 
--- the letters of one component each: a A b h B C g G y Y d e j H k I l m M S p P s u w U V W
+-- the letters that mean one component each: a A b h B C g G y Y d e j H k I l m M S p P s u w U V W
 unfoldable pub components : Rows Component
 components =
     (97, component.WeekdayShort (record { case_sensitive = true }))
@@ -64,7 +64,7 @@ components =
     ∷ (87, component.WeekNumberMonday (record { padding = padding.Zero }))
     ∷ []
 
--- the other letters but "z", with the bytes that they stand for: D x F R T X r c n t %
+-- the other letters except "z", with the bytes that they abbreviate: D x F R T X r c n t %
 unfoldable pub shorthands : Rows (List ℕ)
 shorthands =
     (68, codes "m/d/y")
@@ -80,7 +80,7 @@ shorthands =
     ∷ (37, codes "%")
     ∷ []
 
--- the item of a byte in a shorthand: that of its letter, or else the byte
+-- the item of a byte in a shorthand: the component of that letter, or else the byte
 abbrev pub item_of_byte : ℕ → Item
 item_of_byte b = by_option (literal b []) component_item (row_of components b)
 
@@ -88,26 +88,26 @@ item_of_byte b = by_option (literal b []) component_item (row_of components b)
 abbrev pub step_of_byte : ℕ → Step
 step_of_byte b = by_option (step.Literal b) step.Component (row_of components b)
 
--- what "z" stands for
+-- the meaning of "z"
 abbrev pub offset : List Item
 offset =
     component_item (component.OffsetHour (record { padding = padding.Zero; sign_is_mandatory = true }))
     ∷ component_item (component.OffsetMinute (record { padding = padding.Zero })) ∷ []
 
--- what a letter stands for
+-- the meaning of a letter
 abbrev pub meaning : ℕ → Option (List Item)
 meaning letter =
     if letter == 122 then Some offset
     else by_option (option_map (map item_of_byte) (row_of shorthands letter)) (λ c. Some (component_item c ∷ []))
     (row_of components letter)
 
--- the padding that a flag asks for
+-- the padding that a flag selects
 abbrev pub flag_padding : ℕ → Option Padding
 flag_padding b =
     if b == 45 then Some padding.None
     else (if b == 95 then Some padding.Space else (if b == 48 then Some padding.Zero else None))
 
--- the component with that padding, if it has a padding and a letter stands for it
+-- the component with that padding, if it has a padding and some letter means it
 unfoldable pub with_padding : Padding → Component → Option Component
 with_padding p (component.Day m) = Some (component.Day (record m { padding = p }))
 with_padding p (component.MonthNumerical m) = Some (component.MonthNumerical (record m { padding = p }))
@@ -133,39 +133,40 @@ with_padding p _ = None
 abbrev pub padded : Padding → ℕ → Option Component
 padded p letter = option_and_then (with_padding p) (row_of components letter)
 
--- conversions of strftime that no component has
+-- conversions of strftime without a component
 abbrev pub is_unsupported : ℕ → Bool
 is_unsupported letter = letter == 69 || letter == 79 || letter == 90
 
--- why a letter that stands for nothing is refused; so many bytes are left from its "%" and from itself on
+-- the fault of a letter without a meaning; `percent` counts the bytes from its "%" to the end of the text, and `left`
+-- those from the letter
 abbrev pub letter_fault : ℕ → ℕ → ℕ → Fault
 letter_fault percent left letter =
     if is_unsupported letter then fault.NotSupported unsupported.Conversion percent
     else fault.InvalidComponentName left 1
 
--- what a letter stands for
+-- the meaning of a letter
 abbrev pub letter_items : ℕ → ℕ → ℕ → Result (List Item) Fault
 letter_items percent left letter = or_fault (letter_fault percent left letter) (meaning letter)
 
--- what a letter stands for after a flag
+-- the meaning of a letter after a flag
 abbrev pub flagged_items : Padding → ℕ → ℕ → Result (List Item) Fault
 flagged_items p left letter =
     letter_items (left + 2) left letter
     >>= λ is. or_fault (fault.InvalidModifier (left + 1) 1) (padded p letter)
     >>= λ c. Ok (component_item c ∷ [])
 
--- items, and the fault that comes after them, if one comes
+-- items, and the fault after them, if there is one
 abbrev pub Found : Type 0
 Found = List Item × Option Fault
 
 abbrev pub failed : Fault → Found
 failed e = ([], Some e)
 
--- these items, and then what is found after them
+-- the given items, followed by what is found after them
 abbrev pub followed : List Item → Found → Found
 followed is found = (is ++ found.0, found.1)
 
--- what a conversion stands for and then what is found after it, or the conversion's fault
+-- the meaning of a conversion, followed by what is found after it; or the conversion's fault
 abbrev pub started : Result (List Item) Fault → Found → Found
 started (Ok is) found = followed is found
 started (Err e) found = failed e
@@ -176,14 +177,14 @@ unfoldable mutual
   strftime [] = ([], None)
   strftime (b ∷ text) = if b == 37 then conversion text else followed (literal b [] ∷ []) (strftime text)
 
-  -- likewise of what stands after a "%"
+  -- likewise of a text after a "%"
   pub conversion : List ℕ → Found
   conversion [] = failed (fault.InvalidComponentName 0 0)
   conversion (b ∷ text) =
       by_option (started (letter_items (length (b ∷ text) + 1) (length (b ∷ text)) b) (strftime text))
       (λ p. flagged p text) (flag_padding b)
 
-  -- likewise of what stands after a flag
+  -- likewise of a text after a flag
   pub flagged : Padding → List ℕ → Found
   flagged p [] = failed (fault.InvalidComponentName 0 0)
   flagged p (b ∷ text) = started (flagged_items p (length (b ∷ text)) b) (strftime text)
@@ -197,11 +198,11 @@ DescribesStrftime text tree =
 abbrev pub Exceeds : ℕ → List ℕ → Type 0
 Exceeds n text = n < length (flat (strftime text).0)
 
--- It describes at most n steps.
+-- The text describes at most n steps.
 abbrev pub Fits : ℕ → List ℕ → Type 0
 Fits n text = length (flat (strftime text).0) ≤ n
 
--- The text is refused so, where there is room for n steps: as too long exactly where it exceeds them.
+-- The error of a rejected text, with room for n steps: it is too long exactly if it exceeds them.
 abbrev pub IsRefusedStrftime : ℕ → List ℕ → Refusal → Type 0
 IsRefusedStrftime n text refusal =
     ((refusal ≡ too_long) × Exceeds n text)

@@ -1,4 +1,4 @@
--- The values that a modifier may have, each with what it means.
+-- The values that a modifier may have, each with its meaning.
 use Rattle.std.specs.Prelude.{ℕ, zero, suc, List, [], ◌∷◌, Bool, not, ◌&&◌, ◌==◌, ◌+◌, ◌*◌, ◌-◌, nat_lt, Option, Some, None, if◌then◌else◌, true, false, codes}
 use Rattle.std.specs.Char.{is_ascii_whitespace, is_ascii_digit}
 use Rattle.std.specs.Str.{str_eq_ignore_ascii_case}
@@ -28,25 +28,25 @@ use Rattle.time_descriptions.specs.declared.values.Modifier.TheVariants as modif
 abbrev pub is_space : ℕ → Bool
 is_space b = is_ascii_whitespace b
 
--- what a word is made of: all but white space and brackets
+-- bytes of a word: all except white space and brackets
 abbrev pub is_of_word : ℕ → Bool
 is_of_word b = not (is_ascii_whitespace b) && not (b == 91) && not (b == 93)
 
--- names, and what each of them means
+-- names, each with its meaning
 abbrev pub Rows : Type 0 → Type 0
 Rows V = List (List ℕ × V)
 
--- what the first row with that name has, whatever the case of its letters
+-- the value of the first row with that name, ignoring the case of letters
 unfoldable pub look_up : {V : Type 0} → Rows V → List ℕ → Option V
 look_up [] name = None
 look_up (r ∷ rows) name = if str_eq_ignore_ascii_case r.0 name then Some r.1 else look_up rows name
 
--- what skips so many bytes, unless it is none
+-- the component that skips n bytes, unless n is 0
 abbrev pub ignored : ℕ → Option Ignore
 ignored zero = None
 ignored (suc n) = Some (record { count = record { value = suc n; ok = zero-lt-suc n } })
 
--- what skips as many bytes as digits say after those that said n, if it is 1 to 65535
+-- the component that skips the number of bytes whose digits so far are n, and the next digits, if that is 1 to 65535
 abbrev pub count_on : ℕ → List ℕ → Option Ignore
 count_on n [] = ignored n
 count_on n (b ∷ bytes) =
@@ -54,7 +54,7 @@ count_on n (b ∷ bytes) =
     then (if nat_lt 65535 (n * 10 + (b - 48)) then None else count_on (n * 10 + (b - 48)) bytes)
     else None
 
--- what skips as many bytes as the digits say, if it is 1 to 65535
+-- the component that skips the number of bytes given by the digits, if that is 1 to 65535
 abbrev pub ignore_count : List ℕ → Option Ignore
 ignore_count = count_on 0
 
@@ -72,7 +72,7 @@ representations name.Year = (codes "full", form.Default) ∷ (codes "century", f
     (codes "last_two", form.LastTwo) ∷ []
 representations _ = []
 
--- of two names the second is yes
+-- of two names, the second means true
 unfoldable pub bases : Rows Bool
 bases = (codes "calendar", false) ∷ (codes "iso_week", true) ∷ []
 

@@ -1,4 +1,4 @@
--- The text that is written of a tree, by version 2. Of a component's modifiers those stand that aren't the default.
+-- The canonical text of a tree, in version 2. It has those modifiers of a component that differ from their defaults.
 use Rattle.std.specs.Prelude.{ℕ, List, [], ◌∷◌, ◌++◌, Bool, true, false, ◌||◌, ◌==◌, codes, if◌then◌else◌}
 use Rattle.std.specs.Fmt.{decimal}
 use Rattle.time_digits.specs.declared.Padding.{Padding}
@@ -16,12 +16,12 @@ padding_text padding.Zero = []
 padding_text padding.Space = codes " padding:space"
 padding_text padding.None = codes " padding:none"
 
--- a modifier that is written where it is true
+-- a modifier that is written if it is true
 abbrev pub where_true : List ℕ → Bool → List ℕ
 where_true modifier true = modifier
 where_true modifier false = []
 
--- a modifier that is written where it is false
+-- a modifier that is written if it is false
 abbrev pub where_false : List ℕ → Bool → List ℕ
 where_false modifier true = []
 where_false modifier false = modifier
@@ -54,7 +54,7 @@ abbrev pub trailing_input_text : TrailingInput → List ℕ
 trailing_input_text trailing.Prohibit = []
 trailing_input_text trailing.Discard = codes " trailing_input:discard"
 
--- what stands in a component's brackets
+-- the text inside a component's brackets
 abbrev pub words_of : Component → List ℕ
 words_of (component.Day m) = codes "day" ++ padding_text m.padding
 words_of (component.MonthShort m) = codes "month repr:short" ++ case_sensitive_text m.case_sensitive
@@ -105,7 +105,7 @@ words_of (component.UnixTimestampNanosecond m) =
     codes "unix_timestamp precision:nanosecond" ++ sign_text m.sign_is_mandatory
 words_of (component.End m) = codes "end" ++ trailing_input_text m.trailing_input
 
--- whether a backslash stands before a byte that is a literal by itself
+-- whether a byte that is a whole literal is written with a backslash
 abbrev pub is_escaped : ℕ → Bool
 is_escaped b = b == 91 || b == 92 || b == 93
 
@@ -122,7 +122,7 @@ abbrev mutual
   tree_text (optional t) = codes "[optional [" ++ (tree_text t ++ codes "]]")
   tree_text (first_of ts) = codes "[first" ++ (lists_text ts ++ codes "]")
 
-  -- of trees in turn
+  -- of trees in order
   pub trees_text : Trees → List ℕ
   trees_text none = []
   trees_text (more t ts) = tree_text t ++ trees_text ts

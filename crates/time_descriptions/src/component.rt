@@ -1,4 +1,4 @@
-//! What brackets around a component's name say.
+//! A component in brackets: its name and its modifiers.
 ghost use Rattle.std.specs.Prelude.{◌≡◌, ℕ, suc, ◌<◌, ◌≤◌, length, IfOk};
 ghost use Rattle.time_descriptions.specs.Components as components;
 ghost use Rattle.time_descriptions.specs.Components.{Gives};
@@ -12,7 +12,7 @@ use crate::names::{
 use crate::values::{Modifier, modifier_value};
 use time_components::Component;
 
-// How many bytes stand before the first colon, or how many there are.
+// The number of bytes before the first colon, or of all bytes if there is no colon.
 fn colon(text: &[u8]) -> usize
     ensures count { result ≡ components.colon text.now }
     ensures within { result ≤ length text.now }
@@ -20,7 +20,7 @@ fn colon(text: &[u8]) -> usize
     text.iter().take_while(|byte| **byte != b':').count()
 }
 
-// What a modifier says. So many bytes are left from it on.
+// The modifier that a word gives. `left` counts the bytes from the word to the end of the whole text.
 #[tactic(auto, unfolding(crate::specs::Components::modifier))]
 fn read_modifier(name: ComponentName, text: &[u8], left: usize) -> Result<Modifier, Fault>
     requires { length text.now ≤ left }
@@ -46,7 +46,7 @@ fn read_modifier(name: ComponentName, text: &[u8], left: usize) -> Result<Modifi
     }
 }
 
-// What the modifiers in front of the text say, and the text after them and white space.
+// The values of the modifiers at the start of the text, and the text after them and white space.
 fn read_modifiers(name: ComponentName, text: &[u8]) -> Result<(Modifiers, &[u8]), Fault>
     ensures within { IfOk result (λ x. length x.1.now ≤ length text.now) }
     ensures reads { Gives (λ x. (x.0, x.1.now)) result
@@ -68,7 +68,8 @@ fn read_modifiers(name: ComponentName, text: &[u8]) -> Result<(Modifiers, &[u8])
     }
 }
 
-// What stands after the closing bracket in front of the text. So many bytes are left from the opening one on.
+// The text after the closing bracket that it begins with. `opening` counts the bytes from the opening bracket to the
+// end of the whole text.
 fn after_component(text: &[u8], opening: usize) -> Result<&[u8], Fault>
     ensures reads { Gives (λ x. x.now) result (components.after_component opening text.now) }
     ensures shorter { IfOk result (λ x. length x.now < length text.now) }
@@ -83,7 +84,7 @@ fn after_component(text: &[u8], opening: usize) -> Result<&[u8], Fault>
     }
 }
 
-/// What the brackets in front of the text say, and what is left after them. The text begins with the opening one.
+/// The component in the brackets at the start of the text, and the rest. The text begins with the opening bracket.
 #[tactic(auto, unfolding(crate::specs::Components::bracketed))]
 pub fn bracketed(text: &[u8]) -> Result<(Component, &[u8]), Fault>
     requires { 1 ≤ length text.now }

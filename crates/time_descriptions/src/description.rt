@@ -1,4 +1,4 @@
-//! Descriptions that were read.
+//! Parsed descriptions.
 ghost use Rattle.std.specs.Prelude.{◌≡◌, ◌≤◌, ◌⊎◌, length, IfOk, IfErr, OnOk};
 ghost use Rattle.time_descriptions.specs.Grammar.{TakesAtMost, Describes};
 ghost use Rattle.time_descriptions.specs.Description.{IsRefused, shape, version_of};
@@ -9,20 +9,21 @@ use crate::items::add_items;
 use crate::leaf::{Step, Version};
 use arrayvec::ArrayVec;
 
-/// How many lists may stand inside one another.
+/// How deep lists may nest.
 pub(crate) const MOST_LISTS: usize = 8;
 
-/// A description of how a date, a time or an offset is written, of at most `N` steps.
+/// A description of the text of a date, a time or an offset, of at most `N` steps.
 ///
-/// A component is one step, and so are each byte of a literal, an optional item, a choice, and each list of a choice. So
-/// a description of up to `N` bytes has room.
+/// A component is one step, and so is each byte of a literal, an optional item, a choice, and each list of a choice. So
+/// a description of up to `N` bytes always fits.
 #[derive(Debug, Drop)]
 pub struct Description<const N: usize> {
     pub(crate) steps: ArrayVec<Step, N>,
 }
 
 impl<const N: usize> Description<N> {
-    /// The steps, at most `N`, in the order of the text. A group has as many of those after it as it says.
+    /// The steps, at most `N`, in the order of the text. A group contains as many of the steps after it as its length
+    /// states.
     pub fn steps(&self) -> &[Step]
         ensures steps { result.now ≡ self.now.steps.items }
         ensures bound { length result.now ≤ N }
@@ -31,7 +32,7 @@ impl<const N: usize> Description<N> {
     }
 }
 
-// The version of that number.
+// The version with that number.
 pub(crate) fn version_of(number: usize) -> Version
     ensures { result ≡ version_of number }
 {
@@ -42,12 +43,12 @@ pub(crate) fn version_of(number: usize) -> Version
     }
 }
 
-/// Reads a description of the version, 1 or 2.
+/// Parses a description of version 1 or 2.
 ///
 /// # Errors
 ///
-/// [`InvalidFormatDescription::TooLong`] exactly where the text up to its first fault or its end begins more than `N`
-/// steps, which it doesn't where it has at most `N` bytes; else the first fault from the left, with its index in the text.
+/// [`InvalidFormatDescription::TooLong`] exactly if the text, up to its first fault or its end, starts more than `N`
+/// steps. A text of at most `N` bytes never does. Otherwise, the first fault from the left, with its index in the text.
 pub fn parse_borrowed<const VERSION: usize, const N: usize>(
     text: &[u8],
 ) -> Result<Description<N>, InvalidFormatDescription<'_>>

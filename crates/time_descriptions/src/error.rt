@@ -1,4 +1,4 @@
-//! Why a text is no description.
+//! The errors of texts that aren't descriptions.
 ghost use Rattle.std.specs.Prelude.{◌≡◌, ◌-◌, ◌≤◌, ◌++◌, length, take, drop, codes, Some};
 ghost use Rattle.std.specs.Fmt.{DisplaysOnOk, decimal};
 ghost use Rattle.time_descriptions.specs.Refusal as refusal;
@@ -7,10 +7,10 @@ ghost use Rattle.time_descriptions.specs.Refusal.{refusal_at, refusal_of, refusa
 use crate::names::{after, front};
 use std::fmt;
 
-/// A text is no description. An index counts bytes of the text, from 0 on.
+/// Why a text isn't a description. An index counts bytes of the text from 0.
 #[derive(Clone, Copy, Debug, PartialEq, Eq)]
 pub enum InvalidFormatDescription<'a> {
-    /// An opening bracket is never closed, or something else stands where it has to be closed.
+    /// An opening bracket is never closed, or something else is found instead of its closing bracket.
     UnclosedOpeningBracket {
         /// The index of the bracket.
         index: usize,
@@ -34,27 +34,27 @@ pub enum InvalidFormatDescription<'a> {
         /// The index of the bracket, or of the white space after it.
         index: usize,
     },
-    /// A component lacks a modifier that it needs.
+    /// A modifier that the component requires is missing.
     MissingRequiredModifier {
         /// The name of the modifier.
         name: &'static str,
         /// The index of the component's name.
         index: usize,
     },
-    /// Something else should stand here.
+    /// Something else is expected here.
     Expected {
-        /// What should stand here.
+        /// What is expected here.
         what: &'static str,
-        /// The index of what stands here.
+        /// The index where it is expected.
         index: usize,
     },
-    /// The text has what no description has here.
+    /// The text has something that isn't supported here.
     NotSupported {
         /// What isn't supported.
         what: &'static str,
-        /// Where it isn't.
+        /// Where it isn't supported.
         context: &'static str,
-        /// The index where it begins.
+        /// The index of its first byte.
         index: usize,
     },
     /// The description has more steps than there is room for.
@@ -79,14 +79,14 @@ impl InvalidFormatDescription<'_> {
     }
 }
 
-// Writes what is wrong, and where.
+// Writes an error and its index.
 fn write_at<W: fmt::Write>(f: &mut fmt::Formatter<W>, what: &str, index: usize) -> fmt::Result
     ensures { DisplaysOnOk W.write_str_gives f.old result (Some (what.now ++ (codes " at byte index " ++ decimal index))) f.new }
 {
     write!(f, "{what} at byte index {index}")
 }
 
-// Writes which word is not what it should be.
+// Writes which word is invalid.
 fn write_invalid<W: fmt::Write>(
     f: &mut fmt::Formatter<W>,
     what: &str,
@@ -100,7 +100,7 @@ fn write_invalid<W: fmt::Write>(
     )
 }
 
-// Writes which modifier a component lacks.
+// Writes which modifier of a component is missing.
 fn write_missing<W: fmt::Write>(f: &mut fmt::Formatter<W>, name: &str, index: usize) -> fmt::Result
     ensures { DisplaysOnOk W.write_str_gives f.old result (refusal_text (refusal.missing_modifier name.now index)) f.new }
 {
@@ -152,7 +152,7 @@ impl fmt::Display for InvalidFormatDescription<'_> {
 
 impl std::error::Error for InvalidFormatDescription<'_> {}
 
-// The index from which on so many bytes are left.
+// The index from which `left` bytes remain.
 fn index_of(text: &[u8], left: usize) -> usize
     ensures value { result ≡ length text.now - left }
     ensures within { result ≤ length text.now }
@@ -160,7 +160,7 @@ fn index_of(text: &[u8], left: usize) -> usize
     text.len().saturating_sub(left)
 }
 
-// The bytes from the index on, as many as that or as there are.
+// The bytes from the index on, `len` of them or all that remain.
 fn word_at(text: &[u8], index: usize, len: usize) -> &[u8]
     requires { index ≤ length text.now }
     ensures { result.now ≡ take len (drop index text.now) }
@@ -173,7 +173,7 @@ fn word_at(text: &[u8], index: usize, len: usize) -> &[u8]
     }
 }
 
-// What should stand.
+// What is expected.
 fn expectation_text(what: Expectation) -> &'static str
     ensures { result.now ≡ refusal.expectation_text what }
 {
@@ -196,7 +196,7 @@ fn unsupported_text(what: Unsupported) -> &'static str
     }
 }
 
-// Where it isn't.
+// Where it isn't supported.
 fn context_text(what: Unsupported) -> &'static str
     ensures { result.now ≡ refusal.context_text what }
 {
@@ -252,7 +252,7 @@ impl<'a> InvalidFormatDescription<'a> {
     }
 }
 
-/// What should stand where something else, or nothing, stands.
+/// What is expected instead of what the text has.
 #[derive(Clone, Copy)]
 pub enum Expectation {
     /// A bracket or a backslash after a backslash.
@@ -267,59 +267,59 @@ pub enum Expectation {
     Modifier,
 }
 
-/// What may stand in no description.
+/// What no description supports.
 #[derive(Clone, Copy)]
 pub enum Unsupported {
-    /// More lists inside one another than are read.
+    /// Lists that nest too deep.
     DeepList,
-    /// A conversion of strftime that no component has.
+    /// A conversion of strftime without a component.
     Conversion,
 }
 
-/// The first fault from the left, with how many bytes are left from its place on.
+/// The first fault from the left, with how many bytes remain from its place on.
 #[derive(Clone, Copy)]
 pub enum Fault {
     /// A bracket is never closed.
     UnclosedOpeningBracket {
-        /// Bytes left from the bracket on.
+        /// Bytes from the bracket to the end of the text.
         left: usize,
     },
     /// No component has the name.
     InvalidComponentName {
-        /// Bytes left from the name on.
+        /// Bytes from the name to the end of the text.
         left: usize,
         /// The name's length.
         len: usize,
     },
     /// The component has no such modifier, or the modifier no such value.
     InvalidModifier {
-        /// Bytes left from the key or the value on.
+        /// Bytes from the key or the value to the end of the text.
         left: usize,
         /// The length of the key or the value.
         len: usize,
     },
     /// Brackets without a name.
     MissingComponentName {
-        /// Bytes left from the place on.
+        /// Bytes from the place to the end of the text.
         left: usize,
     },
     /// `ignore` without its `count`.
     MissingCount {
-        /// Bytes left from the component's name on.
+        /// Bytes from the component's name to the end of the text.
         left: usize,
     },
-    /// Something else should stand here.
+    /// Something else is expected here.
     Expected {
-        /// What.
+        /// What is expected.
         what: Expectation,
-        /// Bytes left from the place on.
+        /// Bytes from the place to the end of the text.
         left: usize,
     },
     /// This is not supported.
     NotSupported {
-        /// What.
+        /// What isn't supported.
         what: Unsupported,
-        /// Bytes left from the place on.
+        /// Bytes from the place to the end of the text.
         left: usize,
     },
     /// There is no room for one more step.

@@ -1,4 +1,4 @@
-//! The items of a description, into steps.
+//! Parsers of a description's items, which append steps.
 ghost use Rattle.std.specs.Prelude.{◌≡◌, ◌<◌, ◌≤◌, ◌+◌, ◌-◌, ◌++◌, ◌∷◌, [], length, suc, map, true, IfOk, IfErr, IfSome, OnOk, slice_set};
 ghost use Rattle.std.specs.List.{prefix_len};
 ghost use Rattle.time_descriptions.specs.Components.{Gives, Adds};
@@ -36,7 +36,7 @@ fn group_named(word: &[u8]) -> Option<Group>
     }
 }
 
-// The group that begins in front of the text, and what stands after its word.
+// The group that the text begins with, and the text after the group's word.
 #[tactic(auto, unfolding(crate::specs::Grammar::group_word))]
 pub(crate) fn group_word(text: &[u8]) -> Option<(Group, &[u8])>
     ensures found { Sees (λ x. (x.0, x.1.now)) result (grammar.group_word text.now) }
@@ -53,7 +53,7 @@ pub(crate) fn group_word(text: &[u8]) -> Option<(Group, &[u8])>
     }
 }
 
-// What stands in the first list of a group.
+// The text inside the first list of a group.
 #[tactic(auto, unfolding(crate::specs::Grammar::opened))]
 pub(crate) fn opened(group: Group, text: &[u8]) -> Result<&[u8], Fault>
     ensures reads { Gives (λ x. x.now) result (grammar.opened group text.now) }
@@ -80,7 +80,7 @@ pub(crate) fn opened(group: Group, text: &[u8]) -> Result<&[u8], Fault>
     }
 }
 
-// What stands in the next list of a group, if one follows.
+// The text inside the next list of a group, if one follows.
 #[tactic(auto, unfolding(crate::specs::Grammar::next_list))]
 pub(crate) fn next_list(text: &[u8]) -> Option<&[u8]>
     ensures found { Sees (λ x. x.now) result (grammar.next_list text.now) }
@@ -92,7 +92,7 @@ pub(crate) fn next_list(text: &[u8]) -> Option<&[u8]>
     }
 }
 
-// What stands after the closing bracket in front of the text.
+// The text after the closing bracket that it begins with.
 pub(crate) fn after_closing(text: &[u8], opening: usize) -> Result<&[u8], Fault>
     ensures reads { Gives (λ x. x.now) result (grammar.after_byte 93 (fault.UnclosedOpeningBracket opening) text.now) }
     ensures shorter { IfOk result (λ rest. length rest.now < length text.now) }
@@ -103,7 +103,7 @@ pub(crate) fn after_closing(text: &[u8], opening: usize) -> Result<&[u8], Fault>
     }
 }
 
-// What stands after a group. So many bytes are left from its opening bracket on.
+// The text after a group. `opening` counts the bytes from the group's opening bracket to the end of the whole text.
 #[tactic(auto, unfolding(crate::specs::Grammar::closed))]
 pub(crate) fn closed(text: &[u8], opening: usize) -> Result<&[u8], Fault>
     ensures reads { Gives (λ x. x.now) result (grammar.closed opening text.now) }
@@ -112,7 +112,7 @@ pub(crate) fn closed(text: &[u8], opening: usize) -> Result<&[u8], Fault>
     after_closing(after(text, space_len(text)), opening)
 }
 
-// One more step, if there is room.
+// Appends a step, if there is room.
 pub(crate) fn push<const N: usize>(steps: &mut ArrayVec<Step, N>, step: Step) -> Result<(), Fault>
     ensures ok { OnOk result (steps.new.items ≡ steps.old.items ++ step ∷ []) }
     ensures room { OnOk result (length steps.new.items ≤ N) }
@@ -124,7 +124,7 @@ pub(crate) fn push<const N: usize>(steps: &mut ArrayVec<Step, N>, step: Step) ->
     }
 }
 
-// The steps of a leaf, if there is room.
+// Appends the steps of a leaf, if there is room.
 fn push_leaf<const N: usize>(steps: &mut ArrayVec<Step, N>, leaf: Leaf<'_>) -> Result<(), Fault>
     ensures ok { OnOk result (steps.new.items ≡ steps.old.items ++ steps_of (leaf_item leaf.entry)) }
     ensures room { OnOk result (length steps.new.items ≤ N) }
@@ -140,7 +140,7 @@ fn push_leaf<const N: usize>(steps: &mut ArrayVec<Step, N>, leaf: Leaf<'_>) -> R
     }
 }
 
-// The further bytes of a literal, if there is room.
+// Appends the further bytes of a literal, if there is room.
 fn push_further<const N: usize>(steps: &mut ArrayVec<Step, N>, bytes: &[u8]) -> Result<(), Fault>
     ensures ok { OnOk result (steps.new.items ≡ steps.old.items ++ map step.More bytes.now) }
     ensures room { OnOk result (length steps.old.items ≤ N → length steps.new.items ≤ N) }
@@ -152,7 +152,7 @@ fn push_further<const N: usize>(steps: &mut ArrayVec<Step, N>, bytes: &[u8]) -> 
     Ok(())
 }
 
-// A group of no steps yet, if there is room, and its index.
+// Appends a group without steps, if there is room, and returns its index.
 fn open_group<const N: usize>(steps: &mut ArrayVec<Step, N>, group: Group) -> Result<usize, Fault>
     ensures ok { IfOk result (λ index. (index ≡ length steps.old.items)
         × (steps.new.items ≡ steps.old.items ++ step.Group group 0 ∷ []) × (length steps.old.items < N)) }
@@ -163,7 +163,7 @@ fn open_group<const N: usize>(steps: &mut ArrayVec<Step, N>, group: Group) -> Re
     Ok(index)
 }
 
-// Lets the group at the index have all steps after it.
+// Sets the length of the group at the index, so that it contains all steps after it.
 fn close_group<const N: usize>(steps: &mut ArrayVec<Step, N>, group: Group, index: usize)
     requires { index < length steps.old.items }
     ensures { steps.new.items ≡ slice_set steps.old.items index
@@ -173,7 +173,7 @@ fn close_group<const N: usize>(steps: &mut ArrayVec<Step, N>, group: Group, inde
     steps[index] = Step::Group(group, len);
 }
 
-// Adds the leaf in front of the text, and answers what is left after it.
+// Appends the leaf at the start of the text, and returns the rest.
 fn add_leaf<'a, const N: usize>(
     version: Version,
     nested: bool,
@@ -193,8 +193,7 @@ fn add_leaf<'a, const N: usize>(
     }
 }
 
-// Adds the item in front of the text, in which so many lists may stand inside one another, and answers what is left
-// after it.
+// Appends the item at the start of the text, and returns the rest. Lists in the item may nest `depth` deep.
 #[cycle(items)]
 fn add_item<'a, const N: usize>(
     version: Version,
@@ -221,7 +220,8 @@ fn add_item<'a, const N: usize>(
     }
 }
 
-// Adds the group after its word. So many bytes are left from its opening bracket on.
+// Appends a group; the text begins after the group's word. `opening` counts the bytes from the group's opening bracket
+// to the end of the whole text.
 #[cycle(items)]
 fn add_group<'a, const N: usize>(
     version: Version,
@@ -250,7 +250,7 @@ fn add_group<'a, const N: usize>(
     }
 }
 
-// Adds what stands in a group, where its first list is open.
+// Appends the contents of a group whose first list is open.
 #[cycle(items)]
 fn add_inside<'a, const N: usize>(
     version: Version,
@@ -271,7 +271,7 @@ fn add_inside<'a, const N: usize>(
     }
 }
 
-// Adds the list in front of the text and those after it, where the first is open.
+// Appends the list that the text continues, whose bracket is already open, and those after it.
 #[cycle(items)]
 fn add_lists<'a, const N: usize>(
     version: Version,
@@ -301,7 +301,7 @@ fn add_lists<'a, const N: usize>(
     }
 }
 
-// Adds the items of an open list, and answers what stands after its closing bracket.
+// Appends the items of an open list, and returns the text after its closing bracket.
 #[cycle(items)]
 fn add_list<'a, const N: usize>(
     version: Version,
@@ -321,8 +321,8 @@ fn add_list<'a, const N: usize>(
     }
 }
 
-/// Adds the items in front of the text, up to its end or, where they are nested, to a closing bracket, and answers what
-/// is left after them. At most so many lists may stand inside one another.
+/// Appends the items at the start of the text, up to its end or, if `nested`, up to a closing bracket, and returns the
+/// rest. Lists may nest `depth` deep.
 #[cycle(items)]
 pub fn add_items<'a, const N: usize>(
     version: Version,

@@ -1,46 +1,46 @@
-//! What holds of descriptions, each as a function's contract.
+//! Laws of descriptions, each the contract of a function.
 ghost use Rattle.time_descriptions.specs.Description.{DescribedBack, OneDescription, OneOutcome, OneStrftimeDescription, OneStrftimeOutcome, StepsOfRead, StrftimePieces, VersionsAgree};
 
-/// A text describes one tree at most, in each version.
+/// A text describes at most one tree in each version.
 pub fn law_one_description()
     ensures { OneDescription }
 {}
 
-/// A text describes one tree at most, as strftime has it.
+/// A text describes at most one tree in strftime's syntax.
 pub fn law_one_strftime_description()
     ensures { OneStrftimeDescription }
 {}
 
-/// A text that is refused is refused in one way, and then it describes no tree in as many steps as there is room for.
+/// A rejected text has exactly one error, and it describes no tree in as many steps as there is room for.
 pub fn law_one_outcome()
     ensures { OneOutcome }
 {}
 
-/// A text that is read begins as many steps as its items have, so there is room for it exactly where there is for them.
+/// A text that is parsed starts as many steps as its items have, so it fits exactly if they fit.
 #[tactic(auto, using(crate::proofs::ReadComponents::steps_of_read))]
 pub fn law_steps_of_read()
     ensures { StepsOfRead }
 {}
 
-/// Versions 1 and 2 read a text alike that has neither a backslash nor two opening brackets in a row: it describes the
-/// same tree, or has the same first fault at the same index.
+/// Versions 1 and 2 agree on a text without backslashes and without two opening brackets in a row: it describes one
+/// tree in both, or has one first fault at one index in both.
 pub fn law_versions_agree()
     ensures { VersionsAgree }
 {}
 
-/// The text that is written of a tree describes it in version 2, if any text does.
+/// The canonical text of a tree describes the tree in version 2, if any text does.
 pub fn law_described_back()
     ensures { DescribedBack }
 {}
 
-/// A text describes a tree as strftime has it exactly where it is made of pieces, each a byte, a conversion or one with a
-/// flag, that stand for the tree's items in turn by the tables of letters and flags.
+/// A text describes a tree in strftime's syntax exactly if it splits into pieces that give the tree's items in order. A
+/// piece is a byte, a conversion, or a conversion with a flag; the tables of letters and flags define its items.
 pub fn law_strftime_pieces()
     ensures { StrftimePieces }
 {}
 
-/// As strftime has it, a text that is refused is refused in one way, and then it describes no tree in as many steps as
-/// there is room for.
+/// In strftime's syntax, a rejected text has exactly one error, and it describes no tree in as many steps as there is
+/// room for.
 pub fn law_one_strftime_outcome()
     ensures { OneStrftimeOutcome }
 {}

@@ -1,4 +1,4 @@
-//! Items that have none inside them, the steps they are kept as, and the versions of descriptions.
+//! Items without other items inside them, their steps, and the versions of descriptions.
 ghost use Rattle.std.specs.Prelude.{◌≡◌, ◌+◌, ◌<◌, ◌≤◌, length, IfOk};
 ghost use Rattle.std.specs.List.{prefix_len};
 ghost use Rattle.time_descriptions.specs.Components.{Gives};
@@ -11,7 +11,7 @@ use crate::names::{after, front};
 use time_components::Component;
 pub use time_components::{Group, Step};
 
-/// An item that has none inside it.
+/// An item without other items inside it.
 #[derive(Clone, Copy)]
 pub enum Leaf<'a> {
     /// A byte, and further ones.
@@ -20,7 +20,7 @@ pub enum Leaf<'a> {
     Component(Component),
 }
 
-// Whether a backslash escapes.
+// Whether a backslash escapes the next byte.
 #[inline(always)]
 fn has_backslash(version: Version) -> bool
     ensures { result ≡ grammar.has_backslash version }
@@ -28,7 +28,7 @@ fn has_backslash(version: Version) -> bool
     matches!(version, Version::Two)
 }
 
-// How many plain bytes stand in front of the text.
+// The number of plain bytes at the start of the text.
 fn plain_len(version: Version, nested: bool, text: &[u8]) -> usize
     ensures count { result ≡ prefix_len (grammar.is_plain version nested) text.now }
     ensures within { result ≤ length text.now }
@@ -41,7 +41,7 @@ fn plain_len(version: Version, nested: bool, text: &[u8]) -> usize
         .count()
 }
 
-// The byte after a backslash, which is no longer special.
+// The byte after a backslash, as a literal.
 fn escaped(text: &[u8]) -> Result<(Leaf<'_>, &[u8]), Fault>
     ensures reads { Gives (λ x. (leaf_item x.0, x.1.now)) result (grammar.escaped text.now) }
     ensures takes { IfOk result (λ x. length (steps_of (leaf_item x.0)) + length x.1.now ≤ length text.now) }
@@ -55,7 +55,7 @@ fn escaped(text: &[u8]) -> Result<(Leaf<'_>, &[u8]), Fault>
     }
 }
 
-/// The literal, the escape or the component in front of the text, and what is left after it.
+/// The literal, the escape or the component at the start of the text, and the rest.
 #[tactic(auto, unfolding(crate::specs::Grammar::leaf))]
 pub fn read_leaf(version: Version, nested: bool, text: &[u8]) -> Result<(Leaf<'_>, &[u8]), Fault>
     ensures reads { Gives (λ x. (leaf_item x.0, x.1.now)) result (grammar.leaf version nested text.now) }
@@ -84,8 +84,8 @@ pub fn read_leaf(version: Version, nested: bool, text: &[u8]) -> Result<(Leaf<'_
 /// A version of descriptions.
 #[derive(Clone, Copy)]
 pub enum Version {
-    /// `[[` is a bracket.
+    /// `[[` is a literal `[`.
     One,
-    /// A backslash stands before a byte that isn't special.
+    /// A backslash escapes the bracket or the backslash after it.
     Two,
 }

@@ -1,4 +1,4 @@
-//! What the letters of strftime stand for.
+//! The meanings of strftime's letters.
 ghost use Rattle.std.specs.Prelude.{◌≡◌};
 ghost use Rattle.time_descriptions.specs.Items.{Sees};
 ghost use Rattle.time_descriptions.specs.Strftime as letters;
@@ -8,14 +8,14 @@ use crate::leaf::Step;
 use crate::modifiers::component;
 use time_components::{Component, Padding};
 
-// A letter, and the component of that name with these modifiers.
+// A letter, and its component: the one of that name with these modifiers.
 macro_rules! row {
     ($letter:literal, $($component:tt)*) => {
         ($letter, component!($($component)*))
     };
 }
 
-// The letters of one component each.
+// The letters that mean one component each.
 const COMPONENTS: [(u8, Component); 28] = [
     row!(b'a', WeekdayShort, case_sensitive: true),
     row!(b'A', WeekdayLong, case_sensitive: true),
@@ -47,7 +47,7 @@ const COMPONENTS: [(u8, Component); 28] = [
     row!(b'W', WeekNumberMonday, padding: Padding::Zero),
 ];
 
-// The other letters but `z`, with the bytes that they stand for. A byte that is a component's letter stands for the
+// The other letters except `z`, with the bytes that they abbreviate. A byte that is a component's letter means the
 // component.
 const SHORTHANDS: [(u8, &[u8]); 11] = [
     (b'D', b"m/d/y"),
@@ -63,7 +63,7 @@ const SHORTHANDS: [(u8, &[u8]); 11] = [
     (b'%', b"%"),
 ];
 
-// What the first row with that letter has.
+// The value of the first row with that letter.
 fn row_of<V: Copy>(rows: &[(u8, V)], letter: u8) -> Option<V>
     ensures { result ≡ row_of rows.now letter }
 {
@@ -77,14 +77,14 @@ fn row_of<V: Copy>(rows: &[(u8, V)], letter: u8) -> Option<V>
     None
 }
 
-/// The component that the letter stands for, if it stands for one.
+/// The component that the letter means, if it means one.
 pub fn component_of_letter(letter: u8) -> Option<Component>
     ensures { result ≡ row_of letters.components letter }
 {
     row_of(&COMPONENTS, letter)
 }
 
-/// The bytes that the letter stands for, if it is a shorthand.
+/// The bytes that the letter abbreviates, if it is a shorthand.
 pub fn shorthand(letter: u8) -> Option<&'static [u8]>
     ensures { Sees (λ bytes. bytes.now) result (row_of letters.shorthands letter) }
 {

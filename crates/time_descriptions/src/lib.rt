@@ -1,4 +1,4 @@
-//! Descriptions of dates, times and offsets, written as text, as `[year]-[month]-[day]`.
+//! Parsers of descriptions of dates, times and offsets, such as `[year]-[month]-[day]`.
 #![tactic(auto)]
 
 mod component;

@@ -1,4 +1,4 @@
-//! The values of a component's modifiers, and the component that they pick.
+//! The values of a component's modifiers, and the component that they select.
 ghost use Rattle.std.specs.Prelude.{◌≡◌};
 ghost use Rattle.time_descriptions.specs.Modifiers as modifiers_;
 
@@ -6,7 +6,7 @@ use crate::names::ComponentName;
 use crate::values::{Modifier, Precision, Representation};
 use time_components::{Component, Padding, SubsecondDigits, TrailingInput, modifier};
 
-// The component of that name with these modifiers.
+// The component with that name and these modifiers.
 macro_rules! component {
     ($name:ident, $($modifiers:tt)*) => {
         time_components::Component::$name(time_components::modifier::$name { $($modifiers)* })
@@ -18,7 +18,7 @@ pub(crate) use component;
 /// The values of a component's modifiers.
 #[derive(Clone, Copy)]
 pub struct Modifiers {
-    /// Whether it is the year of an ISO week date.
+    /// Whether the year is that of an ISO week date.
     pub is_iso_week: bool,
     /// Whether the letters are capitals.
     pub is_uppercase: bool,
@@ -30,22 +30,22 @@ pub struct Modifiers {
     pub digits: SubsecondDigits,
     /// Whether the first day has the number 1.
     pub one_indexed: bool,
-    /// What fills the number up.
+    /// What fills the number up to its width.
     pub padding: Padding,
     /// The unit of a timestamp.
     pub precision: Precision,
     /// Whether a sign extends the range.
     pub is_extended: bool,
-    /// Which form is meant.
+    /// Which form of the component is selected.
     pub representation: Representation,
-    /// Whether a sign has to stand.
+    /// Whether a sign is required.
     pub sign_is_mandatory: bool,
-    /// What becomes of bytes that are left.
+    /// How trailing bytes are treated.
     pub trailing_input: TrailingInput,
 }
 
 impl Modifiers {
-    // What holds where no modifier stands.
+    // The values without any modifier.
     pub const DEFAULT: Modifiers = Modifiers {
         is_iso_week: false,
         is_uppercase: true,
@@ -61,7 +61,7 @@ impl Modifiers {
         trailing_input: TrailingInput::Prohibit,
     };
 
-    // The values with one more, which replaces an earlier one of its key.
+    // The values with one more modifier, which replaces an earlier value of its key.
     pub fn with(mut self, modifier: Modifier) -> Modifiers
         ensures { result ≡ modifiers_.with_modifier self modifier }
     {
@@ -83,7 +83,7 @@ impl Modifiers {
     }
 }
 
-// The full year that the modifiers pick.
+// The full year that the modifiers select.
 fn full_year(modifiers: Modifiers) -> Component
     ensures { result ≡ modifiers_.full_year modifiers.is_iso_week modifiers.is_extended modifiers }
 {
@@ -97,7 +97,7 @@ fn full_year(modifiers: Modifiers) -> Component
     }
 }
 
-// The century that the modifiers pick.
+// The century that the modifiers select.
 fn century(modifiers: Modifiers) -> Component
     ensures { result ≡ modifiers_.century modifiers.is_iso_week modifiers.is_extended modifiers }
 {
@@ -111,7 +111,7 @@ fn century(modifiers: Modifiers) -> Component
     }
 }
 
-// The year that the modifiers pick.
+// The year that the modifiers select.
 fn year(modifiers: Modifiers) -> Component
     ensures { result ≡ modifiers_.year modifiers }
 {
@@ -124,7 +124,7 @@ fn year(modifiers: Modifiers) -> Component
     }
 }
 
-// The month that the modifiers pick.
+// The month that the modifiers select.
 fn month(modifiers: Modifiers) -> Component
     ensures { result ≡ modifiers_.month modifiers }
 {
@@ -136,7 +136,7 @@ fn month(modifiers: Modifiers) -> Component
     }
 }
 
-// The weekday that the modifiers pick.
+// The weekday that the modifiers select.
 fn weekday(modifiers: Modifiers) -> Component
     ensures { result ≡ modifiers_.weekday modifiers }
 {
@@ -150,7 +150,7 @@ fn weekday(modifiers: Modifiers) -> Component
     }
 }
 
-// The week number that the modifiers pick.
+// The week number that the modifiers select.
 fn week_number(modifiers: Modifiers) -> Component
     ensures { result ≡ modifiers_.week_number modifiers }
 {
@@ -162,7 +162,7 @@ fn week_number(modifiers: Modifiers) -> Component
     }
 }
 
-// The timestamp that the modifiers pick.
+// The timestamp that the modifiers select.
 fn unix_timestamp(modifiers: Modifiers) -> Component
     ensures { result ≡ modifiers_.unix_timestamp modifiers }
 {
@@ -175,7 +175,7 @@ fn unix_timestamp(modifiers: Modifiers) -> Component
     }
 }
 
-// The hour that the modifiers pick.
+// The hour that the modifiers select.
 fn hour(modifiers: Modifiers) -> Component
     ensures { result ≡ modifiers_.hour modifiers }
 {
@@ -186,7 +186,7 @@ fn hour(modifiers: Modifiers) -> Component
     }
 }
 
-// The component of the name that the modifiers pick. `None`: `ignore` without a count.
+// The component with that name that the modifiers select. Returns `None` for `ignore` without a count.
 #[tactic(auto, unfolding(crate::specs::Modifiers::component_of))]
 pub fn component_of(name: ComponentName, modifiers: Modifiers) -> Option<Component>
     ensures { result ≡ modifiers_.component_of name modifiers }

@@ -8,7 +8,7 @@ ghost use Rattle.std.specs.Str.{str_eq_ignore_ascii_case};
 use std::num::NonZero;
 use time_components::modifier;
 
-/// What brackets may name.
+/// The names of components in brackets.
 #[derive(Clone, Copy)]
 pub enum ComponentName {
     /// `day`
@@ -145,14 +145,14 @@ const YEAR_KEYS: [(&[u8], ModifierKey); 5] = [
     (b"sign", ModifierKey::Sign),
 ];
 
-/// The component of that name.
+/// The component with that name.
 pub fn component_name(name: &[u8]) -> Option<ComponentName>
     ensures { result ≡ look_up names.component_names name.now }
 {
     look_up(&COMPONENT_NAMES, name)
 }
 
-/// The key of that name, of those that the component has.
+/// The key with that name, if the component has such a modifier.
 #[tactic(auto, unfolding(crate::specs::Values::modifier_keys))]
 pub fn modifier_key(component: ComponentName, name: &[u8]) -> Option<ModifierKey>
     ensures { result ≡ look_up (names.modifier_keys component) name.now }
@@ -177,7 +177,7 @@ pub fn modifier_key(component: ComponentName, name: &[u8]) -> Option<ModifierKey
     }
 }
 
-// The first so many bytes of the text.
+// The first `count` bytes of the text.
 #[inline(always)]
 pub fn front(text: &[u8], count: usize) -> &[u8]
     requires { count ≤ length text.now }
@@ -186,7 +186,7 @@ pub fn front(text: &[u8], count: usize) -> &[u8]
     &text[..count]
 }
 
-// What is left after so many bytes of the text.
+// The text after its first `count` bytes.
 #[inline(always)]
 pub fn after(text: &[u8], count: usize) -> &[u8]
     requires { count ≤ length text.now }
@@ -195,7 +195,7 @@ pub fn after(text: &[u8], count: usize) -> &[u8]
     &text[count..]
 }
 
-// How many bytes of white space stand in front of the text.
+// The number of bytes of white space at the start of the text.
 #[inline]
 pub fn space_len(text: &[u8]) -> usize
     ensures count { result ≡ prefix_len is_space text.now }
@@ -206,7 +206,7 @@ pub fn space_len(text: &[u8]) -> usize
         .count()
 }
 
-// How long the word in front of the text is. It ends before white space or a bracket.
+// The length of the word at the start of the text. A word ends before white space or a bracket.
 #[inline]
 pub fn word_len(text: &[u8]) -> usize
     ensures count { result ≡ prefix_len is_of_word text.now }
@@ -217,7 +217,7 @@ pub fn word_len(text: &[u8]) -> usize
         .count()
 }
 
-// Whether the names are one but for the case of their letters.
+// Whether the names are equal, ignoring the case of ASCII letters.
 #[inline]
 fn is_same_name(name: &[u8], other: &[u8]) -> bool
     ensures { result ≡ str_eq_ignore_ascii_case name.now other.now }
@@ -225,7 +225,7 @@ fn is_same_name(name: &[u8], other: &[u8]) -> bool
     name.eq_ignore_ascii_case(other)
 }
 
-// What the first row with that name has, whatever the case of its letters.
+// The value of the first row with that name, ignoring the case of letters.
 pub fn look_up<V: Copy>(rows: &[(&[u8], V)], name: &[u8]) -> Option<V>
     ensures { result ≡ look_up (map (λ r. (r.0.now, r.1)) rows.now) name.now }
 {
@@ -239,7 +239,7 @@ pub fn look_up<V: Copy>(rows: &[(&[u8], V)], name: &[u8]) -> Option<V>
     None
 }
 
-// What skips as many bytes as the digits say, if it is 1 to 65535.
+// The component that skips the number of bytes given by the digits, if that is 1 to 65535.
 pub fn ignore_count(digits: &[u8]) -> Option<modifier::Ignore>
     ensures { result ≡ ignore_count digits.now }
 {

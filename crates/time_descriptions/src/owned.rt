@@ -1,4 +1,4 @@
-//! Descriptions that were read, as items that own their parts.
+//! Parsed descriptions, as items that own their parts.
 ghost use Rattle.std.specs.Prelude.{◌≡◌, ◌⊎◌, ◌<◌, ◌≤◌, alloc_error, length, map, suc, true, IfOk};
 ghost use Rattle.time_components.specs.Tree.{owned_shape, group_tree, sequence, trees};
 ghost use Rattle.time_descriptions.specs.Description.{version_of};
@@ -15,12 +15,12 @@ use std::alloc::{AllocError, AllocFailed, Global};
 use std::fmt;
 use time_components::OwnedFormatItem;
 
-/// Why a text gives no description that owns its parts.
+/// The error of [`parse_owned`].
 #[derive(Clone, Copy, Debug, PartialEq, Eq)]
 pub enum OwnedError<'a> {
-    /// The text is no description.
+    /// The text isn't a description.
     Invalid(InvalidFormatDescription<'a>),
-    /// Memory is short.
+    /// Out of memory.
     Memory(AllocError),
 }
 
@@ -37,12 +37,12 @@ impl fmt::Display for OwnedError<'_> {
 
 impl std::error::Error for OwnedError<'_> {}
 
-/// Why nothing is read.
+/// Why parsing failed.
 #[derive(Clone, Copy)]
 pub enum Unread {
     /// The first fault.
     Fault(Fault),
-    /// Memory is short.
+    /// Out of memory.
     Memory(AllocError),
 }
 
@@ -70,7 +70,7 @@ impl<T: Drop> From<AllocFailed<T>> for Unread {
     }
 }
 
-// The item that a leaf is.
+// The item of a leaf.
 fn owned_leaf(alloc: Global, leaf: Leaf<'_>) -> Result<OwnedFormatItem, AllocError>
     ensures { IfOk result (λ item. SaysItem item (leaf_item leaf.entry)) }
 {
@@ -85,14 +85,14 @@ fn owned_leaf(alloc: Global, leaf: Leaf<'_>) -> Result<OwnedFormatItem, AllocErr
     }
 }
 
-// The list of these items.
+// A list of the items.
 fn compound(items: Vec<OwnedFormatItem>) -> OwnedFormatItem
     ensures { owned_shape result ≡ sequence (trees (map owned_shape items.items)) }
 {
     OwnedFormatItem::Compound(items)
 }
 
-// The item of a group with these inside.
+// The item of a group with the items inside.
 fn owned_group(
     alloc: Global,
     group: Group,
@@ -110,7 +110,7 @@ fn owned_group(
     }
 }
 
-// The item in front of the text, in which so many lists may stand inside one another, and what is left after it.
+// The item at the start of the text, and the rest. Lists in the item may nest `depth` deep.
 #[cycle(owned)]
 fn read_item<'a>(
     alloc: Global,
@@ -140,7 +140,8 @@ fn read_item<'a>(
     }
 }
 
-// The group after its word, and what is left after it. So many bytes are left from its opening bracket on.
+// A group, and the rest; the text begins after the group's word. `opening` counts the bytes from the group's opening
+// bracket to the end of the whole text.
 #[cycle(owned)]
 fn read_group<'a>(
     alloc: Global,
@@ -160,7 +161,7 @@ fn read_group<'a>(
     Ok((item, rest))
 }
 
-// What stands in a group, where its first list is open, and what is left after it.
+// The contents of a group whose first list is open, and the rest.
 #[cycle(owned)]
 fn read_inside<'a>(
     alloc: Global,
@@ -180,7 +181,7 @@ fn read_inside<'a>(
     }
 }
 
-// The list in front of the text and those after it, where the first is open, and what is left after them.
+// The list that the text continues, whose bracket is already open, those after it, and the rest.
 #[cycle(owned)]
 fn read_lists<'a>(
     alloc: Global,
@@ -205,7 +206,7 @@ fn read_lists<'a>(
     }
 }
 
-// The items of an open list, and what stands after its closing bracket.
+// The items of an open list, and the text after its closing bracket.
 #[cycle(owned)]
 fn read_list<'a>(
     alloc: Global,
@@ -223,8 +224,7 @@ fn read_list<'a>(
     Ok((items, rest))
 }
 
-// The items in front of the text, up to its end or, where they are nested, to a closing bracket, and what is left after
-// them.
+// The items at the start of the text, up to its end or, if `nested`, up to a closing bracket, and the rest.
 #[cycle(owned)]
 fn read_items<'a>(
     alloc: Global,
@@ -247,13 +247,13 @@ fn read_items<'a>(
     Ok((items, rest))
 }
 
-/// Reads a description of the version, 1 or 2, of any number of steps. The item is a list of those of the text, each
-/// literal as its bytes.
+/// Parses a description of version 1 or 2, of any number of steps. The result is a list of the text's items, with each
+/// literal as bytes.
 ///
 /// # Errors
 ///
-/// [`OwnedError::Invalid`] for the first fault from the left, with its index in the text; [`OwnedError::Memory`] where
-/// memory is short.
+/// [`OwnedError::Invalid`] for the first fault from the left, with its index in the text; [`OwnedError::Memory`] if out
+/// of memory.
 pub fn parse_owned<const VERSION: usize>(
     alloc: Global,
     text: &[u8],

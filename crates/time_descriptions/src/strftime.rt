@@ -1,4 +1,4 @@
-//! Descriptions as strftime has them.
+//! Descriptions in strftime's syntax.
 ghost use Rattle.std.specs.Prelude.{◌≡◌, ◌⊎◌, ◌+◌, ◌<◌, ◌≤◌, ◌++◌, ◌∷◌, length, map, Some, IfOk, IfErr, OnOk};
 ghost use Rattle.time_descriptions.specs.Components.{Gives};
 ghost use Rattle.time_descriptions.specs.Description.{shape};
@@ -18,20 +18,20 @@ use crate::modifiers::component;
 use arrayvec::ArrayVec;
 use time_components::{Component, Padding};
 
-/// What a byte or a conversion stands for.
+/// The meaning of a byte or a conversion.
 #[derive(Clone, Copy)]
 pub enum Part {
     /// A literal byte.
     Byte(u8),
     /// A component.
     Component(Component),
-    /// The hours of an offset, and its minutes.
+    /// The hours and the minutes of an offset.
     Offset,
-    /// What the bytes of that letter stand for.
+    /// The meanings of the bytes that the letter abbreviates.
     Shorthand(u8),
 }
 
-// The padding that the flag asks for.
+// The padding that the flag selects.
 fn flag_padding(flag: u8) -> Option<Padding>
     ensures { result ≡ letters.flag_padding flag }
 {
@@ -43,7 +43,7 @@ fn flag_padding(flag: u8) -> Option<Padding>
     }
 }
 
-// The component with that padding, if it has a padding and a letter stands for it.
+// The component with that padding, if it has a padding and some letter means it.
 #[tactic(auto, unfolding(crate::specs::Strftime::with_padding))]
 fn with_padding(padding: Padding, component: Component) -> Option<Component>
     ensures { result ≡ letters.with_padding padding component }
@@ -80,7 +80,7 @@ fn padded(padding: Padding, letter: u8) -> Option<Component>
     }
 }
 
-// What the letter stands for, if it stands for anything.
+// The meaning of the letter, if it has one.
 fn meaning(letter: u8) -> Option<Part>
     ensures { Sees part_items result (letters.meaning letter) }
 {
@@ -96,7 +96,8 @@ fn meaning(letter: u8) -> Option<Part>
     }
 }
 
-// What the letter stands for. So many bytes are left from its `%` on, and from itself on.
+// The meaning of the letter. `percent` counts the bytes from its `%` to the end of the text, and `left` those from the
+// letter.
 fn read_letter(percent: usize, left: usize, letter: u8) -> Result<Part, Fault>
     ensures { Gives part_items result (letters.letter_items percent left letter) }
 {
@@ -112,7 +113,7 @@ fn read_letter(percent: usize, left: usize, letter: u8) -> Result<Part, Fault>
     }
 }
 
-// What the letter in front of the text stands for after a flag, and what is left after it.
+// The meaning of the letter at the start of the text, after a flag, and the rest.
 #[tactic(auto, unfolding(crate::specs::Strftime::flagged))]
 fn read_flagged(padding: Padding, text: &[u8]) -> Result<(Part, &[u8]), Fault>
     ensures begins { Begins (letters.flagged padding text.now) result }
@@ -134,7 +135,7 @@ fn read_flagged(padding: Padding, text: &[u8]) -> Result<(Part, &[u8]), Fault>
     }
 }
 
-// What stands after a `%`, and what is left after it.
+// The conversion after a `%`, and the rest.
 #[tactic(auto, unfolding(crate::specs::Strftime::conversion))]
 fn read_conversion(text: &[u8]) -> Result<(Part, &[u8]), Fault>
     ensures begins { Begins (letters.conversion text.now) result }
@@ -152,7 +153,7 @@ fn read_conversion(text: &[u8]) -> Result<(Part, &[u8]), Fault>
     }
 }
 
-// What the first byte and those behind it begin with, and what is left after it.
+// The byte or the conversion that `first` and `behind` begin with, and the rest.
 #[tactic(auto, unfolding(crate::specs::Strftime::strftime))]
 fn read_part(first: u8, behind: &[u8]) -> Result<(Part, &[u8]), Fault>
     ensures begins { Begins (letters.strftime (first ∷ behind.now)) result }
@@ -165,7 +166,7 @@ fn read_part(first: u8, behind: &[u8]) -> Result<(Part, &[u8]), Fault>
     }
 }
 
-// The steps of the bytes of a shorthand, if there is room.
+// Appends the steps of a shorthand's bytes, if there is room.
 fn push_shorthand<const N: usize>(steps: &mut ArrayVec<Step, N>, bytes: &[u8]) -> Result<(), Fault>
     ensures ok { OnOk result (steps.new.items ≡ steps.old.items ++ map letters.step_of_byte bytes.now) }
     ensures room { OnOk result (length steps.old.items ≤ N → length steps.new.items ≤ N) }
@@ -177,7 +178,7 @@ fn push_shorthand<const N: usize>(steps: &mut ArrayVec<Step, N>, bytes: &[u8]) -
     Ok(())
 }
 
-// The steps of an offset, if there is room.
+// Appends the steps of an offset, if there is room.
 fn push_offset<const N: usize>(steps: &mut ArrayVec<Step, N>) -> Result<(), Fault>
     ensures ok { OnOk result (steps.new.items ≡ steps.old.items ++ flat letters.offset) }
     ensures room { OnOk result (length steps.old.items ≤ N → length steps.new.items ≤ N) }
@@ -189,7 +190,7 @@ fn push_offset<const N: usize>(steps: &mut ArrayVec<Step, N>) -> Result<(), Faul
     push(steps, Step::Component(minutes))
 }
 
-// The steps of a part, if there is room.
+// Appends the steps of a part, if there is room.
 fn push_part<const N: usize>(steps: &mut ArrayVec<Step, N>, part: Part) -> Result<(), Fault>
     ensures ok { OnOk result (steps.new.items ≡ steps.old.items ++ flat (part_items part)) }
     ensures room { OnOk result (length steps.old.items ≤ N → length steps.new.items ≤ N) }
@@ -228,13 +229,13 @@ fn read_steps<const N: usize>(text: &[u8]) -> Result<ArrayVec<Step, N>, Fault>
     Ok(steps)
 }
 
-/// Reads a description as strftime has it, as `%Y-%m-%d`: of bytes that stand as they are, and of conversions, each of
-/// them `%`, a flag or none, and a letter.
+/// Parses a description in strftime's syntax, such as `%Y-%m-%d`: literal bytes, and conversions, each a `%`, an
+/// optional flag and a letter.
 ///
 /// # Errors
 ///
-/// [`InvalidFormatDescription::TooLong`] exactly where the text up to its first fault or its end describes more than `N`
-/// steps; else the first fault from the left, with its index in the text.
+/// [`InvalidFormatDescription::TooLong`] exactly if the text, up to its first fault or its end, describes more than `N`
+/// steps. Otherwise, the first fault from the left, with its index in the text.
 pub fn parse_strftime<const N: usize>(
     text: &[u8],
 ) -> Result<Description<N>, InvalidFormatDescription<'_>>

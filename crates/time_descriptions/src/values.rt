@@ -6,10 +6,10 @@ ghost use Rattle.time_descriptions.specs.Values.{ignore_count, look_up};
 use crate::names::{ComponentName, ModifierKey, ignore_count, look_up};
 use time_components::{Padding, SubsecondDigits, TrailingInput, modifier};
 
-/// Which of the forms of a component is meant.
+/// A form of a component.
 #[derive(Clone, Copy)]
 pub enum Representation {
-    /// The one where no `repr` stands.
+    /// The form without `repr`.
     Default,
     /// `12`
     Twelve,
@@ -43,7 +43,7 @@ pub enum Precision {
 /// A modifier with its value.
 #[derive(Clone, Copy)]
 pub enum Modifier {
-    /// Whether it is the year of an ISO week date.
+    /// Whether the year is that of an ISO week date.
     Base(bool),
     /// Whether the letters are capitals.
     Case(bool),
@@ -55,17 +55,17 @@ pub enum Modifier {
     Digits(SubsecondDigits),
     /// Whether the first day has the number 1.
     OneIndexed(bool),
-    /// What fills the number up.
+    /// What fills the number up to its width.
     Padding(Padding),
     /// The unit of a timestamp.
     Precision(Precision),
     /// Whether a sign extends the range.
     Range(bool),
-    /// Which form is meant.
+    /// Which form of the component is selected.
     Representation(Representation),
-    /// Whether a sign has to stand.
+    /// Whether a sign is required.
     Sign(bool),
-    /// What becomes of bytes that are left.
+    /// How trailing bytes are treated.
     TrailingInput(TrailingInput),
 }
 
@@ -140,7 +140,7 @@ const YEARS: [(&[u8], Representation); 3] = [
     (b"last_two", Representation::LastTwo),
 ];
 
-/// The form of that name, of those that the component has.
+/// The form with that name, if the component has such a form.
 #[tactic(auto, unfolding(crate::specs::Values::representations, crate::specs::Values::look_up))]
 pub fn representation_named(component: ComponentName, name: &[u8]) -> Option<Representation>
     ensures { result ≡ look_up (values.representations component) name.now }
@@ -151,7 +151,7 @@ pub fn representation_named(component: ComponentName, name: &[u8]) -> Option<Rep
         ComponentName::Weekday => look_up(&WEEKDAYS, name),
         ComponentName::WeekNumber => look_up(&WEEKS, name),
         ComponentName::Year => look_up(&YEARS, name),
-        // The others have one form alone.
+        // The other components have only one form.
         _ => None,
     }
 }

@@ -1,4 +1,4 @@
--- The digits of a fraction of a second: nine count, and the others are passed over.
+-- The digits of a fraction of a second: the first nine count, and later ones are skipped.
 use Rattle.std.proofs.Common.{◌≡◌, ℕ, ◌+◌, ◌-◌, ◌*◌, ◌≤◌, List, [], ◌∷◌, ◌++◌, length, take, drop, ap, sym, ◌∙◌, inl, arith, length-append, append_assoc, ◌^◌, ◌<◌, ◌⊎◌, get_or, refl, inr, subst, mul-le-mul_right, add-mul}
 use Rattle.std.proofs.lemmas.List.{length-take-le, take-append-drop, take-append-le, append-nil, take_all, length-take}
 use Rattle.std.proofs.lemmas.Bool.{cases_lt}
@@ -8,7 +8,7 @@ use Rattle.time_digits.specs.Digits.{IsDigitByte, Cut, AllDigits, digits_value, 
 use Rattle.time_digits.proofs.Runs.{AllDigits-push, digits_value-push, AllDigits-append, AllDigits-take, digits_value-below, pow-mono, IsDigitRun-below}
 use Rattle.time_digits.proofs.WordBytes.{first_byte, first_three}
 
--- ---- Runs of exactly so many digits
+-- ---- Runs of an exact number of digits
 
 -- the first bytes are digits
 pub exact_cut : (n v : ℕ) (s : List ℕ) → n ≤ length s → AllDigits (take n s) → v ≡ digits_value (take n s) → Cut (IsDigitRun n n) s (drop n s) v
@@ -19,7 +19,7 @@ exact_cut n v s h digits is =
       record { digits = digits; enough = omega arith; within = omega arith; ends = inl l; is = is },
     )
 
--- a digit follows eight
+-- a digit after eight digits
 pub nine_cut : (s mid rest : List ℕ) (a c : ℕ) → Cut (IsDigitRun 8 8) s mid a → Cut IsDigitByte mid rest c → Cut (IsDigitRun 9 9) s rest (10 * a + (c - 48))
 nine_cut s mid rest a c eight ninth =
     let l = length-append eight.0 (c ∷ []) in
@@ -35,7 +35,7 @@ nine_cut s mid rest a c eight ninth =
       },
     )
 
--- one more digit is passed over
+-- one more digit is skipped
 pub digits_more : (s digits rest : List ℕ) → s ≡ digits ++ rest → AllDigits digits → 1 ≤ length rest → IsDigit (get_or rest 0 0)
     → (more : List ℕ) × (s ≡ more ++ take (length rest - 1) (drop 1 rest)) × AllDigits more
 digits_more s digits rest e all h d =
@@ -55,7 +55,7 @@ one_more v u p h one =
     let sum : (v + 1) * u ≡ v * u + u = omega (arith, add-mul v 1 u) in
     omega arith
 
--- a number of so many digits says less than a second
+-- a number of at most nine decimal places is less than a second
 pub nanoseconds_below : (digits n : ℕ) → digits ≤ 9 → n < 10 ^ digits → n * 10 ^ (9 - digits) < 10 ^ 9
 nanoseconds_below digits n h below =
     let second = tens digits h in
@@ -76,7 +76,7 @@ fraction_nanoseconds-below text all =
 read_count : (s text rest : List ℕ) → s ≡ text ++ rest → length s - length rest ≡ length text
 read_count s text rest e = omega (arith, ap length e, length-append text rest)
 
--- what a reader of nine digits read fits
+-- the nanoseconds of the digits that a parser of up to nine digits read fit
 pub fraction_fits : (s rest : List ℕ) (value unit greatest : ℕ) → Cut (IsDigitRunUpTo greatest 1 9) s rest value
     → unit ≡ 10 ^ (9 - (length s - length rest)) → value * unit < 10 ^ 9
 fraction_fits s rest value unit greatest cut worth =
@@ -91,7 +91,7 @@ no_more : (digits rest : List ℕ) → AllDigits digits → NoDigitFirst (digits
 no_more [] rest all ends = refl
 no_more (d ∷ digits) rest all ends = absurd (ends all.0)
 
--- nine digits and more, or fewer and no more, in nanoseconds
+-- nine digits and any after them, or fewer digits with none after them, in nanoseconds
 nine_count : (text more : List ℕ) → (length text ≡ 9) ⊎ (length more ≡ 0) → length text ≤ 9
     → digits_value text * 10 ^ (9 - length text) ≡ fraction_nanoseconds (text ++ more)
 nine_count text more (inl nine) h =
@@ -103,13 +103,13 @@ nine_count text [] (inr none) h =
     ap (λ t. digits_value t * 10 ^ (9 - length text)) (sym first) ∙ ap fraction_nanoseconds (sym (append-nil text))
 nine_count text (c ∷ more) (inr none) h = absurd (omega arith)
 
--- What a reader of nine digits read, and the digits that follow it, are the digits of a fraction.
+-- The digits that a parser of up to nine digits read, and those after them, are the digits of a fraction.
 pub record IsRead (text more : List ℕ) (nanoseconds : ℕ) : Type 0 where
   pub digits : AllDigits (text ++ more)
   pub ended : (length text ≡ 9) ⊎ (length more ≡ 0)
   pub is : nanoseconds ≡ fraction_nanoseconds (text ++ more)
 
--- the digits that a reader of nine leaves, and those that it read
+-- the digits that a parser of up to nine digits left unread, and those that it read
 pub read_more : (s text more rest : List ℕ) (value unit : ℕ) → s ≡ text ++ (more ++ rest) → IsDigitRun 1 9 text (more ++ rest) value
     → AllDigits more → unit ≡ 10 ^ (9 - (length s - length (more ++ rest))) → IsRead text more (value * unit)
 read_more s text more rest value unit e run all worth =
@@ -123,7 +123,7 @@ read_more s text more rest value unit e run all worth =
           ∙ nine_count text more ended run.within;
     }
 
--- as many digits as stand there
+-- all leading digits
 pub fraction_cut : (s mid rest : List ℕ) (value unit greatest : ℕ) → Cut (IsDigitRunUpTo greatest 1 9) s mid value
     → unit ≡ 10 ^ (9 - (length s - length mid)) → (digits : List ℕ) × (mid ≡ digits ++ rest) × AllDigits digits × NoDigitFirst rest
     → Cut IsFraction s rest (value * unit)
@@ -156,7 +156,7 @@ fraction_nine s mid rest value cut over =
     let found = fraction_cut s mid rest value 1 value (cut.0, cut.1, (up_to, omega arith)) worth over in
     subst (λ v. Cut IsFraction s rest v) (omega arith) found
 
--- where a reader of nine digits reads nothing, no digits stand of which it would have left none unread
+-- if a parser of one to nine digits finds nothing, no prefix of the input is nine or more digits, or one or more that no digit follows
 pub no_digits : (greatest : ℕ) (s text rest : List ℕ) → 10 ^ 9 ≤ greatest + 1 → NoCut (IsDigitRunUpTo greatest 1 9) s → s ≡ text ++ rest
     → AllDigits text → 1 ≤ length text → (9 ≤ length text) ⊎ NoDigitFirst rest → ⊥
 no_digits greatest s text rest room none e all enough ends =
@@ -185,7 +185,7 @@ fraction_none greatest s room none text rest v e found =
 
 -- ---- Runs of three digits, and the fractions of a second of three digits and of six
 
--- three digits that stand there
+-- three leading digits
 pub three_cut : (s : List ℕ) (value : ℕ) → 3 ≤ length s → IsDigit (get_or s 0 0) → IsDigit (get_or s 1 0) → IsDigit (get_or s 2 0)
     → value ≡ 100 * (get_or s 0 0 - 48) + 10 * (get_or s 1 0 - 48) + (get_or s 2 0 - 48)
     → Cut (IsDigitRun 3 3) s (take (length s - 3) (drop 3 s)) value
@@ -205,7 +205,7 @@ no_digit (c ∷ s) none = λ digit. none (c ∷ []) s c refl (refl, digit)
 three_long : (text rest : List ℕ) (value : ℕ) → IsDigitRun 3 3 text rest value → length text ≡ 3
 three_long text rest value run = omega (arith, run.enough, run.within)
 
--- what a few digits say
+-- the value of a few digits
 nanoseconds_of : (text : List ℕ) (n : ℕ) → length text ≡ n → n ≤ 9 → fraction_nanoseconds text ≡ digits_value text * 10 ^ (9 - n)
 nanoseconds_of text n l h =
     ap (λ t. digits_value t * 10 ^ (9 - length text)) (take_all 9 text (omega arith)) ∙ ap (λ k. digits_value text * 10 ^ (9 - k)) l

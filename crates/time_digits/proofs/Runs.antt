@@ -1,4 +1,4 @@
--- Runs of digits: how one grows, and that at most one cut of a text is one.
+-- Runs of digits: adding a digit to one, and that at most one cut of a text is a run.
 use Rattle.std.proofs.Common.{◌≡◌, ℕ, zero, suc, ◌+◌, ◌-◌, ◌*◌, ◌^◌, ◌<◌, ◌≤◌, ◌⊎◌, List, [], ◌∷◌, ◌++◌, length, take, drop, get_or, refl, ap, sym, ◌∙◌, inl, inr, arith, subst, length-append, pow-suc, mul_assoc, mul_comm, mul-le-mul_right, replicate, append_assoc, Option, Some, None}
 use Rattle.std.proofs.lemmas.List.{length-take, length-take-le, take_all, take-append-drop, take_more}
 use Rattle.std.proofs.lemmas.Bool.{cases_lt}
@@ -58,20 +58,20 @@ AllDigits-at [] n h below = absurd (omega arith)
 AllDigits-at (x ∷ xs) zero h below = h.0
 AllDigits-at (x ∷ xs) (suc n) h below = AllDigits-at xs n h.1 (omega arith)
 
--- the value with one digit more
+-- the value with one more digit
 pub digits_value-more : (s : List ℕ) (count : ℕ) → count < length s
     → digits_value (take (count + 1) s) ≡ 10 * digits_value (take count s) + (get_or s count 0 - 48)
 digits_value-more s count h =
     let more : take (count + 1) s ≡ take count s ++ get_or s count 0 ∷ [] = take_more s count 0 h in
     ap digits_value more ∙ digits_value-push (take count s) (get_or s count 0)
 
--- the value with the last digit
+-- the value split at the last digit
 pub digits_value-last : (s : List ℕ) (count : ℕ) → count + 1 ≡ length s
     → digits_value s ≡ 10 * digits_value (take count s) + (get_or s count 0 - 48)
 digits_value-last s count e =
     ap digits_value (sym (take_all (count + 1) s (omega arith))) ∙ digits_value-more s count (omega arith)
 
--- one more digit fits where the greatest number has more digits
+-- one more digit fits if the greatest number has more digits
 pub digits_value-fits : (s : List ℕ) (count places greatest : ℕ) → AllDigits s → count < length s
     → 10 ^ (places - 1) ≤ greatest → count + 1 < places
     → 10 * digits_value (take count s) + (get_or s count 0 - 48) ≤ greatest
@@ -84,7 +84,7 @@ digits_value-fits s count places greatest all h room few =
     let wide = pow-mono (suc count) (places - 1) (omega arith) in
     omega arith
 
--- Two runs of digits in one text end at one place, from `done` digits on.
+-- Two runs of digits in one text end at one place, after `done` digits.
 one_end : (a b x y : List ℕ) (done most : ℕ) → AllDigits a → AllDigits b → a ++ x ≡ b ++ y → done + length a ≤ most → done + length b ≤ most
     → (done + length a ≡ most) ⊎ NoDigitFirst x → (done + length b ≡ most) ⊎ NoDigitFirst y → (a ≡ b) × (x ≡ y)
 one_end [] [] x y n m da db e la lb ea eb = (refl, e)
@@ -101,7 +101,7 @@ one_end (c ∷ a) (d ∷ b) x y n m da db e la lb ea eb =
     let rest = is.1 in
     (cc, rest)
 
--- two texts of digits before texts that don't begin with one
+-- two texts of digits, each followed by a text that doesn't begin with a digit
 pub AllDigits-unique : (a b x y : List ℕ) → AllDigits a → AllDigits b → a ++ x ≡ b ++ y → NoDigitFirst x → NoDigitFirst y → (a ≡ b) × (x ≡ y)
 AllDigits-unique a b x y p q e ends ends' = one_end a b x y 0 (length a + length b) p q e (omega arith) (omega arith) (inr ends) (inr ends')
 
@@ -117,7 +117,7 @@ IsDigitRun-unique least least' most a b x y v w p q e =
 pub IsDigitRun-one : (least most : ℕ) → IsUnique (IsDigitRun least most)
 IsDigitRun-one least most a b x y v w p q e = let is = IsDigitRun-unique least least most a b x y v w p q e in (is.1, is.2)
 
--- the digits that stand there, as many as may, are a run
+-- the leading digits, as many as allowed, are a run
 pub leading_run : (s : List ℕ) (count most : ℕ) → count ≤ length s → count ≤ most → AllDigits (take count s)
     → (count ≡ most) ⊎ NoDigitFirst (drop count s)
     → IsDigitRun 0 most (take count s) (drop count s) (digits_value (take count s))
@@ -131,7 +131,7 @@ leading_run s count most in_range within digits all =
       is = refl;
     }
 
--- they are too few
+-- too few digits
 pub IsDigitRun-short : (least most greatest count value : ℕ) (s : List ℕ)
     → IsDigitRun 0 most (take count s) (drop count s) value → count < least → NoCut (IsDigitRunUpTo greatest least most) s
 IsDigitRun-short least most greatest count value s found h text rest v e (run, small) =
@@ -141,7 +141,7 @@ IsDigitRun-short least most greatest count value s found h text rest v e (run, s
     let m : length (take count s) ≤ count = omega (arith, length-take count s) in
     omega (arith, run.enough)
 
--- their value is too great
+-- too great a value
 pub IsDigitRun-great : (least most greatest count value : ℕ) (s : List ℕ)
     → IsDigitRun 0 most (take count s) (drop count s) value → greatest < value → NoCut (IsDigitRunUpTo greatest least most) s
 IsDigitRun-great least most greatest count value s found h text rest v e (run, small) =
@@ -150,32 +150,32 @@ IsDigitRun-great least most greatest count value s found h text rest v e (run, s
     let same : v ≡ value = is.2 in
     omega arith
 
--- a run has at most so many values
+-- the value of a run is bounded by its number of digits
 pub IsDigitRun-below : (least most : ℕ) (text rest : List ℕ) (value : ℕ) → IsDigitRun least most text rest value → value < 10 ^ most
 IsDigitRun-below least most text rest value run =
     let below = digits_value-below text run.digits in
     let wide = pow-mono (length text) most run.within in
     omega (arith, run.is)
 
--- the value of a run in a text is one
+-- a run in a text has one value
 pub IsDigitRun-same : (least most : ℕ) (s rest : List ℕ) (value : ℕ) → Cut (IsDigitRun least most) s rest value
     → (text after : List ℕ) (v : ℕ) → s ≡ text ++ after → IsDigitRun least most text after v → v ≡ value
 IsDigitRun-same least most s rest value cut text after v e run =
     (IsDigitRun-unique least least most text cut.0 after rest v value run cut.2 (sym e ∙ cut.1)).2
 
--- what is said by a run of digits at the beginning of a text
+-- the value of a run of digits at the start of a text
 pub run_says : {N : Type 0} (least most : ℕ) (f : ℕ → N) (a b x y : List ℕ) (v w : ℕ) (m k : N) → IsDigitRun least most a x v
     → IsDigitRun least most b y w → a ++ x ≡ b ++ y → m ≡ f v → k ≡ f w → (x ≡ y) × (m ≡ k)
 run_says least most f a b x y v w m k p q e says says' =
     let is = IsDigitRun-unique least least most a b x y v w p q e in
     (is.1, says ∙ ap f is.2 ∙ sym says')
 
--- ---- Runs of digits under a padding
+-- ---- Runs of digits with a padding
 
 no_space : (x y : List ℕ) → x ≡ 32 ∷ y → NoSpaceFirst x → ⊥
 no_space x y e h = subst NoSpaceFirst e h refl
 
--- Two paddings of one text are one, from `done` spaces on.
+-- Two paddings of one text are equal, after `done` spaces.
 one_padding : (k j : ℕ) (x y : List ℕ) (done most : ℕ) → replicate k 32 ++ x ≡ replicate j 32 ++ y → done + k ≤ most → done + j ≤ most
     → (done + k ≡ most) ⊎ NoSpaceFirst x → (done + j ≡ most) ⊎ NoSpaceFirst y → (k ≡ j) × (x ≡ y)
 one_padding zero zero x y n m e lk lj ek ej = (refl, e)
@@ -190,7 +190,7 @@ one_padding (suc k) (suc j) x y n m e lk lj ek ej =
     let is = one_padding k j x y (n + 1) m tails (omega arith) (omega arith) ek' ej' in
     (ap suc is.0, is.1)
 
--- the spaces of a padded text are as many as stand there
+-- a padded text takes all leading spaces
 spaces_same : (least most : ℕ) (s tail text rest : List ℕ) (k v : ℕ) → s ≡ replicate k 32 ++ tail → k ≤ least - 1
     → (k ≡ least - 1) ⊎ NoSpaceFirst tail → s ≡ text ++ rest → (run : IsSpacedRun least most text rest v)
     → (k ≡ run.spaces) × (tail ≡ run.digits ++ rest)
@@ -227,7 +227,7 @@ spaced_none greatest least most k s tail cut few all none text rest v e (run, sm
     let same = spaces_same least most s tail text rest k v cut few all e run in
     none run.digits rest v same.1 (subst (λ n. IsDigitRun (least - n) (most - n) run.digits rest v) (sym same.0) run.run, small)
 
--- what a reader finds behind the spaces it finds in the text
+-- what a parser finds after the spaces, it finds in the whole text
 pub after_spaces : {A : Type 0} (value : A → ℕ) (greatest least most k : ℕ) (s tail : List ℕ) (answer : Option (ParsedItem A))
     → s ≡ replicate k 32 ++ tail → k ≤ least - 1 → (k ≡ least - 1) ⊎ NoSpaceFirst tail
     → Finds (IsDigitRunUpTo greatest (least - k) (most - k)) value tail answer
@@ -244,7 +244,7 @@ IsSpacedRun-unique least most a b x y v w p q e =
     let is = IsDigitRun-unique (least - q.spaces) (least - q.spaces) (most - q.spaces) p.digits q.digits x y v w run q.run same.1 in
     (is.1, is.2)
 
--- at most one cut of a text is a run under the padding
+-- at most one cut of a text is a run with the padding
 pub IsPaddedRun-unique : (padding : Padding) (least most : ℕ) → IsUnique (IsPaddedRun padding least most)
 IsPaddedRun-unique padding.Space least most = IsSpacedRun-unique least most
 IsPaddedRun-unique padding.Zero least most = IsDigitRun-one least most
@@ -254,7 +254,7 @@ no_space_first : (text rest : List ℕ) → 1 ≤ length text → AllDigits text
 no_space_first [] rest long digits = absurd (omega arith)
 no_space_first (c ∷ text) rest long digits = λ e. omega (arith, digits.0.0)
 
--- as many digits as there are places are a run under each padding
+-- as many digits as there are places are a run with each padding
 full_places : (padding : Padding) (places : ℕ) (text rest : List ℕ) (v : ℕ) → 1 ≤ places → IsDigitRun places places text rest v
     → IsPaddedRun padding places places text rest v
 full_places padding.Zero places text rest v some run = run
@@ -281,7 +281,7 @@ pub full_run : (padding : Padding) (least most : ℕ) (text rest : List ℕ) (v 
 full_run padding least most text rest v some same run =
     subst (λ n. IsPaddedRun padding least n text rest v) same (full_places padding least text rest v some run)
 
--- a run of so many places has at most so many values
+-- the value of a padded run is bounded by its number of places
 pub IsPaddedRun-below : (padding : Padding) (least most : ℕ) (text rest : List ℕ) (v : ℕ) → IsPaddedRun padding least most text rest v → v < 10 ^ most
 IsPaddedRun-below padding.Space least most text rest v p =
     let below = IsDigitRun-below (least - p.spaces) (most - p.spaces) p.digits rest v p.run in

@@ -1,4 +1,4 @@
--- Known texts and their values, so that a wrong rule in the specs does not check.
+-- Known texts and their values: with a wrong rule in the specs, these don't check.
 use Rattle.std.proofs.Common.{◌≤◌, ◌<◌, ◌∷◌, refl, sym, ap, length, ℕ, List, [], ◌++◌, codes, inl, arith, rules, None}
 use Rattle.time_digits.specs.declared.Padding.TheVariants as padding
 use Rattle.time_digits.specs.Digits.{Cut, NoCut, IsDigit, digits_value, IsDigitRun, IsDigitRunUpTo, IsPaddedRun, IsPaddedRunUpTo, IsFraction}
@@ -9,7 +9,7 @@ pub no_digit_first : (least most c : ℕ) (cs : List ℕ) → 1 ≤ least → ¬
 no_digit_first least most c cs some other [] rest v e run = omega (arith, run.enough)
 no_digit_first least most c cs some other (d ∷ ds) rest v e run = grind (arith, run.digits)
 
--- digits that are too few
+-- too few digits
 pub too_few_digits : (least most : ℕ) (digits rest : List ℕ) → IsDigitRun 0 most digits rest (digits_value digits)
     → length digits < least → NoCut (IsDigitRun least most) (digits ++ rest)
 too_few_digits least most digits rest found few text left v e run =
@@ -51,7 +51,7 @@ slash_is_no_digit = no_digit_first 9 9 47 _ (omega arith) (λ d. omega arith)
 pub colon_is_no_digit : NoCut (IsDigitRun 1 3) (codes ":5")
 colon_is_no_digit = no_digit_first 1 3 58 _ (omega arith) (λ d. omega arith)
 
--- ---- Runs under a padding
+-- ---- Runs with a padding
 
 pub spaces_count_as_places : Cut (IsPaddedRun padding.Space 4 6) (codes "  12345") (codes "5") 1234
 spaces_count_as_places = (
@@ -79,7 +79,7 @@ space_for_a_zero = no_digit_first 2 2 32 _ (omega arith) (λ d. omega arith)
 pub space_without_padding : NoCut (IsPaddedRun padding.None 2 2) (codes " 7")
 space_without_padding = no_digit_first 1 2 32 _ (omega arith) (λ d. omega arith)
 
--- of four places three may be spaces
+-- up to three of four places may be spaces
 pub four_spaces : (greatest : ℕ) → NoCut (IsPaddedRunUpTo greatest padding.Space 4 6) (codes "    1")
 four_spaces greatest =
     after_spaces (λ n. n) greatest 4 6 3 (codes "    1") (codes " 1") None refl (omega arith) (inl refl)

@@ -9,7 +9,7 @@ use Rattle.time_digits.proofs.Runs.{AllDigits-take, IsDigitRun-unique}
 first_of_run : (n : ℕ) (text rest : List ℕ) → length text ≡ n → take n (text ++ rest) ≡ text
 first_of_run n text rest l = take-append-le n text rest (omega arith) ∙ take_all n text (omega arith)
 
--- where the first bytes are not all digits, no run begins
+-- no run begins if the first bytes aren't all digits
 pub exact_none : (n : ℕ) (s : List ℕ) → (n ≤ length s → AllDigits (take n s) → ⊥) → NoCut (IsDigitRun n n) s
 exact_none n s none text rest v e run =
     let l : length text ≡ n = omega (arith, run.enough, run.within) in
@@ -28,7 +28,7 @@ eight_and_more : (s text rest : List ℕ) → s ≡ text ++ rest → s ≡ take 
 eight_and_more s text rest e =
     e ∙ ap (λ t. t ++ rest) (sym (take-append-drop 8 text)) ∙ append_assoc (take 8 text) (drop 8 text) rest
 
--- no nine digits begin where no eight do
+-- no nine digits without eight digits
 pub eight_none : (s : List ℕ) → NoCut (IsDigitRun 8 8) s → NoCut (IsDigitRun 9 9) s
 eight_none s none text rest v e run =
     none (take 8 text) (drop 8 text ++ rest) (digits_value (take 8 text)) (eight_and_more s text rest e) (eight_of text rest v run)
@@ -43,7 +43,7 @@ one_digit [] rest l all none = absurd (omega arith)
 one_digit (c ∷ []) rest l all none = none (c ∷ []) rest c refl (refl, all.0)
 one_digit (c ∷ d ∷ more) rest l all none = absurd (omega arith)
 
--- nor where no digit follows eight
+-- no nine digits if no digit follows eight
 pub ninth_none : (s mid : List ℕ) (a : ℕ) → Cut (IsDigitRun 8 8) s mid a → NoCut IsDigitByte mid → NoCut (IsDigitRun 9 9) s
 ninth_none s mid a eight none text rest v e run =
     let is = IsDigitRun-unique 8 8 8 eight.0 (take 8 text) mid (drop 8 text ++ rest) a (digits_value (take 8 text)) eight.2 (eight_of text rest v run)
@@ -51,9 +51,9 @@ ninth_none s mid a eight none text rest v e run =
     let l : length (drop 8 text) ≡ 1 = omega (arith, length-drop 8 text, run.enough, run.within) in
     one_digit (drop 8 text) rest l (AllDigits-drop 8 text run.digits) (subst (NoCut IsDigitByte) is.1 none)
 
--- ---- The first bytes of a text, in a word's places
+-- ---- The first bytes of a text, in a word
 
--- no zero is a digit, so that digits end before them
+-- a zero byte isn't a digit, so digits end before the zeros
 enough_digits : (n k : ℕ) (s : List ℕ) → n ≤ length s + k → AllDigits (take n (s ++ replicate k 0)) → n ≤ length s
 enough_digits zero k s h digits = omega arith
 enough_digits (suc n) zero [] h digits = absurd (omega arith)
@@ -66,7 +66,7 @@ take_take (suc n) zero s h = absurd (omega arith)
 take_take (suc n) (suc m) [] h = refl
 take_take (suc n) (suc m) (c ∷ s) h = ap (λ t. c ∷ t) (take_take n m s (omega arith))
 
--- at most eight bytes are filled up with zeros
+-- at most eight bytes, filled up with zeros
 filled : (n m k : ℕ) (s : List ℕ) → n ≡ length s + m → m ≤ k → s ++ replicate m 0 ≡ take n (s ++ replicate k 0)
 filled n m k [] e h = let i : n ≡ m = omega (arith, e) in rw i (sym (take-replicate m k 0 h))
 filled zero m k (c ∷ s) e h = absurd (omega (arith, e))

@@ -1,4 +1,4 @@
--- Runs of decimal digits, as relations on the text, what follows it, and the number.
+-- Runs of decimal digits, as relations between the text, the rest after it, and the number.
 use Rattle.std.specs.Prelude.{◌≡◌, ℕ, List, ◌++◌, Option, MatchOption, ◌≢◌, ◌+◌, ◌-◌, ◌*◌, ◌^◌, ◌≤◌, ◌⊎◌, [], ◌∷◌, length, take, replicate, Bool, true, false}
 use Rattle.std.specs.Char.{to_ascii_lowercase}
 use Rattle.time_digits.specs.declared.ParsedItem.{ParsedItem}
@@ -7,25 +7,26 @@ use Rattle.time_digits.specs.declared.Padding.TheVariants as padding
 use Rattle.time_digits.specs.declared.Sign.{Sign}
 use Rattle.time_digits.specs.declared.Sign.TheVariants.{Negative, Positive}
 
--- ---- What a reader answers of its input: a text that stands first, what follows it, and a value
+-- ---- The result of a parser: the text at the start of its input, the rest after it, and a value
 
--- what is read: whether a text, before the rest that follows it, spells a value
+-- a form: whether a text, followed by a rest, spells a value
 abbrev pub Form : Type 0 → Type 1
 Form V = List ℕ → List ℕ → V → Type 0
 
--- the input begins with a text that spells the value, and the rest follows it
+-- the input is a text that spells the value, followed by the rest
 abbrev pub Cut : {V : Type 0} → Form V → List ℕ → List ℕ → V → Type 0
 Cut S input rest v = (text : List ℕ) × (input ≡ text ++ rest) × S text rest v
 
--- no beginning of the input spells a value
+-- no prefix of the input spells a value
 abbrev pub NoCut : {V : Type 0} → Form V → List ℕ → Type 0
 NoCut {V} S input = (text rest : List ℕ) (v : V) → input ≡ text ++ rest → S text rest v → ⊥
 
--- what a reader answers: the rest and, in that view, the value of a cut of its input; or nothing where there is none
+-- the contract of a parser: `Some` with the rest and the value (as `view` maps it) of a cut of its input, or `None` if
+-- there is no cut
 abbrev pub Finds : {V A : Type 0} → Form V → (A → V) → List ℕ → Option (ParsedItem A) → Type 0
 Finds S view input result = MatchOption result (NoCut S input) (λ found. Cut S input found.0.now (view found.1))
 
--- for one input at most one cut spells a value
+-- an input has at most one cut that spells a value
 abbrev pub AtMostOneCut : {V : Type 0} → Form V → Type 0
 AtMostOneCut {V} S = (input x y : List ℕ) (v w : V) → Cut S input x v → Cut S input y w → (x ≡ y) × (v ≡ w)
 
@@ -53,7 +54,7 @@ abbrev pub NoSpaceFirst : List ℕ → Type 0
 NoSpaceFirst [] = Unit {0}
 NoSpaceFirst (c ∷ cs) = c ≢ 32
 
--- The text is `least` to `most` digits, as many as stand there, and the value is their decimal value.
+-- The text is the longest run of `least` to `most` digits, and the value is its decimal value.
 pub record IsDigitRun (least most : ℕ) (text rest : List ℕ) (value : ℕ) : Type 0 where
   pub digits : AllDigits text
   pub enough : least ≤ length text
@@ -61,7 +62,7 @@ pub record IsDigitRun (least most : ℕ) (text rest : List ℕ) (value : ℕ) : 
   pub ends : (length text ≡ most) ⊎ NoDigitFirst rest
   pub is : value ≡ digits_value text
 
--- The text is spaces, as many as stand there and at most `least - 1`, and a run in the places left.
+-- The text is all leading spaces, at most `least - 1`, and then a run of digits in the remaining places.
 pub record IsSpacedRun (least most : ℕ) (text rest : List ℕ) (value : ℕ) : Type 0 where
   pub spaces : ℕ
   pub digits : List ℕ
@@ -70,26 +71,26 @@ pub record IsSpacedRun (least most : ℕ) (text rest : List ℕ) (value : ℕ) :
   pub all : (spaces ≡ least - 1) ⊎ NoSpaceFirst (digits ++ rest)
   pub run : IsDigitRun (least - spaces) (most - spaces) digits rest value
 
--- the text is a run under the padding
+-- the text is a run of digits with the padding
 abbrev pub IsPaddedRun : Padding → ℕ → ℕ → Form ℕ
 IsPaddedRun padding.Space least most text rest value = IsSpacedRun least most text rest value
 IsPaddedRun padding.Zero least most text rest value = IsDigitRun least most text rest value
 IsPaddedRun padding.None least most text rest value = IsDigitRun 1 most text rest value
 
--- the text is a run whose value is at most the greatest number
+-- the text is a run of digits whose value is at most the greatest number
 abbrev pub IsDigitRunUpTo : ℕ → ℕ → ℕ → Form ℕ
 IsDigitRunUpTo greatest least most text rest value = IsDigitRun least most text rest value × (value ≤ greatest)
 
--- the text is a run under the padding whose value is at most the greatest number
+-- the text is a run of digits with the padding, and its value is at most the greatest number
 abbrev pub IsPaddedRunUpTo : ℕ → Padding → ℕ → ℕ → Form ℕ
 IsPaddedRunUpTo greatest padding least most text rest value =
     IsPaddedRun padding least most text rest value × (value ≤ greatest)
 
--- the nanoseconds that the digits of a fraction of a second say: nine count, later ones are dropped
+-- the nanoseconds of a fraction of a second: the first nine digits count, and later ones are dropped
 abbrev pub fraction_nanoseconds : List ℕ → ℕ
 fraction_nanoseconds text = digits_value (take 9 text) * 10 ^ (9 - length text)
 
--- The text is one or more digits, as many as stand there, and as a fraction of a second they say the value.
+-- The text is all leading digits, one or more, and the value is theirs as a fraction of a second.
 pub record IsFraction (text rest : List ℕ) (nanoseconds : ℕ) : Type 0 where
   pub digits : AllDigits text
   pub enough : 1 ≤ length text
@@ -102,7 +103,7 @@ pub record IsFraction (text rest : List ℕ) (nanoseconds : ℕ) : Type 0 where
 abbrev pub IsByte : ℕ → Form (Unit {0})
 IsByte byte text rest nothing = text ≡ byte ∷ []
 
--- the text is that byte, in either case where it is an ASCII letter
+-- the text is that byte, in either case if it is an ASCII letter
 abbrev pub IsByteIgnoringCase : ℕ → Form (Unit {0})
 IsByteIgnoringCase byte text rest nothing =
     (c : ℕ) × (text ≡ c ∷ []) × (to_ascii_lowercase c ≡ to_ascii_lowercase byte)
@@ -125,12 +126,12 @@ abbrev pub is_negative : Sign → Bool
 is_negative Negative = true
 is_negative Positive = false
 
--- ---- Laws of the definitions, each proved by the function of module `laws` that has it as its contract
+-- ---- Laws of the definitions, each the contract of a function of module `laws`, which proves it
 
--- for one input at most one cut is a run of digits
+-- at most one cut of an input is a run of digits
 abbrev pub OneDigitRun : Type 0
 OneDigitRun = (least most : ℕ) → AtMostOneCut (IsDigitRun least most)
 
--- for one input at most one cut is a run of digits under the padding
+-- at most one cut of an input is a run of digits with the padding
 abbrev pub OnePaddedRun : Type 0
 OnePaddedRun = (padding : Padding) (least most : ℕ) → AtMostOneCut (IsPaddedRun padding least most)

@@ -1,7 +1,7 @@
-//! Readers of signs, digits and single bytes.
+//! Parsers of signs, digits and single bytes.
 //!
-//! Each answers the unread rest and the value exactly where its input begins with such a text, and `None`
-//! otherwise. A run of digits takes as many as it may, and nothing goes back.
+//! Each parser returns the unread rest and the value if its input begins with such a text, and `None` otherwise. A run
+//! of digits is as long as its greatest length allows, and no parser backtracks.
 ghost use Rattle.std.specs.Prelude.{◌≤◌};
 ghost use Rattle.time_digits.specs.Digits.{Finds, IsDigitRun, IsDigitRunUpTo, IsPaddedRunUpTo, IsFraction, IsByte, IsByteIgnoringCase, IsDigitByte, IsSign};
 
@@ -14,7 +14,7 @@ pub use grammar::leading_digits;
 use grammar::{digit_run, leading_spaces};
 pub use words::nine_digits;
 
-/// Reads a sign, `-` or `+`.
+/// Parses a sign, `-` or `+`. Returns `None` if the input begins with neither.
 #[inline]
 pub fn sign(input: &[u8]) -> Option<ParsedItem<'_, Sign>>
     ensures { Finds IsSign (λ v. v) input.now result }
@@ -26,8 +26,8 @@ pub fn sign(input: &[u8]) -> Option<ParsedItem<'_, Sign>>
     }
 }
 
-/// Reads `N` to `M` digits, as many as stand there, and answers their decimal value. `None` also where
-/// the value is greater than the greatest number of `T`.
+/// Parses the longest run of `N` to `M` digits, as its decimal value. Returns `None` if the input begins with fewer
+/// than `N` digits, or if the value exceeds the greatest number of `T`.
 #[inline]
 pub fn n_to_m_digits<const N: u8, const M: u8, T: Integer>(
     input: &[u8],
@@ -40,7 +40,8 @@ pub fn n_to_m_digits<const N: u8, const M: u8, T: Integer>(
     digit_run(input, usize::from(N), usize::from(M))
 }
 
-/// Reads one or two digits, as many as stand there, and answers their decimal value.
+/// Parses one digit, or two if a second one follows, as their decimal value, 0 to 99. Returns `None` if the input
+/// doesn't begin with a digit.
 #[inline(always)]
 pub fn one_or_two_digits(input: &[u8]) -> Option<ParsedItem<'_, u8>>
     ensures { Finds (IsDigitRun 1 2) (λ v. v) input.now result }
@@ -54,7 +55,7 @@ pub fn one_or_two_digits(input: &[u8]) -> Option<ParsedItem<'_, u8>>
     }
 }
 
-/// Reads exactly two digits, and answers their decimal value.
+/// Parses exactly two digits, as their decimal value, 0 to 99. Returns `None` if the input begins with fewer.
 #[inline(always)]
 pub fn two_digits(input: &[u8]) -> Option<ParsedItem<'_, u8>>
     ensures { Finds (IsDigitRun 2 2) (λ v. v) input.now result }
@@ -67,7 +68,7 @@ pub fn two_digits(input: &[u8]) -> Option<ParsedItem<'_, u8>>
     }
 }
 
-// Reads exactly three digits, and answers their decimal value.
+// Parses exactly three digits, as their decimal value.
 #[inline(always)]
 fn three_digits(input: &[u8]) -> Option<ParsedItem<'_, u32>>
     ensures { Finds (IsDigitRun 3 3) (λ v. v) input.now result }
@@ -81,8 +82,8 @@ fn three_digits(input: &[u8]) -> Option<ParsedItem<'_, u32>>
     }
 }
 
-/// Reads exactly `N` digits, 1 to 9 of them, and answers their decimal value.
-#[inline]
+/// Parses exactly `N` digits, 1 to 9, as their decimal value. Returns `None` if the input begins with fewer.
+#[inline(always)]
 pub fn exactly_n_digits<const N: u8>(input: &[u8]) -> Option<ParsedItem<'_, u32>>
     requires least { 1 ≤ N }
     requires most { N ≤ 9 }
@@ -100,9 +101,11 @@ pub fn exactly_n_digits<const N: u8>(input: &[u8]) -> Option<ParsedItem<'_, u32>
     }
 }
 
-/// Reads exactly `N` digits under the padding: with [`Padding::None`] 1 to `N` digits, with
-/// [`Padding::Zero`] `N` digits, and with [`Padding::Space`] up to `N - 1` spaces and digits in the places
-/// left. `None` also where the value is greater than the greatest number of `T`.
+/// Parses exactly `N` digits with the given padding, as their decimal value.
+///
+/// With [`Padding::None`], the text is 1 to `N` digits; with [`Padding::Zero`], `N` digits; with [`Padding::Space`], up
+/// to `N - 1` spaces, and then digits in the remaining places. Returns `None` if the input begins with no such text, or
+/// if the value exceeds the greatest number of `T`.
 #[inline]
 pub fn exactly_n_digits_padded<const N: u8, T: Integer>(
     input: &[u8],
@@ -115,10 +118,11 @@ pub fn exactly_n_digits_padded<const N: u8, T: Integer>(
     n_to_m_digits_padded::<N, N, T>(input, padding)
 }
 
-/// Reads `N` to `M` digits under the padding: with [`Padding::None`] 1 to `M` digits, with
-/// [`Padding::Zero`] `N` to `M` digits, and with [`Padding::Space`] spaces, as many as stand there and at
-/// most `N - 1`, and digits in the places left, `N` to `M` places in all. `None` also where the value is
-/// greater than the greatest number of `T`.
+/// Parses `N` to `M` digits with the given padding, as their decimal value.
+///
+/// With [`Padding::None`], the text is 1 to `M` digits; with [`Padding::Zero`], `N` to `M` digits; with
+/// [`Padding::Space`], as many spaces as the input begins with, at most `N - 1`, and then digits, `N` to `M` places in
+/// all. Returns `None` if the input begins with no such text, or if the value exceeds the greatest number of `T`.
 #[inline]
 pub fn n_to_m_digits_padded<const N: u8, const M: u8, T: Integer>(
     input: &[u8],
@@ -141,7 +145,7 @@ pub fn n_to_m_digits_padded<const N: u8, const M: u8, T: Integer>(
     }
 }
 
-/// Reads one digit, and answers its byte.
+/// Parses one digit, and returns its byte, or `None` if the input doesn't begin with a digit.
 #[inline]
 pub fn any_digit(input: &[u8]) -> Option<ParsedItem<'_, u8>>
     ensures { Finds IsDigitByte (λ v. v) input.now result }
@@ -152,7 +156,7 @@ pub fn any_digit(input: &[u8]) -> Option<ParsedItem<'_, u8>>
     }
 }
 
-/// Reads the byte `C`.
+/// Parses the byte `C`. Returns `None` if the input doesn't begin with it.
 #[inline]
 pub fn ascii_char<const C: u8>(input: &[u8]) -> Option<ParsedItem<'_, ()>>
     ensures { Finds (IsByte C) (λ v. v) input.now result }
@@ -163,7 +167,7 @@ pub fn ascii_char<const C: u8>(input: &[u8]) -> Option<ParsedItem<'_, ()>>
     }
 }
 
-/// Reads the byte `C`, in either case where it is an ASCII letter.
+/// Parses the byte `C`, in either case if it is an ASCII letter. Returns `None` if the input doesn't begin with it.
 #[inline]
 pub fn ascii_char_ignore_case<const C: u8>(input: &[u8]) -> Option<ParsedItem<'_, ()>>
     ensures { Finds (IsByteIgnoringCase C) (λ v. v) input.now result }
@@ -174,8 +178,8 @@ pub fn ascii_char_ignore_case<const C: u8>(input: &[u8]) -> Option<ParsedItem<'_
     }
 }
 
-/// Reads the digits of a fraction of a second, as many as stand there, and answers nanoseconds: nine
-/// digits count, later ones are dropped.
+/// Parses all leading digits as a fraction of a second, in nanoseconds. The first nine digits count, and later ones are
+/// dropped. Returns `None` if the input doesn't begin with a digit.
 #[inline(always)]
 pub fn fraction(input: &[u8]) -> Option<ParsedItem<'_, u32>>
     ensures { Finds IsFraction (λ v. v) input.now result }

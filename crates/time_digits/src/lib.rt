@@ -1,6 +1,6 @@
-//! Readers of digits, signs and single bytes.
+//! Parsers of digits, signs and single bytes.
 //!
-//! A reader takes bytes and answers a [`ParsedItem`]: the bytes that it left unread, and a value.
+//! A parser takes bytes and returns a [`ParsedItem`]: the unread bytes, and a value.
 #![tactic(auto)]
 
 ghost use Rattle.std.specs.Prelude.{◌≡◌};
@@ -12,19 +12,19 @@ mod shim;
 
 pub use shim::Integer;
 
-/// What a reader found: the unread rest of its input, and the value.
+/// The result of a parser: the unread rest of its input, and the value.
 #[derive(Clone, Copy, Debug)]
 pub struct ParsedItem<'a, T>(pub &'a [u8], pub T);
 
-/// What fills the places of a number that has fewer digits than places.
+/// What fills a number up to its width, if it has fewer digits than places.
 #[derive(Clone, Copy, Debug, Default, PartialEq, Eq)]
 pub enum Padding {
-    /// Spaces stand before the digits.
+    /// Spaces before the digits.
     Space,
-    /// Zeros stand before the digits.
+    /// Zeros before the digits.
     #[default]
     Zero,
-    /// Nothing stands before the digits.
+    /// Nothing before the digits.
     None,
 }
 

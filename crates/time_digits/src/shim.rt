@@ -1,10 +1,10 @@
-//! The unsigned integers that the digit readers answer.
+//! The unsigned integers that the digit parsers return.
 ghost use Rattle.std.specs.Prelude.{◌≡◌, ℕ, ◌+◌, ◌-◌, ◌*◌, ◌^◌, ◌<◌, ◌≤◌, MatchOption, refl};
 ghost use Rattle.std.proofs.Common.{rules};
 
-/// An unsigned integer that decimal digits are pushed onto.
+/// An unsigned integer that is built up digit by digit.
 pub trait Integer: Sized {
-    /// How many digits the greatest number of the type has.
+    /// The number of digits of the type's greatest number.
     const MAX_NUM_DIGITS: u8;
 
     ghost MAX_NUM_DIGITS: { ℕ };
@@ -14,20 +14,19 @@ pub trait Integer: Sized {
 
     ghost ZERO: { Self };
 
-    // The number that a value of the type is.
+    // The natural number that a value of the type represents.
     ghost value: { Self → ℕ };
 
     // The greatest number of the type.
     ghost greatest: { ℕ };
 
-    /// The number with one more digit at its end. The digit is 0 to 9, and the new number fits the type.
+    /// The number with one more digit at its end. The digit must be 0 to 9, and the new number must fit the type.
     fn push_digit(self, digit: u8) -> Self
         requires one_digit { digit ≤ 9 }
         requires fits { 10 * value self + digit ≤ greatest }
         ensures { value result ≡ 10 * value self + digit };
 
-    /// The number with one more digit at its end, or `None` where the type has no such number. The digit
-    /// is 0 to 9.
+    /// The number with one more digit at its end, or `None` if it doesn't fit the type. The digit must be 0 to 9.
     fn checked_push_digit(self, digit: u8) -> Option<Self>
         requires { digit ≤ 9 }
         ensures { MatchOption result
@@ -36,7 +35,7 @@ pub trait Integer: Sized {
 
     ghost zero_value: { value ZERO ≡ 0 };
 
-    // Each number of one digit less is a number of the type.
+    // Each number with one digit fewer fits the type.
     ghost room: { 10 ^ (MAX_NUM_DIGITS - 1) ≤ greatest };
 
     // No number of the type has more digits.

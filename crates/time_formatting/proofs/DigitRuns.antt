@@ -1,4 +1,4 @@
--- What is written of a number is a run of digits that says it.
+-- The text of a number is a run of digits that represents it.
 use Rattle.std.specs.Prelude.{unsigned_abs, ◌==◌}
 use Rattle.std.specs.Fmt.{decimal}
 use Rattle.std.specs.Int.{w128, cast_signed as to_z, cast_unsigned as of_z}
@@ -28,7 +28,7 @@ count_short unit (negsuc n) least short =
 pub same_few : (n z : ℤ) → z ≡ n → unsigned_abs n < 10 ^ 30 → unsigned_abs z < 10 ^ 30
 same_few n z is few = rw is few
 
--- a moment's nanoseconds have 30 digits at most
+-- a moment's nanoseconds have at most 30 digits
 pub near_short : (n : ℤ) → IsNear n → unsigned_abs (to_z w128 (of_z w128 n)) < 10 ^ 30
 near_short n near =
     let kept = to_z-of_z w128 n (omega (arith, ints)) in rw kept (omega (arith, ints))
@@ -61,7 +61,7 @@ no_space : (text rest : List ℕ) → 1 ≤ length text → AllDigits text → N
 no_space [] rest some all = absurd (omega arith)
 no_space (c ∷ text) rest some all = λ e. omega (arith, all.0.0)
 
--- digits alone are a run under each padding
+-- digits alone are a run with each padding
 pub run_padded : (p : Padding) (least most : ℕ) (text rest : List ℕ) (n : ℕ) → 1 ≤ least → IsDigitRun least most text rest n
     → IsPaddedRun p least most text rest n
 run_padded padding.Zero least most text rest n some run = run
@@ -87,7 +87,7 @@ run_padded padding.Space least most text rest n some run = record {
   };
 }
 
--- digits, and those of them from the first on that is not 0, or the last
+-- digits, and those from the first one that isn't 0, or the last
 record IsStripped (digits : List ℕ) : Type 0 where
   zeros : ℕ
   left : List ℕ
@@ -149,7 +149,7 @@ left_run least most n digits rest s is enough within ends = record {
   is = is ∙ sym s.same;
 }
 
--- A number under a padding fills its places, or no digit follows. Without a padding none follows in any case.
+-- A number with a padding has its full width, or no digit follows. Without a padding no digit follows in any case.
 pub padded_run : (p : Padding) (k most n : ℕ) (rest : List ℕ) → 1 ≤ k → k ≤ most → n < 10 ^ k
     → ((k ≡ most) × PaddedStops p rest) ⊎ NoDigitFirst rest → IsPaddedRun p k most (padded p k n) rest n
 padded_run padding.Zero k most n rest some within below ends =

@@ -1,4 +1,4 @@
--- What is written of a fraction of a second is read as the nanoseconds that its digits say.
+-- The text of a fraction of a second is parsed as the nanoseconds that its digits represent.
 use Rattle.std.specs.Prelude.{◌||◌, if◌then◌else◌, int_lt, nat_lt}
 use Rattle.std.specs.Fmt.{decimal}
 use Rattle.std.proofs.Common.{◌≡◌, ◌≢◌, ℕ, ◌+◌, ◌/◌, ◌%◌, ◌<◌, List, [], ◌∷◌, length, slice_index_or, refl, ap, ◌∙◌, arith, rules, ◌⊎◌, ◌-◌, ◌*◌, ◌^◌, ◌≤◌, take, inl, inr, subst, sym, Bool, true, false, ◌++◌, ℤ, pos, negsuc, unsigned_abs, neg_ℤ}
@@ -34,13 +34,13 @@ use Rattle.time_formatting.proofs.DigitRuns.{fixed-value, fixed_run, padded_run,
 
 -- ---- Digits of numbers, and zeros in front of them
 
--- a digit alone stays
+-- a single digit is unchanged
 pub filled_one : (fill left : List ℕ) → ¬ (1 < length left) → filled fill left ≡ left
 filled_one fill [] few = refl
 filled_one fill (c ∷ []) few = refl
 filled_one fill (c ∷ d ∷ ds) few = absurd (few (omega arith))
 
--- and what begins with no zero
+-- and so is a text that begins with no zero
 pub filled_other : (fill left : List ℕ) → 1 < length left → slice_index_or left 0 0 ≢ 48 → filled fill left ≡ left
 filled_other fill [] many other = refl
 filled_other fill (c ∷ []) many other = refl
@@ -87,7 +87,7 @@ first_run least most k n rest enough within few below ends =
     subst (λ text. IsFractionRun least most text rest (kept k n)) (sym (take-fixed (9 - k) k 9 n sum))
     (fraction_run least most k (n / 10 ^ (9 - k)) rest enough within few (front-below (9 - k) k 9 n sum below) ends)
 
--- as many as the component asks for
+-- the digits that the component requires
 pub fraction_spelled : (digits : SubsecondDigits) (n : ℕ) (rest : List ℕ) → n < 10 ^ 9 → FractionStops digits rest
     → IsFractionRun (least_digits digits) (most_digits digits) (take (count_of digits n) (fixed 9 n)) rest (kept (count_of digits n) n)
 fraction_spelled One n rest below stops = first_run 1 1 1 n rest (omega arith) (omega arith) (omega arith) below (inl refl)
@@ -103,14 +103,14 @@ fraction_spelled OneOrMore n rest below stops =
     let bound = significant-bound 9 n in
     first_run 1 32 (count_of OneOrMore n) n rest (omega arith) (omega (arith, bound)) (omega (arith, bound)) below (inr stops)
 
--- ---- Numbers with a sign in front of them are read as they were written
+-- ---- Numbers with a sign in front of them are parsed as the numbers that were written
 
--- the sign that stands for a number below 0 or another one
+-- the sign of a number, by whether it is below 0
 abbrev pub sign_of : Bool → Sign
 sign_of true = Negative
 sign_of false = Positive
 
--- behind a sign, or alone
+-- a number with a sign, or without one
 sign_spelled : (below wanted mandatory : Bool) (behind alone : Form ℕ) (Behind Alone : List ℕ → Type 0) (digits rest : List ℕ) (n : ℕ)
     → (wanted ≡ false → mandatory ≡ false) → (Behind rest → behind digits rest n) → (below ≡ false → wanted ≡ false → Alone rest → alone digits rest n)
     → SignedStops (sign_text below wanted) Behind Alone rest → IsSigned mandatory behind alone (sign_text below wanted ++ digits) rest (sign_of below, n)
@@ -118,14 +118,14 @@ sign_spelled true wanted mandatory behind alone Behind Alone digits rest n free 
 sign_spelled false true mandatory behind alone Behind Alone digits rest n free front whole stops = inl (digits, refl, front stops)
 sign_spelled false false mandatory behind alone Behind Alone digits rest n free front whole stops = inr (free refl, refl, whole refl refl stops)
 
--- a number that has one form behind a sign and alone
+-- a number that has one form with a sign and without
 pub same_spelled : (below mandatory : Bool) (form : Form ℕ) (digits rest : List ℕ) (n : ℕ) → form digits rest n
     → IsSigned mandatory form form (sign_text below mandatory ++ digits) rest (sign_of below, n)
 same_spelled true mandatory form digits rest n run = inl (digits, refl, run)
 same_spelled false true form digits rest n run = inl (digits, refl, run)
 same_spelled false false form digits rest n run = inr (refl, refl, run)
 
--- what is asked in both cases
+-- the condition for both cases
 either_stops : (sign : List ℕ) (Stop : List ℕ → Type 0) (rest : List ℕ) → Stop rest → SignedStops sign Stop Stop rest
 either_stops [] Stop rest stops = stops
 either_stops (c ∷ sign) Stop rest stops = stops
@@ -141,7 +141,7 @@ flagged_is false n = refl
 pub not_below : (n : ℕ) → int_lt (pos n) (pos 0) ≡ false
 not_below n = search rules
 
--- a number is its sign and its size
+-- a number is its sign and its magnitude
 size_signed : (y : ℤ) → y ≡ signed_by (int_lt y (pos 0)) (pos (unsigned_abs y))
 size_signed (pos n) = rw (not_below n) refl
 size_signed (negsuc n) = refl
@@ -159,7 +159,7 @@ last_false : (a b : Bool) → (a || b) ≡ false → b ≡ false
 last_false true b e = absurd (cc)
 last_false false b e = e
 
--- k digits under the padding, or one or two more
+-- k digits with the padding, or one or two more
 abbrev wide : Padding → ℕ → ℕ → List ℕ
 wide p k n = if nat_lt n (10 ^ k) then padded p k n else if nat_lt n (10 ^ (k + 1)) then fixed (k + 1) n else fixed (k + 2) n
 
@@ -203,7 +203,7 @@ year_standard mandatory p y rest below stops =
     year_spelled (PaddedStops p) mandatory p 4 y rest (narrow_run p 4 (unsigned_abs y) rest (omega arith) below)
     (either_stops (year_sign mandatory y) (PaddedStops p) rest stops)
 
--- a century alone
+-- a century without a sign
 two_of_ten : (p : Padding) (n : ℕ) → 10 ≤ n → n < 100 → padded p 2 n ≡ fixed 2 n
 unfolding fixed
 two_of_ten p n many below = filled_other (filler p) ((48 + n / 10 % 10) ∷ (48 + n % 10) ∷ []) (omega arith) (λ e. omega (arith, e))
@@ -252,7 +252,7 @@ offset_hour_spelled mandatory p o rest stops =
           (padded_run p 2 2 n rest (omega arith) (omega arith) (omega (arith, abs_within 25 o.hours o.hours_in)) (inl (refl, stops))),
     )
 
--- ---- What is written of an instant is read as its whole units
+-- ---- The text of an instant is parsed as its whole units
 
 -- the digits of a decimal number
 record IsNumeral (n : ℕ) (text : List ℕ) : Type 0 where
@@ -285,7 +285,7 @@ units_are : (unit : ℕ) (z : ℤ) → units_value unit z ≡ scaled_value unit 
 units_are unit (pos n) = rw (not_below n) refl
 units_are unit (negsuc n) = refl
 
--- how many there are
+-- the number of whole units
 whole_below : (unit k : ℕ) (z : ℤ) → 0 < unit → unsigned_abs z + unit < k * unit → unsigned_abs (whole unit z) < k
 whole_below unit k (pos n) some below = (div-lt_iff_lt-mul some).1 (omega (arith, below))
 whole_below unit k (negsuc n) some below =
@@ -294,7 +294,7 @@ whole_below unit k (negsuc n) some below =
     let most : (n + unit) / unit < k = (div-lt_iff_lt-mul some).1 (omega (arith, below)) in
     omega (arith, least, most)
 
--- an instant has 23 digits at most
+-- an instant has at most 23 digits
 near_size : (z : ℤ) → IsBetween (neg_ℤ (pos 31_700_000_000_000_000_000_000)) (pos 31_700_000_000_000_000_000_000) z → unsigned_abs z + 10 ^ 9 < 10 ^ 23
 near_size z near = omega (arith, abs_within 31_700_000_000_000_000_000_000 z near)
 
@@ -307,7 +307,7 @@ instant_size v =
       omega (arith, ints, is, clock, last_instant_is, v.offset.hours_in, v.offset.minutes_in, v.offset.seconds_in),
     )
 
--- so many units of 10 ^ k nanoseconds
+-- a number of units of 10 ^ k nanoseconds
 pub timestamp_spelled : (k : ℕ) (mandatory : Bool) (v : OffsetDateTime) (rest : List ℕ) → k ≤ 9 → NoDigitFirst rest
     → SaysTimestamp (10 ^ k) mandatory (23 - k) (count_text (10 ^ k) mandatory (offset_instant greatest_year v)) rest
     (units_value (10 ^ k) (offset_instant greatest_year v))

@@ -1,4 +1,4 @@
--- What is written of a component is read as what it says.
+-- The text of a component is parsed as the component's value.
 use Rattle.std.specs.Prelude.{nat_lt, nat_le}
 use Rattle.std.specs.Str.{str_to_ascii_lowercase}
 use Rattle.std.proofs.Common.{◌≡◌, ℕ, ◌+◌, ◌-◌, ◌^◌, ◌<◌, ◌≤◌, Bool, true, false, refl, arith, ℤ, pos, ◌+ℤ◌, ◌-ℤ◌, unsigned_abs, List, [], take, Ok, Result, inl, ap, subst, sym, ◌%◌, ◌<ℤ◌, ◌∙◌}
@@ -28,7 +28,7 @@ use Rattle.time_formatting.specs.declared.walk.Unformattable.{Unformattable}
 use Rattle.time_formatting.proofs.DigitRuns.{padded_run}
 use Rattle.time_formatting.proofs.FractionTexts.{fraction_spelled, century_extended, century_standard, offset_hour_spelled, year_extended, year_standard, timestamp_spelled}
 
--- ---- How great the numbers of a date are
+-- ---- Bounds of the numbers of a date
 
 month_short : (y : ℤ) (m : ℕ) → month_length y m ≤ 31
 month_short y m = grind (arith, nat_tests)
@@ -42,14 +42,14 @@ year_short y = grind (arith, nat_tests)
 pub ordinal_below : (d : Date) → ordinal d < 1000
 ordinal_below d = omega (arith, ordinal_in d, year_short d.year)
 
--- the weekdays of at most 366 days
+-- the number of weekdays among at most 366 days
 weekdays_few : (w first n : ℕ) → w < 7 → n ≤ 366 → weekdays_in w first n < 100
 weekdays_few w first n day few = omega (arith, weekdays_in_closed w first n day)
 
 pub weekdays_below : (w : ℕ) (d : Date) → w < 7 → weekdays_so_far greatest_year w d < 100
 weekdays_below w d day = weekdays_few w (year_start greatest_year d.year) (ordinal d) day (omega (arith, ordinal_in d, year_short d.year))
 
--- what holds of the ISO year of a day
+-- a fact of the ISO year of a day
 abbrev IsNearYear : ℤ → ℕ → Type 0
 IsNearYear y t = IsYear greatest_year y × (t + 1 - year_start greatest_year y ≤ 366)
 
@@ -96,14 +96,14 @@ year_below d = omega (arith, abs_within greatest_year (year d) d.year_in)
 pub iso_year_below : (d : Date) → unsigned_abs (iso_year greatest_year d) < 10 ^ 6
 iso_year_below d = omega (arith, abs_within greatest_year (iso_year greatest_year d) (iso_place d).0)
 
--- a text is that one
+-- a result is that text
 abbrev IsText : Result (List ℕ) Unformattable → List ℕ → Type 0
 IsText result text = result ≡ Ok text
 
 same_text : (a text : List ℕ) → IsText (Ok a) text → a ≡ text
 same_text a text is = cc
 
--- a number in so many places
+-- a number of a fixed width
 number_run : (p : Padding) (k n : ℕ) (text rest : List ℕ) → 1 ≤ k → n < 10 ^ k → PaddedStops p rest → IsText (Ok (padded p k n)) text
     → IsPaddedRun p k k text rest n
 number_run p k n text rest some below stops is =
@@ -112,7 +112,7 @@ number_run p k n text rest some below stops is =
 pair_run : (p : Padding) (n : ℕ) (text rest : List ℕ) → n < 100 → PaddedStops p rest → IsText (Ok (padded p 2 n)) text → IsPaddedRun p 2 2 text rest n
 pair_run p n text rest below = number_run p 2 n text rest (omega arith) below
 
--- a name as it is
+-- a name in its usual case
 named : (sensitive : Bool) (name text : List ℕ) → IsText (Ok name) text → IsNamed sensitive name text
 named true name text is = sym (same_text name text is)
 named false name text is = ap str_to_ascii_lowercase (sym (same_text name text is))
@@ -249,9 +249,9 @@ component_spelled v (component.UnixTimestampNanosecond m) whole text rest is sto
 component_spelled v (component.End m) whole text rest is stops =
     (refl, stops, subst (EndsBy m.trailing_input) (same_text [] text is) (ends m.trailing_input))
 
--- ---- The ISO week of a date is the one that its Thursday tells
+-- ---- The ISO week of a date is determined by its Thursday
 
--- the year of a day lies before that of another one
+-- the year of a day is before that of another one
 earlier : (Y : ℕ) (a y : ℤ) (t : ℕ) → (Y + 1) % 400 ≡ 0 → IsYear Y a → IsYear Y y → year_start Y a ≤ t + 3 → t < year_start Y y + year_length y → y <ℤ a
     → y ≡ a -ℤ pos 1
 earlier Y a y t whole year other near within lt =

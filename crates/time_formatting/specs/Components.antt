@@ -1,4 +1,4 @@
--- What is written of each component of a moment. `Y` is the greatest year.
+-- The text of each component of a moment. `Y` is the greatest year.
 use Rattle.std.specs.Prelude.{ℕ, ◌+◌, ◌%◌, max, unsigned_abs, List, [], ◌∷◌, ◌++◌, take, ◌==◌, nat_lt, if◌then◌else◌, Option, Some, None, Result, Ok, Err, ◌-◌, ◌*◌, ◌/◌, ◌^◌, ◌≤◌, ◌≡◌, ℤ, pos, ◌*ℤ◌, int_lt, Bool}
 use Rattle.time_values.specs.Names.{month_name, weekday_name, month_number, days_from_monday, weekday_at}
 use Rattle.time_values.specs.Dates as Dates
@@ -35,12 +35,13 @@ half_of h = if nat_lt h 12 then Am else Pm
 unfoldable pub weekday_of : ℕ → OffsetDateTime → Weekday
 weekday_of Y v = weekday_at (Dates.weekday Y (offset_date v))
 
--- how many of the nine digits of that many nanoseconds are written: so many, or those up to the last that is not 0
+-- the number of digits, of nine, of that many nanoseconds that are written: a fixed number, or those up to the last
+-- that isn't 0
 abbrev pub count_of : SubsecondDigits → ℕ → ℕ
 count_of OneOrMore n = max (significant 9 n) 1
 count_of digits n = least_digits digits
 
--- the components that are a number in two places: what fills it up, and the number
+-- the components that are a number of two digits: the padding, and the number
 abbrev pub number_of : ℕ → OffsetDateTime → Component → Option (Padding × ℕ)
 number_of Y v (component.Day m) = Some (m.padding, Dates.day (offset_date v))
 number_of Y v (component.MonthNumerical m) = Some (m.padding, month_number (Dates.month (offset_date v)))
@@ -90,7 +91,7 @@ century_of Y v (component.IsoYearCenturyStandardRange m) =
     let y = iso_year Y (offset_date v) in Some (in_standard_range y (century m.sign_is_mandatory m.padding y))
 century_of Y v _ = None
 
--- the others, of which an `Ignore` can't be written
+-- the other components; an `Ignore` can't be written
 abbrev pub other_of : ℕ → OffsetDateTime → Component → Result (List ℕ) Unformattable
 other_of Y v (component.Ordinal m) = Ok (padded m.padding 3 (Dates.ordinal (offset_date v)))
 other_of Y v (component.WeekdaySunday m) = Ok ((first_digit m.one_indexed + days_from_sunday (weekday_of Y v)) ∷ [])
@@ -109,7 +110,7 @@ other_of Y v (component.UnixTimestampNanosecond m) = Ok (count_text 1 m.sign_is_
 other_of Y v (component.End m) = Ok []
 other_of Y v _ = Err why.Ignore
 
--- what a table of components has, or else what the next ones have
+-- the text from one table of components, or else from the next ones
 abbrev pub or_number : Option (Padding × ℕ) → Result (List ℕ) Unformattable → Result (List ℕ) Unformattable
 or_number (Some x) other = Ok (padded x.0 2 x.1)
 or_number None other = other
@@ -123,15 +124,15 @@ abbrev pub or_year : Option (Result (List ℕ) Unformattable) → Result (List �
 or_year (Some text) other = text
 or_year None other = other
 
--- the text of a component, or why it has none; each stands in one of the five tables
+-- the text of a component, or an error; each component is in one of the five tables
 abbrev pub component_text : ℕ → OffsetDateTime → Component → Result (List ℕ) Unformattable
 component_text Y v c =
     or_number (number_of Y v c)
     (or_name (name_of Y v c) (or_year (year_of Y v c) (or_year (century_of Y v c) (other_of Y v c))))
 
--- ---- What components say of a moment, and what may stand behind their texts. `Y` is the greatest year.
+-- ---- The values that components have for a moment, and what may follow their texts. `Y` is the greatest year.
 
--- the nanoseconds that the first k of nine digits say
+-- the nanoseconds that the first k of nine digits represent
 abbrev pub kept : ℕ → ℕ → ℕ
 kept k n = n / 10 ^ (9 - k) * 10 ^ (9 - k)
 
@@ -147,7 +148,7 @@ century_value y = flagged (signed_by (int_lt y (pos 0)) (pos (unsigned_abs y / 1
 abbrev pub units_value : ℕ → ℤ → Value
 units_value unit n = signed (whole unit n *ℤ pos unit)
 
--- what a component says of the moment
+-- the value that a component has for the moment
 abbrev pub value_of : ℕ → OffsetDateTime → Component → Value
 value_of Y v (component.Day m) = number (Dates.day (offset_date v))
 value_of Y v (component.MonthShort m) = month (Dates.month (offset_date v))
@@ -188,36 +189,36 @@ value_of Y v (component.UnixTimestampMicrosecond m) = units_value 1000 (offset_i
 value_of Y v (component.UnixTimestampNanosecond m) = units_value 1 (offset_instant Y v)
 value_of Y v (component.End m) = nothing
 
--- a number without a padding could go on
+-- a number without a padding could continue
 abbrev pub PaddedStops : Padding → List ℕ → Type 0
 PaddedStops padding.None rest = NoDigitFirst rest
 PaddedStops p rest = Unit {0}
 
--- a century without a sign is read as digits alone: it may not begin with a space
+-- a century without a sign is parsed as digits alone: it may not begin with a space
 abbrev pub BareStops : Padding → ℕ → List ℕ → Type 0
 BareStops padding.Space n rest = 10 ≤ n
 BareStops p n rest = PaddedStops p rest
 
--- what a number behind a sign asks, or else what one alone does
+-- the condition of a number with a sign, or else of one without it
 abbrev pub SignedStops : List ℕ → (List ℕ → Type 0) → (List ℕ → Type 0) → List ℕ → Type 0
 SignedStops [] behind alone = alone
 SignedStops (c ∷ sign) behind alone = behind
 
--- a year of the extended range could go on behind a sign
+-- a year of the extended range could continue after a sign
 abbrev pub YearStops : Bool → Padding → ℤ → List ℕ → Type 0
 YearStops sign_is_mandatory p y = SignedStops (year_sign sign_is_mandatory y) NoDigitFirst (PaddedStops p)
 
--- a century, by what it asks behind a sign
+-- a century, by the condition of one with a sign
 abbrev pub CenturyStops : (List ℕ → Type 0) → Bool → Padding → ℤ → List ℕ → Type 0
 CenturyStops behind sign_is_mandatory p y =
     SignedStops (year_sign sign_is_mandatory y) behind (BareStops p (unsigned_abs y / 100))
 
--- a fraction of no fixed length could go on
+-- a fraction of no fixed length could continue
 abbrev pub FractionStops : SubsecondDigits → List ℕ → Type 0
 FractionStops OneOrMore rest = NoDigitFirst rest
 FractionStops digits rest = Unit {0}
 
--- what may stand behind the component's text, so that all of the text is read and says this value
+-- what may follow the component's text, so that all of the text is parsed as this value
 abbrev pub Stops : ℕ → OffsetDateTime → Component → List ℕ → Type 0
 Stops Y v (component.Day m) = PaddedStops m.padding
 Stops Y v (component.MonthNumerical m) = PaddedStops m.padding

@@ -1,4 +1,4 @@
--- Numbers as components have them.
+-- Numbers in the forms of components.
 use Rattle.std.specs.Prelude.{ℕ, ◌/◌, ℤ, pos, negsuc, int_lt, unsigned_abs, List, [], ◌∷◌, ◌++◌, codes, Bool, ◌==◌, if◌then◌else◌, ◌+◌, ◌-◌, ◌+ℤ◌, ◌-ℤ◌, ◌||◌, nat_lt, nat_le, Result, Ok, Err}
 use Rattle.std.specs.Fmt.{decimal}
 use Rattle.time_values.specs.Shown.{fixed}
@@ -10,62 +10,62 @@ use Rattle.time_digits.specs.declared.Padding.TheVariants as padding
 use Rattle.time_formatting.specs.declared.walk.Unformattable.{Unformattable}
 use Rattle.time_formatting.specs.declared.walk.Unformattable.TheVariants.{Year}
 
--- what stands for a zero in front of a number
+-- the text that replaces a zero in front of a number
 abbrev pub filler : Padding → List ℕ
 filler padding.Zero = codes "0"
 filler padding.Space = codes " "
 filler padding.None = []
 
--- the digits, with that for each zero in front of them; the last digit stays
+-- the digits, with that text for each zero in front of them; the last digit is kept
 abbrev pub filled : List ℕ → List ℕ → List ℕ
 filled fill [] = []
 filled fill (c ∷ []) = c ∷ []
 filled fill (c ∷ d ∷ ds) = if c == 48 then fill ++ filled fill (d ∷ ds) else c ∷ d ∷ ds
 
--- a number of at most k digits under the padding
+-- a number of at most k digits with the padding
 abbrev pub padded : Padding → ℕ → ℕ → List ℕ
 padded p k n = filled (filler p) (fixed k n)
 
--- `-` in front of a number below 0, and `+` in front of another where a sign has to stand
+-- `-` in front of a number below 0, and `+` in front of another if a sign is mandatory
 abbrev pub sign_text : Bool → Bool → List ℕ
 sign_text is_behind is_mandatory = if is_behind then codes "-" else if is_mandatory then codes "+" else []
 
--- how many whole units of that many nanoseconds there are, rounded down
+-- the number of whole units of that many nanoseconds, rounded down
 abbrev pub whole : ℕ → ℤ → ℤ
 whole unit (pos n) = pos (n / unit)
 whole unit (negsuc n) = negsuc (n / unit)
 
--- as a decimal number with its sign
+-- that number as a decimal number with its sign
 abbrev pub count_text : ℕ → Bool → ℤ → List ℕ
 count_text unit sign_is_mandatory n =
     sign_text (int_lt n (pos 0)) sign_is_mandatory ++ decimal (unsigned_abs (whole unit n))
 
--- ---- Years and weeks as components have them. `Y` is the greatest year.
+-- ---- Years and weeks in the forms of components. `Y` is the greatest year.
 
--- the year of a Thursday that lies at most three days before or after a day of the year y
+-- the year of a Thursday that is at most three days before or after a day of the year y
 abbrev pub year_of_thursday : ℕ → ℤ → ℕ → ℤ
 year_of_thursday Y y day =
     if nat_lt day (year_start Y y) then y -ℤ pos 1 else
     if nat_lt day (year_start Y y + year_length y) then y else y +ℤ pos 1
 
--- the year of the date's ISO week, in which the Thursday of the week lies
+-- the year of the date's ISO week, which is that of the week's Thursday
 unfoldable pub iso_year : ℕ → Date → ℤ
 iso_year Y d = year_of_thursday Y (Dates.year d) (thursday_of (Dates.day_number Y d))
 
--- the number of the week: which Thursday of that year it is
+-- the number of the week: the number of its Thursday among those of that year
 unfoldable pub iso_week : ℕ → Date → ℕ
 iso_week Y d =
     weekdays_in 3 (year_start Y (iso_year Y d)) (thursday_of (Dates.day_number Y d) + 1 - year_start Y (iso_year Y d))
 
--- four digits under the padding, or as many as the number has
+-- four digits with the padding, or as many as the number has
 abbrev pub year_digits : Padding → ℕ → List ℕ
 year_digits p n = if nat_lt n 10_000 then padded p 4 n else if nat_lt n 100_000 then fixed 5 n else fixed 6 n
 
--- two digits under the padding, or as many as the number has
+-- two digits with the padding, or as many as the number has
 abbrev pub century_digits : Padding → ℕ → List ℕ
 century_digits p n = if nat_lt n 100 then padded p 2 n else if nat_lt n 1000 then fixed 3 n else fixed 4 n
 
--- the sign of a year; one above 9999 has it in any case
+-- the sign of a year; one above 9999 always has it
 abbrev pub year_sign : Bool → ℤ → List ℕ
 year_sign sign_is_mandatory y = sign_text (int_lt y (pos 0)) (sign_is_mandatory || int_lt (pos 9999) y)
 
@@ -77,6 +77,6 @@ full_year sign_is_mandatory p y = year_sign sign_is_mandatory y ++ year_digits p
 abbrev pub century : Bool → Padding → ℤ → List ℕ
 century sign_is_mandatory p y = year_sign sign_is_mandatory y ++ century_digits p (unsigned_abs y / 100)
 
--- the text, where the year has four digits at most
+-- the text, if the year has at most four digits
 abbrev pub in_standard_range : ℤ → List ℕ → Result (List ℕ) Unformattable
 in_standard_range y text = if nat_le (unsigned_abs y) 9999 then Ok text else Err Year

@@ -9,19 +9,20 @@ use Rattle.time_formatting.specs.Components.{component_text, Stops, value_of}
 use Rattle.time_formatting.specs.declared.walk.Unformattable.{Unformattable}
 use Rattle.time_formatting.specs.declared.walk.Unformattable.TheVariants.{TooLong, Year, Ignore}
 
--- the bytes after those that stand, where they are 35 at most
+-- the bytes after those written so far, if they are 35 at most
 abbrev pub joined : List ℕ → List ℕ → Result (List ℕ) Unformattable
 joined before bytes = if nat_le (length (before ++ bytes)) 35 then Ok (before ++ bytes) else Err TooLong
 
--- the next text, unless there is a reason that there is none
+-- the next text, unless there is an error
 abbrev pub and_then : Result (List ℕ) Unformattable → (List ℕ → Result (List ℕ) Unformattable)
     → Result (List ℕ) Unformattable
 and_then (Ok bytes) next = next bytes
 and_then (Err why) next = Err why
 
 abbrev mutual
-  -- The bytes that stand, with the text of a tree after them: a literal as it is, a component's text, each tree of a
-  -- list in turn, an optional tree, and the first of a choice. Or the first reason why there is no such text.
+  -- The bytes written so far, followed by the text of a tree: a literal is copied, a component is formatted, each tree
+  -- of a list is written in turn, and so are an optional tree and the first of a choice. Or the first error if there is
+  -- no such text.
   pub text_after : ℕ → OffsetDateTime → List ℕ → Tree → Result (List ℕ) Unformattable
   text_after Y v before (literal bytes) = joined before bytes
   text_after Y v before (tree_component whole c) = and_then (component_text Y v c) (joined before)
@@ -37,26 +38,26 @@ abbrev mutual
   first_after Y v before none = Ok before
   first_after Y v before (tree_more t ts) = text_after Y v before t
 
--- the text of a moment by a tree, or the first reason why there is none
+-- the text of a moment by a tree, or the first error
 abbrev pub text_of : ℕ → OffsetDateTime → Tree → Result (List ℕ) Unformattable
 text_of Y v tree = text_after Y v [] tree
 
--- a text as its bytes, or the reason
+-- a text as its bytes, or the error
 abbrev pub bytes_of : Result Items Unformattable → Result (List ℕ) Unformattable
 bytes_of (Ok text) = Ok text.items
 bytes_of (Err why) = Err why
 
--- ---- What the reason why a moment has no text by a description prints
+-- ---- Printed messages of errors
 
--- the text
+-- the message
 abbrev pub unformattable_text : Unformattable → List ℕ
 unformattable_text Year = codes "The year component cannot be formatted into the requested format."
 unformattable_text Ignore = codes "The ignore component cannot be formatted into the requested format."
 unformattable_text TooLong = codes "The text has more than 35 bytes."
 
--- ---- Laws of the definitions, each proved by the function of module `laws` that has it as its contract
+-- ---- Laws of the definitions, each proved by the function of module `laws` whose contract it is
 
--- The text of a component, before a rest that may stand behind it, spells what the component says of the moment.
+-- The text of a component, before a rest that may follow it, spells the value that the component has for the moment.
 abbrev pub ComponentSpelled : ℕ → Type 0
 ComponentSpelled Y =
     (v : OffsetDateTime) (c : Component) (whole : Bool) (text rest : List ℕ)

@@ -1,4 +1,4 @@
-//! The texts of components.
+//! Texts of components.
 ghost use Rattle.std.specs.Prelude.{◌≡◌, ◌+◌, ◌<◌, ◌≤◌, [], ◌∷◌, ◌++◌, take, unsigned_abs};
 ghost use Rattle.time_components.specs.Spelling.{first_digit};
 ghost use Rattle.time_values.specs.Moments.{offset_instant};
@@ -27,7 +27,7 @@ fn hour_12(hour: u8) -> u8
     if hour % 12 == 0 { 12 } else { hour % 12 }
 }
 
-// What fills a number in two places up, and the number, or `None` where the component is none.
+// The padding of a number of two digits, and the number, or `None` if the component isn't one.
 fn number(value: &OffsetDateTime, component: Component) -> Option<(Padding, u8)>
     ensures { result ≡ number_of greatest_year value.now component }
 {
@@ -56,7 +56,7 @@ fn number(value: &OffsetDateTime, component: Component) -> Option<(Padding, u8)>
     }
 }
 
-// How many of the nine digits of a nanosecond are written.
+// The number of digits of a nanosecond, of nine, that are written.
 fn count(digits: SubsecondDigits, nanosecond: u32) -> usize
     ensures count { result ≡ components.count_of digits nanosecond }
     ensures bound { result ≤ 9 }
@@ -85,7 +85,7 @@ fn subsecond(digits: SubsecondDigits, nanosecond: u32) -> Text
     text
 }
 
-// The hours of an offset, with its sign.
+// The hours of an offset, with their sign.
 fn offset_hour(sign_is_mandatory: bool, padding: Padding, offset: UtcOffset) -> Text
     ensures { result.items ≡ numbers.sign_text (is_behind offset) sign_is_mandatory
         ++ numbers.padded padding 2 (unsigned_abs (Offsets.hours offset)) }
@@ -120,7 +120,7 @@ fn timestamp(value: &OffsetDateTime, unit: u128, sign_is_mandatory: bool) -> Tex
     count_of_units(value.unix_timestamp_nanos(), unit, sign_is_mandatory)
 }
 
-// The text of a component that is no number in two places, no name and no year, or why there is none.
+// The text of a component that is no number of two digits, no name and no year, or why it can't be written.
 fn other(value: &OffsetDateTime, component: Component) -> Result<Text, Unformattable>
     ensures { bytes_of result ≡ other_of greatest_year value.now component }
 {
@@ -145,7 +145,7 @@ fn other(value: &OffsetDateTime, component: Component) -> Result<Text, Unformatt
     })
 }
 
-/// The text of a component, or why there is none.
+/// The text of a component, or why it can't be written.
 pub(crate) fn component_text(
     value: &OffsetDateTime,
     component: Component,

@@ -1,4 +1,4 @@
-//! Texts of moments by descriptions. None takes memory: a text is an array and a length.
+//! Formats moments by descriptions. No call allocates: a text is an array and a length.
 #![tactic(auto)]
 
 mod component;

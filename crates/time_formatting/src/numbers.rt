@@ -1,4 +1,4 @@
-//! Names, numbers under a padding, signs, and counts of units since 1970.
+//! Names, numbers with a padding, signs, and counts of units since 1970.
 ghost use Rattle.std.specs.Prelude.{◌≡◌, ◌+◌, ◌^◌, ◌≤◌, ◌<◌, ◌++◌, length, unsigned_abs, option_map, IfSome};
 ghost use Rattle.time_formatting.specs.Numbers.{count_text, filled, padded, sign_text};
 ghost use Rattle.time_formatting.specs.Numbers as numbers;
@@ -13,7 +13,7 @@ use time_values::names::{month_name, weekday_name};
 use time_values::text::Text;
 use time_values::{OffsetDateTime, Weekday};
 
-// What stands for a zero in front of a number.
+// The text that replaces a zero in front of a number.
 fn filler(padding: Padding) -> &'static [u8]
     ensures bytes { result.now ≡ numbers.filler padding }
     ensures bound { length result.now ≤ 1 }
@@ -25,7 +25,7 @@ fn filler(padding: Padding) -> &'static [u8]
     }
 }
 
-/// Puts the digits of a number, with what the padding has for each zero in front of them. There must be room for all.
+/// Appends the digits of a number, with the padding's text for each zero in front of them. There must be room for all.
 #[tactic(auto, using(crate::proofs::FractionTexts::filled_one, crate::proofs::FractionTexts::filled_other))]
 pub(crate) fn append_digits(text: &mut Text, digits: &[u8], padding: Padding)
     requires { length text.old.items + length digits.now ≤ 35 }
@@ -41,7 +41,7 @@ pub(crate) fn append_digits(text: &mut Text, digits: &[u8], padding: Padding)
     text.append(left);
 }
 
-/// The last two digits of a number under the padding.
+/// The last two digits of a number with the padding.
 #[tactic(auto, using(crate::proofs::FractionTexts::two_of))]
 pub(crate) fn two_places(padding: Padding, number: u8) -> Text
     ensures { result.items ≡ padded padding 2 number }
@@ -51,7 +51,7 @@ pub(crate) fn two_places(padding: Padding, number: u8) -> Text
     text
 }
 
-/// The last three digits of a number under the padding.
+/// The last three digits of a number with the padding.
 #[tactic(auto, using(crate::proofs::FractionTexts::three_of))]
 pub(crate) fn three_places(padding: Padding, number: u16) -> Text
     ensures { result.items ≡ padded padding 3 number }
@@ -66,7 +66,7 @@ pub(crate) fn three_places(padding: Padding, number: u16) -> Text
     text
 }
 
-/// Puts `-` for a number below 0, and `+` for another where a sign has to stand. There must be room for it.
+/// Appends `-` for a number below 0, and `+` for another one if a sign is mandatory. There must be room for it.
 pub(crate) fn append_sign(text: &mut Text, is_behind: bool, is_mandatory: bool)
     requires { length text.old.items ≤ 34 }
     ensures text { text.new.items ≡ text.old.items ++ sign_text is_behind is_mandatory }
@@ -79,7 +79,7 @@ pub(crate) fn append_sign(text: &mut Text, is_behind: bool, is_mandatory: bool)
     }
 }
 
-// The magnitude of whole units, rounded down.
+// The magnitude of a number of whole units, rounded down.
 fn count(nanoseconds: i128, unit: u128) -> u128
     requires unit { 1 ≤ unit }
     ensures value { result ≡ unsigned_abs (numbers.whole unit nanoseconds) }
@@ -92,7 +92,7 @@ fn count(nanoseconds: i128, unit: u128) -> u128
     }
 }
 
-/// The whole units of that many nanoseconds, rounded down, as a decimal number with its sign.
+/// The number of whole units in that many nanoseconds, rounded down, as a decimal number with its sign.
 #[tactic(auto, using(crate::proofs::DigitRuns::count_short, crate::proofs::DigitRuns::same_few))]
 pub(crate) fn count_of_units(nanoseconds: i128, unit: u128, sign_is_mandatory: bool) -> Text
     requires unit { 1 ≤ unit }
@@ -105,7 +105,7 @@ pub(crate) fn count_of_units(nanoseconds: i128, unit: u128, sign_is_mandatory: b
     text
 }
 
-// The letters of the half of the day.
+// The text of the half of the day.
 fn period_name(hour: u8, is_uppercase: bool) -> &'static [u8]
     ensures name { result.now ≡ names.period_name is_uppercase (half_of hour) }
     ensures most { length result.now ≤ 2 }
@@ -125,7 +125,7 @@ pub(crate) fn weekday(value: &OffsetDateTime) -> Weekday
     value.date().weekday()
 }
 
-/// The name that a component is, or `None` where it is none.
+/// The text of a component that is a name, or `None` if it isn't one.
 pub(crate) fn name(value: &OffsetDateTime, component: Component) -> Option<&'static [u8]>
     ensures name { option_map (λ n. n.now) result ≡ name_of greatest_year value.now component }
     ensures most { IfSome result (λ n. length n.now ≤ 9) }

@@ -1,4 +1,4 @@
-//! The walk over the steps of a description, and why a moment has no text by it.
+//! Walks over the steps of a description, and reports why a moment has no text by it.
 ghost use Rattle.std.specs.Prelude.{◌≡◌, ◌≤◌, ◌∷◌, ℕ, drop, false, length, IfOk, Some};
 ghost use Rattle.time_values.specs.Calendar.{greatest_year};
 ghost use Rattle.time_components.specs.Tree as steps_;
@@ -12,11 +12,11 @@ use time_components::{Component, Group, Step};
 use time_values::OffsetDateTime;
 use time_values::text::Text;
 
-/// The text of a moment by the steps of a description, of at most 35 bytes. What is optional is written, and of a choice the
-/// first.
+/// The text of a moment by the steps of a description, of at most 35 bytes. It contains all optional items, and the
+/// first item of each choice.
 ///
-/// A moment without such a text is refused, by the first reason from the left: a component of the standard range meets a
-/// year outside -9999 to 9999, an `ignore` stands, or the text would pass 35 bytes.
+/// A moment without such a text gives the first error from the left: a component of the standard range has a year
+/// outside -9999 to 9999, an `ignore` occurs, or the text would exceed 35 bytes.
 pub fn format(value: OffsetDateTime, steps: &[Step]) -> Result<Text, Unformattable>
     ensures { bytes_of result ≡ text_of greatest_year value (steps_shape steps.now) }
 {
@@ -25,7 +25,7 @@ pub fn format(value: OffsetDateTime, steps: &[Step]) -> Result<Text, Unformattab
     Ok(text)
 }
 
-// Puts bytes, where there is room for them.
+// Appends bytes, if there is room for them.
 fn put(bytes: &[u8], text: &mut Text) -> Result<(), Unformattable>
     ensures { Puts (joined text.old.items bytes.now) result text.new.items }
 {
@@ -36,7 +36,7 @@ fn put(bytes: &[u8], text: &mut Text) -> Result<(), Unformattable>
     Ok(())
 }
 
-// Puts the text of a component.
+// Appends the text of a component.
 fn put_component(
     component: Component,
     value: &OffsetDateTime,
@@ -64,7 +64,7 @@ fn write_steps(steps: &[Step], value: &OffsetDateTime, text: &mut Text) -> Resul
     Ok(())
 }
 
-// Writes the item of a step, with those behind it that belong to it, and answers the steps after them.
+// Writes the item of a step, with the steps after it that belong to it, and returns the steps after them.
 #[cycle(steps)]
 fn write_item<'s>(
     step: &Step,
@@ -123,7 +123,7 @@ fn write_first(steps: &[Step], value: &OffsetDateTime, text: &mut Text) -> Resul
     }
 }
 
-// Writes a literal of this byte and the further ones in front of the steps, and answers the steps after them.
+// Writes a literal of this byte and the further bytes at the start of the steps, and returns the steps after them.
 fn write_literal<'s>(
     first: u8,
     steps: &'s [Step],
@@ -145,9 +145,9 @@ fn write_literal<'s>(
 /// Why a moment has no text by a description.
 #[derive(Clone, Copy, Debug, PartialEq, Eq)]
 pub enum Unformattable {
-    /// A component of the standard range has no such year: only -9999 to 9999.
+    /// A component of the standard range has a year outside -9999 to 9999.
     Year,
-    /// A component skips bytes, so that there is nothing to write.
+    /// A component skips bytes, so there is nothing to write.
     Ignore,
     /// The text has more than 35 bytes.
     TooLong,

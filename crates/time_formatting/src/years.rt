@@ -1,4 +1,4 @@
-//! Years and centuries.
+//! Texts of years and centuries.
 ghost use Rattle.std.specs.Prelude.{◌≡◌, ◌+◌, ◌≤◌, ◌<◌, ◌++◌, length, option_map};
 ghost use Rattle.time_values.specs.Calendar.{IsYear, greatest_year};
 ghost use Rattle.time_values.specs.Moments.{offset_date};
@@ -13,7 +13,7 @@ use time_values::OffsetDateTime;
 use time_values::digits::{five, four, pair, six};
 use time_values::text::Text;
 
-// Puts the sign of a year.
+// Appends the sign of a year.
 fn append_year_sign(text: &mut Text, sign_is_mandatory: bool, year: i32)
     requires { length text.old.items ≤ 34 }
     ensures text { text.new.items ≡ text.old.items ++ years.year_sign sign_is_mandatory year }
@@ -22,7 +22,7 @@ fn append_year_sign(text: &mut Text, sign_is_mandatory: bool, year: i32)
     append_sign(text, year < 0, sign_is_mandatory || year > 9999);
 }
 
-// A year.
+// The text of a year.
 fn full(sign_is_mandatory: bool, padding: Padding, year: i32) -> Text
     requires { IsYear greatest_year year }
     ensures { result.items ≡ years.full_year sign_is_mandatory padding year }
@@ -40,7 +40,7 @@ fn full(sign_is_mandatory: bool, padding: Padding, year: i32) -> Text
     text
 }
 
-// A year without its last two digits.
+// The text of a year without its last two digits.
 #[tactic(auto, using(crate::proofs::FractionTexts::last_three))]
 fn century(sign_is_mandatory: bool, padding: Padding, year: i32) -> Text
     requires { IsYear greatest_year year }
@@ -62,7 +62,7 @@ fn century(sign_is_mandatory: bool, padding: Padding, year: i32) -> Text
     text
 }
 
-// The text of a year, if that has four digits at most, or why there is none.
+// The text of a year if the year has at most four digits, or else an error.
 fn in_standard_range(year: i32, text: Text) -> Result<Text, Unformattable>
     ensures { bytes_of result ≡ years.in_standard_range year text.items }
 {
@@ -73,14 +73,14 @@ fn in_standard_range(year: i32, text: Text) -> Result<Text, Unformattable>
     }
 }
 
-// The text of a component's year, as the function writes it.
+// Formats a component's year with the function.
 macro_rules! extended {
     ($text:ident, $modifiers:ident, $year:expr) => {
         Ok($text($modifiers.sign_is_mandatory, $modifiers.padding, $year))
     };
 }
 
-// The same, if the year has four digits at most, or why there is no text.
+// Formats a component's year with the function if the year has at most four digits, or else returns an error.
 macro_rules! standard {
     ($text:ident, $modifiers:ident, $year:expr) => {{
         let year = $year;
@@ -106,7 +106,7 @@ pub(crate) fn iso_week(value: &OffsetDateTime) -> u8
     week
 }
 
-/// The text of a component that is a whole year, or `None` where it is none.
+/// The text of a component that is a whole year, or `None` if it isn't one.
 pub(crate) fn year_text(
     value: &OffsetDateTime,
     component: Component,
@@ -123,7 +123,7 @@ pub(crate) fn year_text(
     })
 }
 
-/// The text of a component that is a year without its last two digits, or `None` where it is none.
+/// The text of a component that is a year without its last two digits, or `None` if it isn't one.
 pub(crate) fn century_text(
     value: &OffsetDateTime,
     component: Component,

@@ -1,4 +1,4 @@
--- The date with which a text of ISO 8601 begins: where its number begins, its year, and what a refused one misses.
+-- The date with which an ISO 8601 text begins: where its number begins, its year, and the misses of a rejected one.
 use Rattle.std.specs.Prelude.{option_map, codes, nat_le, unsigned_abs, if◌then◌else◌, option_and_then, unwrap_or}
 use Rattle.std.specs.Option.{option_or}
 use Rattle.std.proofs.Common.{◌≡◌, ◌∙◌, ℕ, ◌+◌, ◌≤◌, ◌<◌, ℤ, List, [], ◌∷◌, ◌++◌, length, Bool, true, false, Option, Some, None, Result, Ok, Err, refl, ap, sym, subst, inl, inr, arith, ◌-◌}
@@ -43,9 +43,9 @@ pub need-Ok : {A B P : Type 0} (o : Option A) (e : Refusal) (f : A → Result B 
 need-Ok None e f b h k = absurd (Ok-Err b e h)
 need-Ok (Some a) e f b h k = k a refl h
 
--- ---- the numbers of a date that stands
+-- ---- the numbers of a date that matches
 
--- the date says that year, and its number begins among those bytes
+-- the date has that year, and its number begins among those bytes
 abbrev Within : ExtendedKind → ℤ → List ℕ → FormOrFault → Type 0
 Within kind y b f =
     (x : List ℕ × IsoDate) → f ≡ Ok x → (left_at_number kind x.1 (length x.0) ≤ length b) × (year_of x.1 ≡ y)
@@ -153,7 +153,7 @@ date-number b d h =
     let room : left_at_number d.kind d.value (length d.rest) ≤ length b = omega (arith, found.0, year-within b y.0 y.1 e) in
     (room, subst (λ v. nat_le (unsigned_abs v) greatest_year ≡ true) (sym found.1) (year-held b y.0 y.1 e)))
 
--- what is left after a date is no more than where its number begins
+-- at least as many bytes are left at the start of a date's number as after the date
 pub rest-below : (kind : ExtendedKind) (v : IsoDate) (rest n : ℕ) → left_at_number kind v rest ≤ n → rest ≤ n
 rest-below kind (calendar y m d) rest n h = omega arith
 rest-below kind (ordinal y d) rest n h = omega arith
@@ -161,7 +161,7 @@ rest-below Basic (week y w d) rest n h = omega arith
 rest-below Extended (week y w d) rest n h = omega arith
 rest-below Unknown (week y w d) rest n h = omega arith
 
--- ---- a date that doesn't stand
+-- ---- a date that doesn't match
 
 none_missed : (m : Miss) (later : List ℕ → List Miss) (o : Option (List ℕ)) → missed_or_later m later o ≡ []
     → (rest : List ℕ) × (o ≡ Some rest) × (later rest ≡ [])
@@ -204,7 +204,7 @@ no_date-misses b e h none =
     let fourth = (joined_none (row_misses (piece.Year ∷ piece.WeekLetter ∷ piece.Week ∷ piece.Weekday ∷ []) b) _ third).1 in
     calendar-misses b e h (joined_none (row_misses (piece.Year ∷ piece.Dash ∷ piece.Month ∷ piece.Dash ∷ piece.Day ∷ []) b) _ fourth).0
 
--- ---- Where the components begin that a text of ISO 8601 says. `Y` is the greatest year.
+-- ---- Where the components of an ISO 8601 text begin. `Y` is the greatest year.
 
 pub other_piece : (name : List ℕ) (p : Piece) → (p ≡ piece.Zulu → ⊥) → is_piece_of name p ≡ wants_name name (wanted_at p)
 other_piece name piece.Zulu other = absurd (other refl)
@@ -277,7 +277,7 @@ module _ (name : List ℕ) (left : ℕ) (b : List ℕ) where
   unfolding text_mark
   text_mark-within Y r = by_date-within Y r (date_text b) refl
 
--- ---- what is answered
+-- ---- the result
 
 module _ (Y : ℕ) (name b : List ℕ) (r : Record) where
   -- the index of a mark
@@ -290,7 +290,7 @@ module _ (Y : ℕ) (name b : List ℕ) (r : Record) where
       subst (IsUpTo (length b)) (sym is) (text_mark-within name (length rest) b Y (with_leap_second r)) in
       (left, rw h is, omega arith)
 
-  -- nothing is read
+  -- nothing matches
   pub iso_unmarked : reading Y b (with_leap_second r) ≡ None → IsMarked (Marks Y) name b r None
   iso_unmarked h = rw h refl
 

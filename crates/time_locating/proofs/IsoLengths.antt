@@ -1,4 +1,4 @@
--- No piece and no part of a text of ISO 8601 leaves more bytes than there were.
+-- No piece and no part of an ISO 8601 text leaves more bytes than there were.
 use Rattle.std.specs.Prelude.{if◌then◌else◌, option_map, option_and_then, nat_eq, nat_le}
 use Rattle.std.specs.Option.{option_or}
 use Rattle.std.proofs.Common.{◌≡◌, ℕ, ◌+◌, ◌≤◌, List, [], ◌∷◌, length, length-append, Bool, true, false, Option, Some, None, refl, ap, arith, ◌∙◌, suc, ◌<◌, ◌++◌, drop, map, get_or, drop-cons, add-one, Bor, subst, Ok, Err, sym}
@@ -218,21 +218,21 @@ offset_text-within kind b o h =
       ap (λ (x : Found OffsetNumbers). length x.rest) is,
     ))
 
--- ---- What the pieces of ISO 8601 leave, from what their readers answer, and what their rows miss
+-- ---- What the pieces of ISO 8601 leave, from the results of their readers, and the misses of their rows
 
--- what is left after a byte
+-- the rest after a byte
 pub finds_byte : (c : ℕ) (s : List ℕ) (answer : Option (ParsedItem (Unit {0}))) → Finds (IsByte c) (λ v. v) s answer
     → option_map (λ p. p.0.now) answer ≡ byte c s
 finds_byte c s None h = sym (byte-no_cut c s h)
 finds_byte c s (Some p) h = sym (byte-cut c s p.0.now h)
 
--- after a sign
+-- the rest after a sign
 pub signed : (s : List ℕ) (answer : Option (ParsedItem Sign)) → Finds IsSign (λ v. v) s answer
     → option_map (λ p. p.0.now) answer ≡ after piece.Sign s
 signed s None h = rw (finds-sign s None h) refl
 signed s (Some p) h = rw (finds-sign s (Some p) h) refl
 
--- after two digits of a number up to the greatest, or beyond it
+-- the rest after two digits of a number up to the greatest, or beyond it
 pub digits_there : (greatest v : ℕ) (s mid : List ℕ) → digits 2 s ≡ Some (mid, v) → nat_le v greatest ≡ true
     → Some mid ≡ rest_of (up_to greatest 2 s)
 unfolding up_to
@@ -295,7 +295,7 @@ module _ (Y : ℕ) (b : List ℕ) (r : Record) where
   unfolding misses
   held_date d q m is put h = rw (is, put) h
 
--- the numbers of a date that a record holds
+-- the numbers of a date that a record allows
 abbrev pub Small : IsoDate → Type 0
 Small (calendar y m d) = (1 ≤ d) × (d ≤ 31)
 Small (ordinal y d) = (1 ≤ d) × (d ≤ 366)

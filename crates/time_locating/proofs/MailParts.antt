@@ -1,4 +1,4 @@
--- What is left after the places of a mail date.
+-- The rest after each place of a mail date.
 use Rattle.std.proofs.Common.{◌≡◌, ℕ, zero, suc, ◌+◌, ◌<◌, ◌≤◌, List, [], ◌∷◌, ◌++◌, length, length-append, length-drop, drop, refl, ap, sym, ◌∙◌, subst, arith, true, false, Bool, Option, None, Some, is_some, unwrap_or}
 use Rattle.time_values.specs.declared.weekday.Weekday.{Weekday}
 use Rattle.time_digits.specs.Digits.{Cut, IsDigitRun}
@@ -28,17 +28,17 @@ weekday_same s x y v w p q =
     let other = record nothing_read { weekday = w } in
     (MailAsks-unique true WeekdayName nothing_read s x y one other (p.0, p.1, (v, p.2, refl)) (q.0, q.1, (w, q.2, refl))).0
 
--- four digits stand, so the year has four
+-- four digits match, so the year has four
 pub year_full : (s x rest : List ℕ) (w v : ℕ) (full : Bool) → Cut (IsDigitRun 4 4) s x w → Cut (IsYear full) s rest v → (x ≡ rest) × (true ≡ full)
 year_full s x rest w v true four cut =
     ((IsUnique-cut (IsDigitRun 4 4) (IsDigitRun-one 4 4) s x rest w v four (cut.0, cut.1, cut.2.0)).0, refl)
 year_full s x rest w v false four cut = absurd (cut.2.0 four.0 x w (sym cut.1 ∙ four.1) four.2)
 
--- what a place asks that is another's
+-- the syntax of an equal place
 pub asked : (n m : Numbers) (s rest : List ℕ) (p q : Place) → p ≡ q → Cut (Asks true p n) s rest m → Cut (Asks true q n) s rest m
 asked n m s rest p q is = subst (λ x. Cut (Asks true x n) s rest m) is
 
--- a place that says nothing of those after it
+-- a place that doesn't affect those after it
 pub kept : (n m k : Numbers) (passed : Passed) → m ≡ k → k.year_is_full ≡ n.year_is_full → is_some k.offset_sign ≡ is_some n.offset_sign
     → Agrees n passed → Agrees m passed
 kept n m k passed is year sign h = (
@@ -53,7 +53,7 @@ past_answer p leaves b (Some rest) is = let text = leaves b rest is in omega (ar
 past-within : (p : Reader) → Leaves p → (b : List ℕ) → length (past p b) ≤ length b
 past-within p leaves b = past_answer p leaves b (p b) refl
 
--- what is wanted at a place begins in what is left there
+-- the expected text of a place begins in the bytes that are left there
 pub wanted_from-within : IsWithin wanted_from
 wanted_from-within WeekdayName b = omega (arith, past-within opt_cfws opt_cfws-leaves b, length-drop 3 (past opt_cfws b))
 wanted_from-within HourColon b = past-within opt_cfws opt_cfws-leaves b
@@ -87,7 +87,7 @@ ranked i =
     RankedFrom-drop i 0 i places (omega arith)
     (refl, (refl, (refl, (refl, (refl, (refl, (refl, (refl, (refl, (refl, (refl, (refl, (refl, (refl, (refl, tt)))))))))))))))
 
--- so many of the places are passed, and those that are left stand up to the one that doesn't
+-- that many places are passed, and the others match up to the one that doesn't
 pub record Reached (bytes : List ℕ) (p : Place) (s : FailsAt true bytes p) (i : ℕ) (rest : List ℕ) (passed : Passed) : Type 0 where
   pub left : List Place
   pub numbers : Numbers
@@ -110,7 +110,7 @@ unfolding Stand
 stands_empty [] n m rest mid none stand = sym stand.0
 stands_empty (x ∷ left) n m rest mid none stand = absurd (omega arith)
 
--- what a place leaves, as it is answered, with what is known then
+-- the rest after a place, as it is returned, with what is known after it
 abbrev pub Answers : Place → List ℕ → Passed → Option (List ℕ) → Passed → Type 0
 Answers q rest passed found after =
     (n m : Numbers) (mid : List ℕ) → Agrees n passed → Cut (Asks true q n) rest mid m → (found ≡ Some mid) × Agrees m after

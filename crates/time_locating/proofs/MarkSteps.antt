@@ -14,7 +14,7 @@ use Rattle.time_locating.specs.declared.located.Located.{Located}
 use Rattle.time_locating.specs.Marks.{Marks, MarksAll, MarksFirst, MarksTree, is_named}
 use Rattle.time_locating.proofs.TurnSteps.{LeavesUpTo, further-leaves, furthest-append, literal_cases}
 
--- ---- The place of a text follows from what a tree reads and misses of it. `Y` is the greatest year.
+-- ---- The place of a text follows from what a tree reads and misses in it. `Y` is the greatest year.
 
 front_empty : (xs ys : List Miss) → xs ++ ys ≡ [] → xs ≡ []
 front_empty [] ys is = refl
@@ -25,7 +25,7 @@ grows n k None h l = tt
 grows n k (Some m) h l = omega arith
 
 module _ (Y : ℕ) where
-  -- what is left is no more than there was
+  -- the rest is no longer than the bytes
   pub rest_within : (t : Tree) (b : List ℕ) (r : Record) (rest : List ℕ) (q : Record) → Reads Y t b r rest q → length rest ≤ length b
   rest_within t b r rest q h =
       let suffix = leaves_suffix Y t b r rest q h in
@@ -35,7 +35,7 @@ module _ (Y : ℕ) (told : Telling) where
   mutual
     unfolding Misses MissesAll MissesFirst Reads ReadsAll ReadsSome
 
-    -- a tree that reads nothing misses something
+    -- a tree that doesn't match misses something
     Misses-some : (t : Tree) (b : List ℕ) (r : Record) (ms : List Miss) → NoReading Y t b r → Misses Y told t b r ms → ms ≡ [] → ⊥
     Misses-some (literal x) b r ms unread h is =
         elim (literal_cases told x b) [
@@ -61,7 +61,7 @@ module _ (Y : ℕ) (told : Telling) where
   mutual
     unfolding Misses MissesAll MissesFirst
 
-    -- no miss leaves more than there is
+    -- no miss leaves more bytes than there are
     Misses-within : (t : Tree) (b : List ℕ) (r : Record) (ms : List Miss) → Misses Y told t b r ms → LeavesUpTo (length b) (furthest ms)
     Misses-within (literal x) b r ms h =
         elim (literal_cases told x b) [ inl there ↦ rw (h, there.1) tt | inr m ↦ rw (h, m.is) m.within ]
@@ -117,7 +117,7 @@ module _ (Y : ℕ) (told : Telling) (t : Tree) (b : List ℕ) (r : Record) where
       let within : LeavesUpTo (length b) (Some m) = subst (LeavesUpTo (length b)) (sym is) (MissesText-within Y told t b r ms h) in
       (m, (ms, h, is), omega arith, ap (λ (x : Miss). x.wanted) same)
 
-  -- the tree reads nothing
+  -- the tree doesn't match
   pub unread_text : (found : Option Miss) → NoReading Y t b r → IsFurthest (Misses Y told t b r) found →
       IsFurthest (MissesText Y told t b r) found
   unread_text found h (ms, k, is) = (ms, inl (h, k), is)
@@ -185,7 +185,8 @@ module _ (Y : ℕ) (name b : List ℕ) (r : Record) where
   unfolding Marks
   component_marks w c mark rest q h is = inl (rest, q, h, is)
 
--- What the trees that are left mark, all of them do: the mark of those before them is kept, where those have none.
+-- The mark of the trees that are left is that of all of them: it keeps the mark of the trees before, if the others have
+-- no mark.
 pub record CarriesAll (Y : ℕ) (name : List ℕ) (all : Trees) (b0 : List ℕ) (r0 : Record) (left : Trees) (b : List ℕ) (r : Record)
     (kept : Option ℕ) : Type 0 where
   pub marks : (mark : Option ℕ) → MarksAll Y name left b r mark → MarksAll Y name all b0 r0 (option_or mark kept)
@@ -210,12 +211,12 @@ module _ {Y : ℕ} {name : List ℕ} {all : Trees} {b0 : List ℕ} {r0 : Record}
         (f.marks (option_or mark here) (subst (λ us. MarksAll Y name us b r (option_or mark here)) (sym is) turn));
   }
 
-  -- nothing is left
+  -- no tree is left
   pub CarriesAll-end : left ≡ none → Reads Y (sequence all) b0 r0 b r → MarksTree Y (sequence all) name b0 r0 kept
   unfolding Marks MarksAll
   CarriesAll-end is h = inl (b, r, h, f.marks None (subst (λ ts. MarksAll Y name ts b r None) (sym is) refl))
 
--- What the trees that are left mark as alternatives, all of them do.
+-- The mark of the alternatives that are left is that of all of them.
 pub record CarriesFirst (Y : ℕ) (name : List ℕ) (all left : Trees) (b : List ℕ) (r : Record) : Type 0 where
   pub marks : (mark : Option ℕ) → MarksFirst Y name left b r mark → MarksFirst Y name all b r mark
 
@@ -224,7 +225,7 @@ CarriesFirst-start Y name all b r = record { marks = λ mark h. h }
 
 module _ {Y : ℕ} {name : List ℕ} {all left : Trees} {b : List ℕ} {r : Record} (f : CarriesFirst Y name all left b r)
     (t : Tree) (ts : Trees) (is : left ≡ more t ts) {now : Record} (same : now ≡ r) where
-  -- the next one reads nothing
+  -- the next one doesn't match
   pub CarriesFirst-unread : NoReading Y t b now → CarriesFirst Y name all ts b r
   unfolding MarksFirst
   CarriesFirst-unread h = record {
@@ -232,7 +233,7 @@ module _ {Y : ℕ} {name : List ℕ} {all left : Trees} {b : List ℕ} {r : Reco
         f.marks mark (subst (λ us. MarksFirst Y name us b r mark) (sym is) (inr (subst (λ p. NoReading Y t b p) same h, x)));
   }
 
-  -- the next one reads
+  -- the next one matches
   pub CarriesFirst-reads : (rest : List ℕ) (q : Record) (mark : Option ℕ) → Reads Y t b now rest q → MarksTree Y t name b now mark
       → Reads Y (first_of all) b r rest q → MarksTree Y (first_of all) name b r mark
   unfolding Marks MarksFirst
@@ -241,13 +242,13 @@ module _ {Y : ℕ} {name : List ℕ} {all left : Trees} {b : List ℕ} {r : Reco
       let here = subst (λ p. Marks Y name t b p mark) same (marks_of Y name t b now mark rest q h k) in
       inl (rest, q, whole, f.marks mark (subst (λ us. MarksFirst Y name us b r mark) (sym is) (inl (rest, q, read, here))))
 
--- there was none
+-- there was no alternative
 pub no_marks : (Y : ℕ) (name : List ℕ) (all : Trees) (b : List ℕ) (r now : Record) → all ≡ none → Reads Y (first_of all) b r b now
     → MarksTree Y (first_of all) name b r None
 unfolding Marks MarksFirst
 no_marks Y name all b r now is h = inl (b, now, h, subst (λ us. MarksFirst Y name us b r None) (sym is) refl)
 
--- where there is a mark, at most so many bytes are left
+-- if there is a mark, it is at most the number of bytes
 abbrev pub IsUpTo : ℕ → Option ℕ → Type 0
 IsUpTo most None = Unit {0}
 IsUpTo most (Some left) = left ≤ most

@@ -1,4 +1,4 @@
--- What the misses of a tree say. `Y` is the greatest year.
+-- What the misses of a tree determine. `Y` is the greatest year.
 use Rattle.std.proofs.Common.{◌≡◌, ℕ, ◌<◌, ◌≤◌, List, [], ◌∷◌, ◌++◌, Option, Some, None, All, Bool, true, false, nat_lt, if◌then◌else◌, refl, ap, sym, ◌∙◌, subst, inl, inr, arith, suc, ◌+◌, ◌⊎◌, length, take, drop, get_or, length-take, length-drop, min}
 use Rattle.std.proofs.lemmas.List.Elements.{All-append, All-cons}
 use Rattle.std.proofs.lemmas.Bool.Decides.{nat_tests}
@@ -21,7 +21,7 @@ use Rattle.time_locating.specs.StepRows.{IsSplit, inside}
 use Rattle.time_locating.proofs.TurnSteps.{literal_cases}
 use Rattle.time_locating.proofs.MarkSteps.{no_furthest}
 
--- the first of some misses tells that refusal
+-- the first of some misses has that error
 abbrev BeginsWith : List Miss → Refusal → Type 0
 BeginsWith ms e = (m : Miss) × (others : List Miss) × (ms ≡ m ∷ others) × (refusal_by m.wanted ≡ e)
 
@@ -31,7 +31,7 @@ begins-append ms ns e (m, others, is, told) = (m, others ++ ns, ap (λ xs. xs ++
 begins-is : (ms ns : List Miss) (e : Refusal) → ms ≡ ns → BeginsWith ns e → BeginsWith ms e
 begins-is ms ns e is h = subst (λ xs. BeginsWith xs e) (sym is) h
 
--- what a component wants tells its refusal
+-- what a component expects determines its error
 told_component : (c : Component) → refusal_by (wanted_by c) ≡ component_fault c
 told_component (named_.Day m) = refl
 told_component _ = refl
@@ -69,7 +69,7 @@ mutual
 pub own_miss_first : OwnMissFirst
 own_miss_first Y told t b r e ms refused h = own Y told t b r e ms refused.unread refused.fault h
 
--- such a miss is found in the list, with those before it leaving more and those after it no fewer
+-- such a miss is in the list, and those before it leave more bytes and those after it no fewer
 abbrev FoundIn : List Miss → Miss → Type 0
 FoundIn xs m = (before after : List Miss) × (xs ≡ before ++ m ∷ after) × All (λ n. m.left < n.left) before × All (λ n. m.left ≤ n.left) after
 
@@ -85,7 +85,7 @@ is_below n m is = grind (arith, nat_tests)
 is_not_below : (n m : ℕ) → nat_lt n m ≡ false → m ≤ n
 is_not_below n m is = grind (arith, nat_tests)
 
--- the miss of two
+-- the furthest of two misses
 choose : (x k m : Miss) (xs : List Miss) (b : Bool) → nat_lt k.left x.left ≡ b → (if b then k else x) ≡ m → FoundIn xs k → FoundIn (x ∷ xs) m
 choose x k m xs true lt is (before, after, e, more_left, no_fewer) =
     subst (FoundIn (x ∷ xs)) is (
@@ -117,7 +117,7 @@ pub furthest_leaves_fewest : FurthestLeavesFewest
 furthest_leaves_fewest [] m is = let clash : None ≡ Some m = is in cc
 furthest_leaves_fewest (x ∷ xs) m is = of_two x xs m (λ k e. furthest_leaves_fewest xs k e) (furthest xs) refl is
 
--- ---- The steps of one item in front of a row of steps
+-- ---- The steps of one item at the front of a row of steps
 
 further_short : (behind : List Step) → length (tree_further behind) ≤ length behind
 further_short [] = omega arith
@@ -227,7 +227,7 @@ group_inside item g len t some is alone =
     let all : t ≡ group_tree g (steps_trees (take len behind)) = cc in
     all ∙ ap (λ ys. group_tree g (steps_trees ys)) (take_all len behind (omega (arith, length-drop len behind)))
 
--- how many further bytes stand from an index on, by the step there
+-- how many further bytes there are from an index on, by the step there
 further_at : (xs : List Step) (i : ℕ) (x : Step) → i < length xs → x ≡ get_or xs i x →
     length (tree_further (drop i xs)) ≡ length (tree_further (x ∷ drop (i + 1) xs))
 further_at xs i x within is =

@@ -10,14 +10,14 @@ use Rattle.time_readers.specs.declared.rfc3339.Place.{Place}
 use Rattle.time_readers.specs.declared.rfc3339.Place.TheVariants.{Year, YearDash, Month, MonthDash, Day, Separator, Hour, HourColon, Minute, MinuteColon, Second, Subsecond, OffsetHour, OffsetColon, OffsetMinute}
 use Rattle.time_readers.proofs.Walking.{Stand-ends, Stand-split}
 
--- ---- Which place it is that doesn't stand, where the places have ranks
+-- ---- Which place doesn't match, if the places have ranks
 
 -- the ranks of the places rise by one from that number
 abbrev pub RankedFrom : {P : Type 0} → (P → ℕ) → ℕ → List P → Type 0
 RankedFrom rank k [] = Unit {0}
 RankedFrom rank k (p ∷ ps) = (rank p ≡ k) × RankedFrom rank (suc k) ps
 
--- as many places stand before one as its rank says
+-- as many places precede a place as its rank is
 pub rank-before : {P : Type 0} (rank : P → ℕ) (k : ℕ) (ps before after : List P) (p : P) → RankedFrom rank k ps
     → ps ≡ before ++ p ∷ after → rank p ≡ k + length before
 rank-before rank k ps [] after p ranked is = let h = subst (RankedFrom rank k) is ranked in omega (arith, h.0)
@@ -26,7 +26,7 @@ rank-before rank k ps (q ∷ before) after p ranked is =
     let later = rank-before rank (suc k) (before ++ p ∷ after) before after p h.1 refl in
     omega (arith, later)
 
--- the places before the one that doesn't stand
+-- the places before the one that doesn't match
 pub stands-before : {P N : Type 0} (A : Format P N) (rank : P → ℕ) (ps : List P) (n : N) (bytes : List ℕ) (p : P)
     → RankedFrom rank 0 ps → (s : StopsAt A ps n bytes p) → Stand A (take (rank p) ps) n bytes s.mid s.numbers
 stands-before A rank ps n bytes p ranked s =
@@ -35,7 +35,7 @@ stands-before A rank ps n bytes p ranked s =
     sym (take_at s.before (p ∷ s.after) (rank p) many) ∙ ap (take (rank p)) (sym s.place) in
     subst (λ qs. Stand A qs n bytes s.mid s.numbers) same s.stand
 
--- where it stands among the places
+-- its position among the places
 abbrev pub rank : Place → ℕ
 rank Year = 0
 rank YearDash = 1
@@ -58,7 +58,7 @@ rfc3339_before bytes p s =
     stands-before (Asks true) rank places nothing_read bytes p
     (refl, (refl, (refl, (refl, (refl, (refl, (refl, (refl, (refl, (refl, (refl, (refl, (refl, (refl, (refl, tt))))))))))))))) s
 
--- how many bytes the text of a place takes; `None`: their number varies
+-- how many bytes the text of a place takes; `None` if the number varies
 abbrev width : Place → Option ℕ
 width Year = Some 4
 width YearDash = Some 1
@@ -117,7 +117,7 @@ stand-widths (p ∷ ps) k n m bytes rest is s =
     let cut = ap length s.2.1 ∙ length-append s.2.0 s.0 in
     omega (arith, parts.4)
 
--- the place that doesn't stand begins after so many bytes
+-- the place that doesn't match begins after that many bytes
 pub fixed : (bytes : List ℕ) (p q : Place) (k : ℕ) → p ≡ q → widths (take (rank q) places) ≡ Some k → (s : FailsAt true bytes p)
     → k + length s.mid ≡ length bytes
 fixed bytes p q k is all s =
@@ -153,7 +153,7 @@ pub fraction_len-none : (bytes : List ℕ) → ((rest : List ℕ) → bytes ≡ 
 fraction_len-none bytes none text rest None cut form = sym (ap length form.0)
 fraction_len-none bytes none text rest (Some v) cut form = absurd (none (form.0 ++ rest) (cut ∙ ap (λ t. t ++ rest) form.1))
 
--- what stands after the second
+-- the rest after the second
 record AfterSecond (bytes mid : List ℕ) : Type 0 where
   text : List ℕ
   subsecond : Option ℕ
@@ -200,7 +200,7 @@ colon_length : (u : Bool) (text : List ℕ) → (u ≡ true → ⊥) → IsOffse
 colon_length true text signed is = absurd (signed refl)
 colon_length false text signed is = ap length is
 
--- the bytes after the second, where a fraction of so many bytes stands first
+-- the bytes after the second, if they begin with a fraction of that many bytes
 abbrev pub AfterFraction : List ℕ → ℕ → Type 0
 AfterFraction bytes fraction = 19 ≤ length bytes → IsFractionLength (drop 19 bytes) fraction
 
@@ -246,7 +246,7 @@ offset_minute_at bytes fraction len s =
     let end = ap length after in
     omega (arith, past_fraction bytes parts.0 fraction len (after_second nothing_read parts.1.0 bytes parts.0 parts.1.1))
 
--- the same of a place that is one of those
+-- a place that is one of those begins after that many bytes
 pub at_offset_hour : (bytes : List ℕ) (fraction : ℕ) → AfterFraction bytes fraction → (p : Place) → p ≡ OffsetHour → (s : FailsAt true bytes p)
     → 19 + fraction + 0 + length s.mid ≡ length bytes
 at_offset_hour bytes fraction len p is =
@@ -262,7 +262,7 @@ pub at_offset_minute : (bytes : List ℕ) (fraction : ℕ) → AfterFraction byt
 at_offset_minute bytes fraction len p is =
     subst (λ x. (s : FailsAt true bytes x) → 19 + fraction + 4 + length s.mid ≡ length bytes) (sym is) (offset_minute_at bytes fraction len)
 
--- a sign and an hour, where no `Z` stands
+-- a sign and an hour, without `Z`
 pub signed_hour : (n m : Numbers) (b rest : List ℕ) → NoCut (IsByteIgnoringCase 90) b → Cut (Asks true OffsetHour n) b rest m
     → (text : List ℕ) × (b ≡ text ++ rest) × (length text ≡ 3) × (m.is_utc ≡ n.is_utc)
 signed_hour n m b rest none (text, is, inl zulu) = absurd (none text rest tt is zulu.0)

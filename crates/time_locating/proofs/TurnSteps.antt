@@ -1,5 +1,4 @@
--- How what is read and missed of trees in turn follows from what their beginnings read and miss. `Y` is the greatest
--- year.
+-- How the readings and misses of a sequence follow from those of its beginnings. `Y` is the greatest year.
 use Rattle.std.proofs.Common.{◌≡◌, ℕ, ◌≤◌, List, [], ◌∷◌, ◌++◌, Option, Some, None, true, false, nat_lt, if◌then◌else◌, refl, ap, sym, ◌∙◌, arith, length, map, subst, inl, inr, ◌≢◌, ◌⊎◌, eq-eqb, Bool, Bor, unwrap_or}
 use Rattle.std.proofs.lemmas.Bool.Decides.{nat_tests, eqb_tells}
 use Rattle.std.proofs.lemmas.Bool.{ne_eqb}
@@ -35,7 +34,7 @@ furthest-append [] ns = refl
 furthest-append (m ∷ ms) ns =
     ap (λ k. further (Some m) k) (furthest-append ms ns) ∙ sym (further-assoc (Some m) (furthest ms) (furthest ns))
 
--- where there is a miss, at most so many bytes are left
+-- if there is a miss, at most that many bytes are left
 abbrev pub LeavesUpTo : ℕ → Option Miss → Type 0
 LeavesUpTo most None = Unit {0}
 LeavesUpTo most (Some m) = m.left ≤ most
@@ -46,10 +45,11 @@ further-leaves most (Some m) None h k = h
 further-leaves most (Some m) (Some n) h k =
     elim (nat_lt n.left m.left) as (λ v. (if v then n else m).left ≤ most) [ true ↦ k | false ↦ h ]
 
--- ---- How what is read and missed of alternatives follows from what those before them miss. `Y` is the greatest year.
+-- ---- How the readings and misses of alternatives follow from the misses of those before them. `Y` is the greatest
+-- year.
 
--- What the trees that are left read and miss as alternatives, all of them do: none before them reads anything, and the
--- furthest of their misses is kept.
+-- The readings and misses of the alternatives that are left are those of all of them: no alternative before them
+-- matches, and the furthest of their misses is kept.
 pub record Passes (Y : ℕ) (told : Telling) (all left : Trees) (b : List ℕ) (r now : Record) (kept : Option Miss) : Type 0 where
   pub same : now ≡ r
   pub reads : (rest : List ℕ) (q : Record) → ReadsSome Y left b r rest q → ReadsSome Y all b r rest q
@@ -64,7 +64,7 @@ Passes-start Y told all b r = record {
   misses = λ ms h. (ms, h, refl);
 }
 
--- of one or more alternatives of which none reads anything
+-- one or more alternatives that don't match
 first_of-unread : (Y : ℕ) (ts : Trees) (b : List ℕ) (r : Record) → (ts ≡ none → ⊥) → NoReadingSome Y ts b r → NoReading Y (first_of ts) b r
 unfolding Reads ReadsSome
 first_of-unread Y none b r some h = absurd (some refl)
@@ -78,7 +78,7 @@ first_of-nothing Y (more t ts) b r is = let clash : more t ts ≡ none = is in c
 module _ {Y : ℕ} {told : Telling} {all left : Trees} {b : List ℕ} {r now : Record} {kept : Option Miss}
     (f : Passes Y told all left b r now kept) where
   module _ (t : Tree) (ts : Trees) (is : left ≡ more t ts) where
-    -- the next one reads
+    -- the next one matches
     pub Passes-reads : (rest : List ℕ) (q : Record) → Reads Y t b now rest q → Reads Y (first_of all) b r rest q
     Passes-reads rest q h =
         let read = subst (λ p. Reads Y t b p rest q) f.same h in
@@ -95,7 +95,7 @@ module _ {Y : ℕ} {told : Telling} {all left : Trees} {b : List ℕ} {r now : R
           let end = f.misses m.0 here in
           (end.0, end.1, ap (λ n. further kept n) m.2 ∙ end.2)
 
-      -- the next one reads nothing
+      -- the next one doesn't match
       pub Passes-unread : {now' : Record} → NoReading Y t b now → now' ≡ now → Passes Y told all ts b r now' (further kept missed)
       unfolding MissesFirst
       Passes-unread h stays =
@@ -119,7 +119,7 @@ module _ {Y : ℕ} {told : Telling} {all left : Trees} {b : List ℕ} {r now : R
                 );
           }
 
-  -- none is left
+  -- no alternative is left
   pub Passes-kept : left ≡ none → IsFurthest (MissesFirst Y told all b r) kept
   unfolding MissesFirst
   Passes-kept is =
@@ -130,7 +130,7 @@ module _ {Y : ℕ} {told : Telling} {all left : Trees} {b : List ℕ} {r now : R
   Passes-nothing is some =
       first_of-unread Y all b r some (f.unread (subst (λ us. NoReadingSome Y us b r) (sym is) (NoReadingSome-none Y b r)))
 
-  -- there was none
+  -- there was no alternative
   pub Passes-none : all ≡ none → Reads Y (first_of all) b r b now
   Passes-none is = rw f.same (first_of-nothing Y all b r is)
 
@@ -153,8 +153,8 @@ module _ (Y : ℕ) (t : Tree) (ts : Trees) (b : List ℕ) (r : Record) where
       let is = Reads-unique Y t b r k.0 k.1 mid q k.2 h in
       hs rest p (subst (λ s. ReadsAll Y ts s q rest p) is.0 (subst (λ o. ReadsAll Y ts k.0 o rest p) is.1 k.3))
 
--- What the trees that are left read and miss, all of them do: those before them were read, and the furthest of their
--- misses is kept.
+-- The readings and misses of the trees that are left are those of all of them: those before them were read, and the
+-- furthest of their misses is kept.
 pub record Follows (Y : ℕ) (told : Telling) (all : Trees) (b0 : List ℕ) (r0 : Record) (left : Trees) (b : List ℕ) (r : Record)
     (kept : Option Miss) : Type 0 where
   pub reads : (rest : List ℕ) (q : Record) → ReadsAll Y left b r rest q → ReadsAll Y all b0 r0 rest q
@@ -189,7 +189,7 @@ module _ {Y : ℕ} {told : Telling} {all : Trees} {b0 : List ℕ} {r0 : Record} 
           );
     }
 
-    -- the next tree reads nothing
+    -- the next tree doesn't match
     pub Follows-misses : NoReading Y t b r → IsFurthest (MissesAll Y told all b0 r0) (further missed kept)
     unfolding MissesAll
     Follows-misses h =
@@ -201,7 +201,7 @@ module _ {Y : ℕ} {told : Telling} {all : Trees} {b0 : List ℕ} {r0 : Record} 
     unfolding Reads
     Follows-unread h = f.unread (subst (λ us. NoReadingAll Y us b r) (sym is) (NoReadingAll-here Y t ts b r h))
 
-  -- nothing is left
+  -- no tree is left
   pub Follows-end : left ≡ none → Reads Y (sequence all) b0 r0 b r
   unfolding Reads ReadsAll
   Follows-end is = f.reads b r (subst (λ ts. ReadsAll Y ts b r b r) (sym is) (refl, refl))
@@ -210,25 +210,25 @@ module _ {Y : ℕ} {told : Telling} {all : Trees} {b0 : List ℕ} {r0 : Record} 
   unfolding MissesAll
   Follows-kept is = f.misses [] (subst (λ ts. MissesAll Y told ts b r []) (sym is) refl)
 
--- ---- What a literal misses
+-- ---- The miss in a literal
 
 module _ (told : Telling) (t b : ℕ) (text bytes : List ℕ) where
-  -- the literal's first byte stands
+  -- the literal's first byte matches
   pub literal-same : b ≡ t → literal_misses told (t ∷ text) (b ∷ bytes) ≡ literal_misses told text bytes
   literal-same is = rw (eq-eqb b t is) refl
 
-  -- another stands
+  -- another byte is there
   pub literal-other : b ≢ t → literal_misses told (t ∷ text) (b ∷ bytes) ≡ missed (length (b ∷ bytes)) (these_bytes (told (t ∷ text))) ∷ []
   literal-other other = rw (ne_eqb b t other) refl
 
--- it is missed once, with no more left than there is
+-- it is missed once, and leaves no more bytes than there are
 pub record IsMissed (told : Telling) (text bytes : List ℕ) : Type 0 where
   pub left : ℕ
   pub wanted : List ℕ
   pub within : left ≤ length bytes
   pub is : literal_misses told text bytes ≡ missed left (these_bytes wanted) ∷ []
 
--- The bytes begin with the literal, which then misses nothing; or it is missed.
+-- The bytes begin with the literal, which then has no miss; or the literal is missed.
 pub literal_cases : (told : Telling) (text bytes : List ℕ)
     → (((rest : List ℕ) × (bytes ≡ text ++ rest)) × (literal_misses told text bytes ≡ [])) ⊎ IsMissed told text bytes
 literal_cases told [] bytes = inl ((bytes, refl), refl)
@@ -252,12 +252,12 @@ literal_cases told (t ∷ text) (b ∷ bytes) =
       })
     ]
 
--- a literal that stands misses nothing
+-- a literal that matches has no miss
 pub literal-there : (told : Telling) (text rest : List ℕ) → literal_misses told text (text ++ rest) ≡ []
 literal-there told [] rest = refl
 literal-there told (t ∷ text) rest = literal-same told t t text (text ++ rest) refl ∙ literal-there told text rest
 
--- ---- What a literal or a component misses. `Y` is the greatest year.
+-- ---- The misses of a literal or a component. `Y` is the greatest year.
 
 module _ (Y : ℕ) (told : Telling) (b : List ℕ) (r : Record) where
   pub literal_reads : (text rest : List ℕ) (q : Record) → Reads Y (literal text) b r rest q → IsFurthest (Misses Y told (literal text) b r) None
@@ -299,7 +299,7 @@ module _ (Y : ℕ) (t : Tree) (ts : Trees) (is : ts ≡ more t none) (b : List �
   unfolding Reads ReadsAll
   alone_unread h = λ rest q k. h rest q (subst (λ us. ReadsAll Y us b r rest q) (sym is) (rest, q, k, (refl, refl)))
 
--- a tree that may be missing
+-- an optional tree
 pub optional_reads : (Y : ℕ) (t : Tree) (b : List ℕ) (r : Record) (read : Option (Bor (List ℕ))) (input : Bor (List ℕ)) (new : Record) →
     b ≡ input.now → Attempts Y t b r read new → Reads Y (optional t) b r (unwrap_or read input).now new
 unfolding Reads

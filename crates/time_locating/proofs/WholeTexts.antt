@@ -1,4 +1,4 @@
--- Numbers that the places of a whole text say are put into any record.
+-- The numbers of a whole text's places are stored in any record.
 use Rattle.std.specs.Prelude.{MatchBool, codes, ◌++◌, if◌then◌else◌, unsigned_abs, nat_le}
 use Rattle.std.specs.Str.{bytes_eq}
 use Rattle.std.specs.Option.{option_map}
@@ -48,7 +48,7 @@ one_answer reads locates exact bytes r (Some at) (Some other) h k =
     let wanted = h.3 ∙ ap (λ (m : Miss). m.wanted) same ∙ sym k.3 in
     ap (λ n. Some (missed n (wants at.expected))) index ∙ ap (λ w. Some (missed other.index w)) wanted
 
--- a text has no place exactly where it has a record
+-- a text has no place exactly if it has a record
 module _ (reads : Reading) (refuses : Refusing) (locates : Locating) (exact : IsExact reads refuses) (places : IsExactPlace reads locates) where
   unread_whole : (bytes : List ℕ) (r p : Record) (e : Refusal) → reads bytes r [] p → IsWhole reads refuses bytes r (Err e) → ⊥
   unread_whole bytes r p e h (inl refused) = exact.not_both bytes r [] p e h refused
@@ -61,7 +61,7 @@ module _ (reads : Reading) (refuses : Refusing) (locates : Locating) (exact : Is
   place_of_refusal bytes r (Some at) (Err e) h k =
       (λ none. absurd (none-some at (sym none)), λ some. absurd (Ok-Err some.0 e some.1))
 
-  -- it has none exactly where it is read whole, and its outcome is what the record resolves to
+  -- a text has no place exactly if it is read whole, and its outcome is what the record resolves to
   pub place_of_outcome : {V : Type 0} (resolves : Resolving V) → PlacesOutcomes resolves reads refuses locates
   place_of_outcome resolves bytes r None (Ok v) h k = (λ none. k, λ whole. refl)
   place_of_outcome resolves bytes r None (Err e) h (inl k) = absurd (unread_whole bytes r h.0 e h.1 k)
@@ -81,7 +81,7 @@ marked-one marks one name bytes r (Some i) (Some j) h k =
     let other_sum = k.2 in
     ap Some (omega arith)
 
--- a text that is refused goes wrong at one index
+-- the error of a text has one index
 module _ (reads : Reading) (locates : Locating) (marks : Marking) (places : IsExactPlace reads locates) (one : IsExactMark marks)
     (bytes : List ℕ) (r : Record) where
   week-one : (ordinal : Bool) (index other : Option ℕ)
@@ -120,10 +120,10 @@ pub one_index : (reads : Reading) (locates : Locating) (marks : Marking) → IsE
     → OneIndex reads locates marks
 one_index reads locates marks places one bytes r e index other h k = error-one reads locates marks places one bytes r e index other h k
 
--- ---- The place of a text by the places of a format, from what is answered
+-- ---- The place of a text by the places of a format, from the result
 
 module _ {P N : Type 0} (A : Format P N) (ps : List P) (start : N) where
-  -- what is left isn't longer than the bytes
+  -- the rest isn't longer than the bytes
   pub left-within : (bytes rest : List ℕ) (n : N) → Stand A ps start bytes rest n → length rest ≤ length bytes
   left-within bytes rest n s =
       let ends = Stand-ends A ps start n bytes rest s in
@@ -131,7 +131,7 @@ module _ {P N : Type 0} (A : Format P N) (ps : List P) (start : N) where
       omega arith
 
   module _ (wanted_from : Beginning P) (wanted_at : P → Wanted) (reads : Reading) (begin : Record) (bytes : List ℕ) where
-    -- all places stand
+    -- all places match
     pub stands-located : (rest : List ℕ) (n : N) (result : Option Located) → Stand A ps start bytes rest n
         → ((r : Record) → Stand A ps start bytes [] n → (q : Record) × reads bytes r [] q)
         → seen_place result ≡ end_of (length bytes) rest
@@ -150,16 +150,16 @@ module _ {P N : Type 0} (A : Format P N) (ps : List P) (start : N) where
           ap (λ (m : Miss). m.wanted) same,
         )
 
--- ---- The mark of a text by the places of a format, from what is left after each of them
+-- ---- The mark of a text by the places of a format, from the rest after each of them
 
--- what a place leaves, as it is answered, where P agrees with what is known before and after it
+-- the rest after a place, as it is returned, if P agrees with what is known before and after it
 abbrev pub LeftAfter : {P N S : Type 0} → Format P N → (N → S → Type 0) → P → List ℕ → S → Option (List ℕ) → S → Type 0
 LeftAfter {P} {N} A Agrees p b known found after =
     (n m : N) (mid : List ℕ) → Agrees n known → Cut (A p n) b mid m → (found ≡ Some mid) × Agrees m after
 
 module _ {P N S : Type 0} (A : Format P N) (wanted_from : Beginning P) (fault : P → Refusal) (name : List ℕ) (Agrees : N → S → Type 0)
     (all : List P) (start : N) (bytes : List ℕ) where
-  -- These places are left, which stand, and their mark is the one of all.
+  -- The places that are left match, and their mark is that of all places.
   pub record Left (left : List P) (b : List ℕ) (known : S) : Type 0 where
     pub numbers : N
     pub end : List ℕ
@@ -178,7 +178,7 @@ module _ {P N S : Type 0} (A : Format P N) (wanted_from : Beginning P) (fault : 
     marks = λ mark x. x;
   }
 
-  -- the next place leaves that, and is marked or passed
+  -- the next place leaves that rest, and is marked or passed
   pub record Next (later : List P) (p : P) (b : List ℕ) (found : Option (List ℕ)) (after : S) : Type 0 where
     pub mid : List ℕ
     pub is : found ≡ Some mid
@@ -213,12 +213,12 @@ module _ {P N S : Type 0} (A : Format P N) (wanted_from : Beginning P) (fault : 
       let here = subst (λ (ps : List P). Left ps b known) (drop-cons all i p within) f in
       rw add-one (Left-next (get_or all i p) (drop (suc i) all) b known here found after step)
 
-  -- none is left
+  -- no place is left
   pub Left-end : (left : List P) (b : List ℕ) (known : S) → left ≡ [] → Left left b known → MarksPlaces A wanted_from fault name all start bytes None
   unfolding MarksPlaces
   Left-end left b known is f = f.marks None (subst (λ (ps : List P). MarksPlaces A wanted_from fault name ps f.numbers b None) (sym is) refl)
 
--- that which is wanted at a place begins in what is left there
+-- the expected text of a place begins in the bytes that are left there
 abbrev pub IsWithin : {P : Type 0} → Beginning P → Type 0
 IsWithin {P} wanted_from = (p : P) (b : List ℕ) → length (wanted_from p b) ≤ length b
 

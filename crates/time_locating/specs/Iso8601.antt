@@ -1,7 +1,7 @@
--- The place of a text that ISO 8601 refuses. `Y` is the greatest year.
+-- The place of a text that ISO 8601 rejects. `Y` is the greatest year.
 --
--- The text of a date, a time or an offset is one of some rows of pieces. Each row is begun, and misses the first of its
--- pieces that doesn't stand. Parts that come later stand before those that come earlier.
+-- The text of a date, a time or an offset is one of several rows of pieces. Each row is tried, and misses the first of
+-- its pieces that doesn't match. Misses of later parts precede those of earlier parts.
 use Rattle.std.specs.Prelude.{◌≡◌, ℕ, ◌+◌, List, [], ◌∷◌, ◌++◌, length, map, codes, Bool, true, false, if◌then◌else◌, Option, Some, None, option_map, Result, Ok, Err}
 use Rattle.time_values.specs.Refusal.{Refusal}
 use Rattle.time_readers.specs.IsoPieces.{Found, year, month, weekday, positive, byte}
@@ -22,11 +22,11 @@ use Rattle.time_locating.specs.Misses.{Miss, Wanted, missed, these_bytes, named,
 use Rattle.time_locating.specs.declared.iso8601.Piece.{Piece}
 use Rattle.time_locating.specs.declared.iso8601.Piece.TheVariants as piece
 
--- the rest of what is read, without what it says
+-- the rest after a value, without the value
 abbrev pub rest_of : {V : Type 0} → Option (List ℕ × V) → Option (List ℕ)
 rest_of found = option_map (λ f. f.0) found
 
--- what is left after a piece, which is read alike whatever those before it say
+-- the rest after a piece, which doesn't depend on the pieces before it
 abbrev pub after : Piece → Reader
 after piece.Year bytes = rest_of (year bytes)
 after piece.Dash bytes = byte 45 bytes
@@ -47,7 +47,7 @@ after piece.Sign bytes = rest_of (offsets.stands offsets.plus_or_minus bytes not
 after piece.OffsetHour bytes = rest_of (offsets.stands offsets.hour bytes nothing_said)
 after piece.OffsetMinute bytes = rest_of (offsets.stands offsets.minute bytes nothing_said)
 
--- what a piece wants: a byte, or the component of that name
+-- what a piece expects: a byte, or the component of that name
 abbrev pub wanted_at : Piece → Wanted
 wanted_at piece.Year = named (codes "year")
 wanted_at piece.Dash = these_bytes (codes "-")
@@ -68,18 +68,18 @@ wanted_at piece.Sign = named (codes "offset hour")
 wanted_at piece.OffsetHour = named (codes "offset hour")
 wanted_at piece.OffsetMinute = named (codes "offset minute")
 
--- what is missed where nothing is left, and else what is missed later
+-- this miss if there is no rest, and otherwise the misses in the rest
 abbrev pub missed_or_later : Miss → (List ℕ → List Miss) → Option (List ℕ) → List Miss
 missed_or_later m later None = m ∷ []
 missed_or_later m later (Some rest) = later rest
 
--- the miss of a row of pieces, or none where all of them stand
+-- the miss of a row of pieces, or none if all of them match
 abbrev pub row_misses : List Piece → List ℕ → List Miss
 row_misses [] bytes = []
 row_misses (p ∷ ps) bytes =
     missed_or_later (missed (length bytes) (wanted_at p)) (row_misses ps) (after p bytes)
 
--- the misses of rows, one after another
+-- the misses of rows, in their order
 abbrev pub rows_misses : List (List Piece) → List ℕ → List Miss
 rows_misses [] bytes = []
 rows_misses (row ∷ rows) bytes = row_misses row bytes ++ rows_misses rows bytes
@@ -95,7 +95,7 @@ date_rows =
     ∷ (piece.Year ∷ piece.Dash ∷ piece.WeekLetter ∷ piece.Week ∷ piece.Dash ∷ piece.Weekday ∷ [])
     ∷ []
 
--- the rows of a table of texts that may stand after that kind
+-- the rows of a table for texts that may follow a part of that kind
 abbrev pub rows_after : {P : Type 0} → (P → Piece) → List (Row P) → ExtendedKind → List (List Piece)
 rows_after piece_of [] kind = []
 rows_after piece_of (r ∷ rs) kind =
@@ -116,57 +116,58 @@ offset_piece offsets.hour = piece.OffsetHour
 offset_piece offsets.colon = piece.Colon
 offset_piece offsets.minute = piece.OffsetMinute
 
--- the misses of a time of that kind, and of an offset
+-- the misses of a time of that kind, and those of an offset
 abbrev pub time_misses : ExtendedKind → List ℕ → List Miss
 time_misses kind = rows_misses (rows_after time_piece time_rows kind)
 
 abbrev pub offset_misses : ExtendedKind → List ℕ → List Miss
 offset_misses kind = rows_misses (rows_after offset_piece offset_rows kind)
 
--- of `T`, which may be needed, and a time
+-- the misses of `T`, which is required only if `needed`, and of a time
 abbrev pub after_t : Bool → ExtendedKind → List ℕ → Option (List ℕ) → List Miss
 after_t needed kind bytes (Some rest) = time_misses kind rest
 after_t true kind bytes None = missed (length bytes) (these_bytes (codes "T")) ∷ []
 after_t false kind bytes None = time_misses kind bytes
 
--- of an offset after a time
+-- the misses of an offset after a time
 abbrev pub after_time : Option (Found TimeNumbers) → List Miss
 after_time None = []
 after_time (Some t) = offset_misses t.kind t.rest
 
--- of a time and what follows it
+-- the misses of a time and what follows it
 unfoldable pub from_time : Bool → ExtendedKind → List ℕ → List Miss
 from_time needs_t kind bytes =
     after_time (time_text needs_t kind bytes) ++ after_t needs_t kind bytes (byte 84 bytes)
 
--- of a text without a date, which is a time or an offset
+-- the misses of a text without a date, which is a time or an offset
 abbrev pub without_date : List ℕ → List Miss
 without_date bytes = from_time false Unknown bytes ++ offset_misses Unknown bytes
 
--- How many bytes are left where the number of a date begins that may be greater than a record holds, with so many after
--- the date: two digits of a day, three of an ordinal, or two of a week with a weekday after it.
+-- How many bytes are left at the start of the number of a date that may be greater than a record allows, if `rest`
+-- bytes follow the date: two digits of a day, three of an ordinal, or two of a week with a weekday after it.
 abbrev pub left_at_number : ExtendedKind → IsoDate → ℕ → ℕ
 left_at_number kind (calendar y m d) rest = 2 + rest
 left_at_number kind (ordinal y d) rest = 3 + rest
 left_at_number Extended (week y w d) rest = 4 + rest
 left_at_number kind (week y w d) rest = 3 + rest
 
--- of a text that begins with a date: of what follows it where a record holds the date, and else the date's number
+-- the misses of a text that begins with a date: those of what follows the date if a record allows it, and otherwise
+-- that of the date's number
 abbrev pub after_date : List ℕ → Found IsoDate → Result Record Refusal → List Miss
 after_date bytes d (Ok q) = from_time true d.kind d.rest
 after_date bytes d (Err e) =
     missed (left_at_number d.kind d.value (length d.rest)) (wanted_of e) ∷ without_date bytes
 
--- of a text, by the date with which it begins
+-- the misses of a text, by the date with which it begins
 abbrev pub by_date : ℕ → List ℕ → Record → Result (Found IsoDate) Refusal → List Miss
 by_date Y bytes r (Err e) = rows_misses date_rows bytes ++ without_date bytes
 by_date Y bytes r (Ok d) = after_date bytes d (put_or_fault Y (date_entries d.value) r)
 
--- the misses of a text that is read over the record
+-- the misses of a text that is parsed over the record
 unfoldable pub misses : ℕ → List ℕ → Record → List Miss
 misses Y bytes r = by_date Y bytes r (date_text bytes)
 
--- The place of a text over the record: the furthest of its misses, or of them and the end.
+-- The place of a text over the record: the furthest of its misses, and of the end if bytes remain.
 abbrev pub Locates : ℕ → Locating
 Locates Y bytes r m =
     place_after (rest_of (reading Y bytes (with_leap_second r)))

@@ -1,7 +1,7 @@
--- Where the components begin that a text of ISO 8601 says. `Y` is the greatest year.
+-- Where the components of an ISO 8601 text begin. `Y` is the greatest year.
 --
--- The date, the time and the offset are each a row of pieces: the first of the rows that may stand there which ends
--- where the date, the time or the offset ends.
+-- The date, the time and the offset are each a row of pieces: the first of the allowed rows that ends where the date,
+-- the time or the offset ends.
 use Rattle.std.specs.Prelude.{◌≡◌, ◌==◌, ℕ, List, [], ◌∷◌, length, codes, Bool, true, false, if◌then◌else◌, Option, Some, None, unwrap_or, option_and_then, Result, Ok, Err}
 use Rattle.std.specs.Option.{option_or}
 use Rattle.std.specs.Str.{bytes_eq}
@@ -22,75 +22,75 @@ use Rattle.time_locating.specs.Misses.{Wanted, named}
 use Rattle.time_locating.specs.declared.iso8601.Piece.{Piece}
 use Rattle.time_locating.specs.declared.iso8601.Piece.TheVariants as piece
 
--- a component of that name is wanted
+-- a component of that name is expected
 abbrev pub wants_name : List ℕ → Wanted → Bool
 wants_name name (named other) = bytes_eq name other
 wants_name name w = false
 
--- the piece says that component, as `Z` says the hour of an offset
+-- the piece has a component of that name: `Z` has the hour of an offset
 abbrev pub is_piece_of : List ℕ → Piece → Bool
 is_piece_of name piece.Zulu = bytes_eq name (codes "offset hour")
 is_piece_of name p = wants_name name (wanted_at p)
 
--- what is left after the pieces of a row
+-- the rest after the pieces of a row
 abbrev pub after_row : List Piece → List ℕ → Option (List ℕ)
 after_row [] bytes = Some bytes
 after_row (p ∷ ps) bytes = option_and_then (after_row ps) (after p bytes)
 
--- how many bytes are left where the first piece of that name begins
+-- how many bytes are left at the start of the first piece of that name
 abbrev pub row_mark : List ℕ → List Piece → List ℕ → Option ℕ
 row_mark name [] bytes = None
 row_mark name (p ∷ ps) bytes =
     if is_piece_of name p then Some (length bytes) else option_and_then (row_mark name ps) (after p bytes)
 
--- so many bytes are left
+-- exactly `left` bytes remain
 abbrev pub leaves : ℕ → Option (List ℕ) → Bool
 leaves left None = false
 leaves left (Some rest) = length rest == left
 
--- the same of the first of some rows that leaves so many bytes
+-- the mark by the first row that leaves exactly `left` bytes
 abbrev pub rows_mark : List ℕ → ℕ → List (List Piece) → List ℕ → Option ℕ
 rows_mark name left [] bytes = None
 rows_mark name left (row ∷ rows) bytes =
     if leaves left (after_row row bytes) then row_mark name row bytes else rows_mark name left rows bytes
 
--- of an offset of that kind
+-- the mark in an offset of that kind
 abbrev pub offset_mark : List ℕ → ℕ → ExtendedKind → List ℕ → Option ℕ
 offset_mark name left kind = rows_mark name left (rows_after offset_piece offset_rows kind)
 
--- of a time of that kind, which may begin with `T`
+-- the mark in a time of that kind, which may begin with `T`
 abbrev pub time_mark : List ℕ → ℕ → ExtendedKind → List ℕ → Option ℕ
 time_mark name left kind bytes =
     rows_mark name left (rows_after time_piece time_rows kind) (unwrap_or (byte 84 bytes) bytes)
 
--- of a time and an offset after it, if they are there, and else of what is said where there is no time
+-- the mark in a time and an offset after it, or `otherwise` if there is no time
 abbrev pub from_time : List ℕ → ℕ → ExtendedKind → List ℕ → Option (Found TimeNumbers) → Option ℕ → Option ℕ
 from_time name left kind bytes None otherwise = otherwise
 from_time name left kind bytes (Some t) otherwise =
     option_or (offset_mark name left t.kind t.rest) (time_mark name (length t.rest) kind bytes)
 
--- of a text without a date, which is a time or an offset
+-- the mark in a text without a date, which is a time or an offset
 abbrev pub without_date : List ℕ → ℕ → List ℕ → Option ℕ
 without_date name left bytes =
     from_time name left Unknown bytes (time_text false Unknown bytes) (offset_mark name left Unknown bytes)
 
--- of a text that begins with a date, where a record holds it
+-- the mark in a text that begins with a date, if a record allows the date
 abbrev pub after_date : List ℕ → ℕ → List ℕ → Found IsoDate → Result Record Refusal → Option ℕ
 after_date name left bytes d (Err e) = without_date name left bytes
 after_date name left bytes d (Ok q) =
     option_or (from_time name left d.kind d.rest (time_text true d.kind d.rest) None)
     (rows_mark name (length d.rest) date_rows bytes)
 
--- of a text, by the date with which it begins
+-- the mark in a text, by the date with which it begins
 abbrev pub by_date : ℕ → List ℕ → ℕ → List ℕ → Record → Result (Found IsoDate) Refusal → Option ℕ
 by_date Y name left bytes r (Err e) = without_date name left bytes
 by_date Y name left bytes r (Ok d) = after_date name left bytes d (put_or_fault Y (date_entries d.value) r)
 
--- the mark of a text of which so many bytes are left unread
+-- the mark in a text that leaves `left` bytes unread
 unfoldable pub text_mark : ℕ → List ℕ → ℕ → List ℕ → Record → Option ℕ
 text_mark Y name left bytes r = by_date Y name left bytes r (date_text bytes)
 
--- The mark of a text over the record, or none where nothing is read.
+-- The mark of a text over the record, or none if nothing is read.
 abbrev pub Marks : ℕ → Marking
 Marks Y name bytes r mark =
     mark ≡ option_and_then (λ rest. text_mark Y name (length rest) bytes (with_leap_second r))

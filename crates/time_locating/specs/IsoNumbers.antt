@@ -19,11 +19,11 @@ year_of (calendar y m d) = y
 year_of (ordinal y d) = y
 year_of (week y w d) = y
 
--- a record may hold it
+-- a record may have that year
 abbrev pub IsYearHeld : IsoDate → Type 0
 IsYearHeld d = IsTrue (nat_le (unsigned_abs (year_of d)) greatest_year)
 
--- The record holds the date, or it is refused with the name of a component, whose number begins so many bytes before
+-- The record accepts the date, or rejects it with the name of a component, whose number begins that many bytes before
 -- the date's end.
 abbrev pub IsTooGreat : IsoDate → ExtendedKind → Record → Option (ℕ × Bor (List ℕ)) → Type 0
 IsTooGreat d kind r None = (q : Record) × (put_or_fault greatest_year (date_entries d) r ≡ Ok q)
@@ -31,7 +31,7 @@ IsTooGreat d kind r (Some number) =
     (put_or_fault greatest_year (date_entries d) r ≡ Err (component number.1.now))
     × ((rest : ℕ) → left_at_number kind d rest ≡ number.0 + rest)
 
--- after one up to the greatest without a fraction, and with one
+-- the rest after a number of at most `greatest`, without a fraction and with one
 abbrev pub whole_up_to : ℕ → (List ℕ × Number) → Option (List ℕ)
 whole_up_to greatest (rest, plain v) = when (nat_le v greatest) rest
 whole_up_to greatest (rest, fraction v d) = None
@@ -40,7 +40,7 @@ abbrev pub part_up_to : ℕ → (List ℕ × Number) → Option (List ℕ)
 part_up_to greatest (rest, plain v) = None
 part_up_to greatest (rest, fraction v d) = when (nat_le v greatest) rest
 
--- after a second
+-- the rest after a second
 abbrev pub second_up_to : (List ℕ × Number) → Option (List ℕ)
 second_up_to (rest, plain v) = when (nat_le v 60) rest
 second_up_to (rest, fraction v d) = when (nat_le v 60 && nat_lt (round_of d 1_000_000_000) 1_000_000_000) rest

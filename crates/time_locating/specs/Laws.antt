@@ -1,4 +1,4 @@
--- Laws of misses. `Y` is the greatest year.
+-- Laws about misses. `Y` is the greatest year.
 use Rattle.std.specs.Prelude.{◌≡◌, ◌<◌, ◌≤◌, ℕ, List, ◌∷◌, ◌++◌, Some, Err, All}
 use Rattle.time_values.specs.Refusal.{Refusal, literal, component, trailing}
 use Rattle.time_components.specs.Tree.{Tree}
@@ -8,39 +8,39 @@ use Rattle.time_parsing.specs.Iso8601.{date_over}
 use Rattle.time_locating.specs.Iso8601.{misses}
 use Rattle.time_locating.specs.Misses.{Wanted, these_bytes, named, the_end, Miss, Misses, Telling, furthest}
 
--- A tree has one list of misses of the same bytes over the same record.
+-- A tree has one list of misses for given bytes and a given record.
 abbrev pub OneList : Type 0
 OneList =
     (Y : ℕ) (told : Telling) (t : Tree) (bytes : List ℕ) (r : Record) (ms ns : List Miss)
     → Misses Y told t bytes r ms → Misses Y told t bytes r ns → ms ≡ ns
 
--- the refusal of a leaf that wants this
+-- the error of a leaf that expects this
 abbrev pub refusal_by : Wanted → Refusal
 refusal_by (these_bytes text) = literal
 refusal_by (named name) = component name
 refusal_by the_end = trailing
 
--- Where a tree is refused, the list begins with the miss that the refusal names.
+-- If a tree is rejected, the list begins with the miss that the error names.
 abbrev pub OwnMissFirst : Type 0
 OwnMissFirst =
     (Y : ℕ) (told : Telling) (t : Tree) (bytes : List ℕ) (r : Record) (e : Refusal) (ms : List Miss)
     → Refuses Y t bytes r e → Misses Y told t bytes r ms
     → (m : Miss) × (others : List Miss) × (ms ≡ m ∷ others) × (refusal_by m.wanted ≡ e)
 
--- No miss leaves fewer bytes than the furthest, and those before it leave more.
+-- No miss leaves fewer bytes than the furthest, and each miss before it in the list leaves more.
 abbrev pub FurthestLeavesFewest : Type 0
 FurthestLeavesFewest =
     (ms : List Miss) (m : Miss) → furthest ms ≡ Some m
     → (before after : List Miss) × (ms ≡ before ++ m ∷ after)
     × All (λ n. m.left < n.left) before × All (λ n. m.left ≤ n.left) after
 
--- The miss stands in the list, and those before it leave more bytes.
+-- The miss is in the list, and each miss before it leaves more bytes.
 abbrev pub LeavesLeastSoFar : Miss → List Miss → Type 0
 LeavesLeastSoFar m ms =
     (before after : List Miss) × (ms ≡ before ++ m ∷ after) × All (λ n. m.left < n.left) before
 
--- Where a date of ISO 8601 is refused, a miss of the text tells that refusal, and those before it leave more bytes. So
--- it is the furthest, where none after it leaves fewer.
+-- If a date of ISO 8601 is rejected, one miss of the text is that of the error, and each miss before it leaves more
+-- bytes. So it is the furthest unless a later one leaves fewer.
 abbrev pub IsoOwnMiss : Type 0
 IsoOwnMiss =
     (Y : ℕ) (bytes : List ℕ) (r : Record) (e : Refusal) → date_over Y bytes r ≡ Err e

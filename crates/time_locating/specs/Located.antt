@@ -1,4 +1,4 @@
--- Where a text is refused, over what a format reads and the place of a text that it doesn't read whole.
+-- Where a text is rejected, over the readings of a format and the place of a text that it doesn't read whole.
 use Rattle.std.specs.Prelude.{◌≡◌, ◌↔◌, ℕ, ◌+◌, ◌-◌, List, [], ◌∷◌, length, codes, MatchBool, Option, Some, None, Result, Ok, ◌++◌}
 use Rattle.std.specs.Str.{bytes_eq}
 use Rattle.time_values.specs.Refusal.{Refusal, range}
@@ -10,124 +10,123 @@ use Rattle.time_locating.specs.declared.located.Expected.TheVariants.{Literal, C
 use Rattle.time_locating.specs.declared.located.Located.{Located}
 use Rattle.time_locating.specs.declared.mark.Miss.{Miss as Miss'}
 
--- what a call says was expected, without where it lies in memory
+-- what a call expected, viewed without the address of its bytes
 abbrev pub wants : Expected → Wanted
 wants (Literal text) = these_bytes text.now
 wants (Component name) = named name.now
 wants End = the_end
 
--- a miss that a call says, without where its bytes lie in memory
+-- a call's miss, viewed without the address of its bytes
 abbrev pub seen_miss : Option Miss' → Option Miss
 seen_miss None = None
 seen_miss (Some m) = Some (missed m.left (wants m.expected))
 
--- where a format doesn't read the whole of the bytes over a record: the place, with what was wanted there
+-- for bytes that a format doesn't read whole over a record: the place, with what was expected there
 abbrev pub Locating : Type 1
 Locating = List ℕ → Record → Miss → Type 0
 
--- None where the whole of the bytes is read. Else the index of the place, and what was expected there.
+-- None if all bytes are read. Otherwise the index of the place, and what was expected there.
 abbrev pub IsLocated : Reading → Locating → List ℕ → Record → Option Located → Type 0
 IsLocated reads locates bytes begin None = (r : Record) × reads bytes begin [] r
 IsLocated reads locates bytes begin (Some at) =
     (m : Miss) × locates bytes begin m × (at.index + m.left ≡ length bytes) × (wants at.expected ≡ m.wanted)
 
--- for the name of a component, bytes and a record: how many bytes are left where the last component of that name begins
--- that is read, or nothing where none is
+-- for the name of a component, bytes and a record: how many bytes are left at the start of the last component of that
+-- name that is read, or nothing if none is read
 abbrev pub Marking : Type 1
 Marking = List ℕ → List ℕ → Record → Option ℕ → Type 0
 
--- None where no component of that name is read. Else the index at which the last of them begins.
+-- None if no component of that name is read. Otherwise the index at which the last of them begins.
 abbrev pub IsMarked : Marking → List ℕ → List ℕ → Record → Option ℕ → Type 0
 IsMarked marks name bytes begin None = marks name bytes begin None
 IsMarked marks name bytes begin (Some index) =
     (left : ℕ) × marks name bytes begin (Some left) × (index + left ≡ length bytes)
 
--- A text has one mark of each name.
+-- A text has one mark for each name.
 abbrev pub IsExactMark : Marking → Type 0
 IsExactMark marks =
     (name bytes : List ℕ) (r : Record) (mark other : Option ℕ)
     → marks name bytes r mark → marks name bytes r other → mark ≡ other
 
--- The index of a component of which a range is refused. The date of a week that is counted from Sundays or Mondays is
--- refused by its ordinal; where the text says none, that of the week number.
+-- The index of a component whose range is violated. The error of a week date that counts weeks from Sundays or Mondays
+-- names the ordinal; if the text has no ordinal, the index is that of the week number.
 abbrev pub IsRangeAt : Marking → List ℕ → Record → List ℕ → Option ℕ → Option ℕ → Type 0
 IsRangeAt marks bytes begin name (Some own) index = index ≡ Some own
 IsRangeAt marks bytes begin name None index =
     MatchBool (bytes_eq name (codes "ordinal")) (IsMarked marks (codes "week number") bytes begin index) (index ≡ None)
 
--- the component whose range a refusal names
+-- the component whose range an error names
 abbrev pub range_name : Refusal → Option (List ℕ)
 range_name (range name conditional) = Some name
 range_name e = None
 
--- The index at which a text goes wrong that is read whole: of the component whose range is refused.
+-- The index of the error in a text that is read whole: that of the component whose range is violated.
 abbrev pub IsValueAt : Marking → List ℕ → Record → Option (List ℕ) → Option ℕ → Type 0
 IsValueAt marks bytes begin None index = index ≡ None
 IsValueAt marks bytes begin (Some name) index =
     (own : Option ℕ) × IsMarked marks name bytes begin own × IsRangeAt marks bytes begin name own index
 
--- the index at which a text goes wrong by its place, or else by the refusal of its value
+-- the index of a text's place, or else of the component that the error of its value names
 abbrev pub IsRefusedAt : Marking → List ℕ → Record → Refusal → Option Located → Option ℕ → Type 0
 IsRefusedAt marks bytes begin e (Some at) index = index ≡ Some at.index
 IsRefusedAt marks bytes begin e None index = IsValueAt marks bytes begin (range_name e) index
 
--- The index at which a text goes wrong that is refused as this.
+-- The index of this error in a text.
 abbrev pub IsErrorAt : Reading → Locating → Marking → List ℕ → Record → Refusal → Option ℕ → Type 0
 IsErrorAt reads locates marks bytes begin e index =
     (place : Option Located) × IsLocated reads locates bytes begin place × IsRefusedAt marks bytes begin e place index
 
--- A text has one place, and none where it is read whole.
+-- A text has one place, or none if it is read whole.
 pub record IsExactPlace (reads : Reading) (locates : Locating) : Type 0 where
   pub one_place : (bytes : List ℕ) (r : Record) (m n : Miss) → locates bytes r m → locates bytes r n → m ≡ n
   pub not_read : (bytes : List ℕ) (r q : Record) (m : Miss) → locates bytes r m → reads bytes r [] q → ⊥
 
--- an answer without where what was expected lies in memory
+-- a result, viewed without the address of what was expected
 abbrev pub seen_place : Option Located → Option Miss
 seen_place None = None
 seen_place (Some at) = Some (missed at.index (wants at.expected))
 
--- what is answered where that miss is found in so many bytes
+-- the result for that miss in a text of `all` bytes
 abbrev pub place_in : ℕ → Option Miss → Option Miss
 place_in all None = None
 place_in all (Some m) = Some (missed (all - m.left) m.wanted)
 
--- what is answered where these bytes remain of so many after all that is read
+-- the result if the format stops before these bytes, in a text of `all` bytes
 abbrev pub end_of : ℕ → List ℕ → Option Miss
 end_of all [] = None
 end_of all (b ∷ rest) = Some (missed (all - length (b ∷ rest)) the_end)
 
--- a text has one answer
+-- a text has one result
 abbrev pub OneAnswer : Reading → Locating → Type 0
 OneAnswer reads locates =
     (bytes : List ℕ) (begin : Record) (result other : Option Located)
     → IsLocated reads locates bytes begin result → IsLocated reads locates bytes begin other
     → seen_place result ≡ seen_place other
 
--- A text has no place exactly where its record is answered, that of the whole text.
+-- A text has no place exactly if its outcome is a record, that of the whole text.
 abbrev pub PlacesRefusals : Reading → Refusing → Locating → Type 0
 PlacesRefusals reads refuses locates =
     (bytes : List ℕ) (begin : Record) (place : Option Located) (outcome : Result Record Refusal)
     → IsLocated reads locates bytes begin place → IsWhole reads refuses bytes begin outcome
     → (place ≡ None) ↔ ((r : Record) × (outcome ≡ Ok r))
 
--- A text has no place exactly where it is read whole and its outcome, a value or a refusal, is what the record resolves
--- to.
+-- A text has no place exactly if it is read whole and its outcome, a value or an error, is what the record resolves to.
 abbrev pub PlacesOutcomes : {V : Type 0} → Resolving V → Reading → Refusing → Locating → Type 0
 PlacesOutcomes {V} resolves reads refuses locates =
     (bytes : List ℕ) (begin : Record) (place : Option Located) (outcome : Result V Refusal)
     → IsLocated reads locates bytes begin place → IsOutcome resolves reads refuses bytes begin outcome
     → (place ≡ None) ↔ ((r : Record) × reads bytes begin [] r × resolves r outcome)
 
--- a text that is refused goes wrong at one index
+-- an error of a text has one index
 abbrev pub OneIndex : Reading → Locating → Marking → Type 0
 OneIndex reads locates marks =
     (bytes : List ℕ) (begin : Record) (e : Refusal) (index other : Option ℕ)
     → IsErrorAt reads locates marks bytes begin e index → IsErrorAt reads locates marks bytes begin e other
     → index ≡ other
 
--- ---- What is printed of what was expected
+-- ---- How an expectation is printed
 
--- the text that is printed; of the bytes of a literal, which are escaped, nothing is said
+-- the text that is printed; nothing is stated of a literal's bytes, which are escaped
 abbrev pub expected_text : Expected → Option (List ℕ)
 expected_text (Literal bytes) = None
 expected_text (Component name) = Some (codes "expected " ++ name.now)

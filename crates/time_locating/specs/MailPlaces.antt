@@ -1,17 +1,17 @@
 -- No public contract rests on this file.
 --
--- What the places of a mail date say that are passed.
+-- What the places of a mail date so far determine for those after them.
 use Rattle.std.specs.Prelude.{◌≡◌, ℕ, is_some}
 use Rattle.time_readers.specs.declared.rfc2822.Numbers.{Numbers}
 use Rattle.time_readers.specs.declared.rfc2822.Place.{Place}
 use Rattle.time_readers.specs.declared.rfc2822.Place.TheVariants.{WeekdayName, Day, DayBlanks, MonthName, MonthBlanks, Year, YearBlanks, Hour, HourColon, Minute, Second, TimeBlanks, OffsetHour, OffsetMinute, EndBlanks}
 use Rattle.time_locating.specs.declared.rfc2822.Passed.{Passed}
 
--- what is known of the places that are passed is what their numbers say
+-- what is known of the places so far is what their numbers determine
 abbrev pub Agrees : Numbers → Passed → Type 0
 Agrees n passed = (n.year_is_full ≡ passed.year_is_full) × (is_some n.offset_sign ≡ passed.offset_has_sign)
 
--- how many places stand before it
+-- how many places precede it
 abbrev pub rank : Place → ℕ
 rank WeekdayName = 0
 rank Day = 1

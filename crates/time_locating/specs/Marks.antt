@@ -1,5 +1,5 @@
--- Where the components begin that a tree reads. `Y` is the greatest year.
--- A mark is how many bytes are left where the last component of a name begins, or nothing where none of it is read.
+-- Where the components that a tree reads begin. `Y` is the greatest year. A mark is how many bytes are left at the
+-- start of the last component of a name, or nothing if none of that name is read.
 use Rattle.std.specs.Prelude.{◌≡◌, ℕ, ◌⊎◌, List, length, codes, Bool, false, ◌||◌, Option, None, ◌≢◌, [], ◌∷◌, true, ◌&&◌, nat_lt, Some}
 use Rattle.std.specs.Option.{option_or}
 use Rattle.std.specs.Str.{bytes_eq}
@@ -16,19 +16,19 @@ use Rattle.time_record.specs.Record.{Record}
 use Rattle.time_locating.specs.Located.{Marking}
 use Rattle.time_locating.specs.Misses.{Miss, Wanted, missed, the_end}
 
--- the refusal says that name
+-- the error has that name
 abbrev pub says_name : List ℕ → Refusal → Bool
 says_name name (of_component other) = bytes_eq name other
 says_name name e = false
 
--- The component has that name: the refusal of its text says it. Of a week as ISO 8601 counts them, the refusal of its
--- date says another.
+-- The component has that name, which is that of the error of its text. For an ISO 8601 week, the error of its date has
+-- another name.
 abbrev pub is_named : List ℕ → Component → Bool
 is_named name (named.WeekNumberIso m) = bytes_eq name (codes "week number") || bytes_eq name (codes "week")
 is_named name c = says_name name (component_fault c)
 
 unfoldable mutual
-  -- This is the mark, where the tree is read from the bytes over the record.
+  -- This is the mark, if the tree is read from the bytes over the record.
   pub Marks : ℕ → List ℕ → Tree → List ℕ → Record → Option ℕ → Type 0
   Marks Y name (literal t) bytes r mark = mark ≡ None
   Marks Y name (component whole c) bytes r mark = mark ≡ when (is_named name c) (length bytes)
@@ -38,7 +38,7 @@ unfoldable mutual
       ⊎ (NoReading Y t bytes r × (mark ≡ None))
   Marks Y name (first_of ts) bytes r mark = MarksFirst Y name ts bytes r mark
 
-  -- of trees in turn, the last one's first
+  -- the mark of trees in turn: that of the last one that has one
   pub MarksAll : ℕ → List ℕ → Trees → List ℕ → Record → Option ℕ → Type 0
   MarksAll Y name none bytes r mark = mark ≡ None
   MarksAll Y name (more t ts) bytes r mark =
@@ -46,29 +46,30 @@ unfoldable mutual
       × (mid : List ℕ) × (q : Record) × Reads Y t bytes r mid q
       × (later : Option ℕ) × MarksAll Y name ts mid q later × (mark ≡ option_or later here)
 
-  -- of alternatives, that of the first that reads
+  -- the mark of alternatives: that of the first that matches
   pub MarksFirst : ℕ → List ℕ → Trees → List ℕ → Record → Option ℕ → Type 0
   MarksFirst Y name none bytes r mark = mark ≡ None
   MarksFirst Y name (more t ts) bytes r mark =
       ((mid : List ℕ) × (q : Record) × Reads Y t bytes r mid q × Marks Y name t bytes r mark)
       ⊎ (NoReading Y t bytes r × MarksFirst Y name ts bytes r mark)
 
--- The mark of a text, of which the tree reads a front or nothing.
+-- The mark of a text, if the tree reads a front of it, or nothing.
 abbrev pub MarksTree : ℕ → Tree → Marking
 MarksTree Y t name bytes r mark = Marks Y name (optional t) bytes r mark
 
--- ---- The place of a text that a format by places refuses, and where a component begins in one that it reads
+-- ---- The place of a text that a format by places rejects, and the start of a component in one that it reads
 
--- for a place and what is left where it begins: what is left where that begins, or should, which is wanted at the place
+-- for a place and the bytes that are left at its start: the bytes that are left where the expected text begins, or
+-- should begin
 abbrev pub Beginning : Type 0 → Type 0
 Beginning P = P → List ℕ → List ℕ
 
--- it begins where its place does
+-- the expected text begins at the start of its place
 abbrev pub at_once : {P : Type 0} → Beginning P
 at_once p bytes = bytes
 
--- The first place that doesn't stand, where that should begin which is wanted at it. Where all places stand and bytes
--- remain it is the end of the text.
+-- The start of what is expected at the first place that doesn't match. If all places match and bytes remain, it is the
+-- end of the text.
 abbrev pub LocatesPlace :
     {P N : Type 0} → Format P N → List P → N → Beginning P → (P → Wanted) → List ℕ → Miss → Type 0
 LocatesPlace {P} {N} A ps start wanted_from wanted_at bytes m =
@@ -76,11 +77,12 @@ LocatesPlace {P} {N} A ps start wanted_from wanted_at bytes m =
     × (m ≡ missed (length (wanted_from p stop.mid)) (wanted_at p)))
     ⊎ ((rest : List ℕ) × (n : N) × Stand A ps start bytes rest n × (rest ≢ []) × (m ≡ missed (length rest) the_end))
 
--- whether a place with that refusal says the name, between those bytes and the rest: it does where it has a text
+-- whether a place with that error has the name and takes bytes, with `rest` left after it
 abbrev pub is_place_of : List ℕ → Refusal → List ℕ → List ℕ → Bool
 is_place_of name refusal bytes rest = nat_lt (length rest) (length bytes) && says_name name refusal
 
--- The places stand, and so many bytes are left where the first of that name begins, without what stands before it.
+-- The places match, and that many bytes are left at the start of the first place of that name, after what precedes it
+-- there.
 unfoldable pub MarksPlaces :
     {P N : Type 0} → Format P N → Beginning P → (P → Refusal) → List ℕ → List P → N → List ℕ → Option ℕ → Type 0
 MarksPlaces A wanted_from fault name [] n bytes mark = mark ≡ None
@@ -89,7 +91,7 @@ MarksPlaces {P} {N} A wanted_from fault name (p ∷ ps) n bytes mark =
     × (((is_place_of name (fault p) bytes mid ≡ true) × (mark ≡ Some (length (wanted_from p bytes))))
     ⊎ ((is_place_of name (fault p) bytes mid ≡ false) × MarksPlaces A wanted_from fault name ps k mid mark))
 
--- The mark of a text: that of the places, or none where they don't all stand.
+-- The mark of a text: that of the places, or none if they don't all match.
 abbrev pub MarksText :
     {P N : Type 0} → Format P N → Beginning P → (P → Refusal) → List P → N → List ℕ → List ℕ → Option ℕ → Type 0
 MarksText {P} {N} A wanted_from fault ps start name bytes mark =

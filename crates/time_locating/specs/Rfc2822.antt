@@ -1,4 +1,4 @@
--- The place of a text that RFC 2822 refuses.
+-- The place of a text that RFC 2822 rejects.
 use Rattle.std.specs.Prelude.{ℕ, List, drop, true, codes, unwrap_or}
 use Rattle.time_readers.specs.MailBlanks.{opt_cfws, opt_cfws_colon_opt_cfws}
 use Rattle.time_readers.specs.Readers.{Reader}
@@ -9,8 +9,8 @@ use Rattle.time_locating.specs.Marks.{Beginning, LocatesPlace, MarksText}
 use Rattle.time_locating.specs.Located.{Locating, Marking}
 use Rattle.time_locating.specs.Misses.{Wanted, these_bytes, wanted_of}
 
--- what is wanted at a place: a comma for a weekday without one, a space for blanks, the colon of the hour, or else the
--- component that the refusal of the place names
+-- what is expected at a place: a comma for a weekday without one, a space for blanks, the colon of the hour, or else
+-- the component that the place's error names
 abbrev pub wanted_at : Place → Wanted
 wanted_at WeekdayName = these_bytes (codes ",")
 wanted_at DayBlanks = these_bytes (codes " ")
@@ -20,13 +20,13 @@ wanted_at HourColon = these_bytes (codes ":")
 wanted_at TimeBlanks = these_bytes (codes " ")
 wanted_at p = wanted_of (fault p)
 
--- what a reader leaves, which is all where it reads nothing
+-- the rest after a reader, or all bytes if it doesn't match
 abbrev pub past : Reader → List ℕ → List ℕ
 past reader bytes = unwrap_or (reader bytes) bytes
 
--- Where that begins which is wanted at a place: the comma after the blanks and the three letters of a weekday, the
--- hour's colon after its blanks, and a second after its colon and the blanks beside it. All else begins where its place
--- does.
+-- Where the expected text of a place begins: the comma after the blanks and the three letters of a weekday, the hour's
+-- colon after its blanks, and a second after its colon and the blanks beside it. All other texts begin with their
+-- places.
 abbrev pub wanted_from : Beginning Place
 wanted_from WeekdayName bytes = drop 3 (past opt_cfws bytes)
 wanted_from HourColon bytes = past opt_cfws bytes

@@ -1,4 +1,4 @@
--- The place of a text that RFC 3339 refuses.
+-- The place of a text that RFC 3339 rejects.
 use Rattle.std.specs.Prelude.{true, codes}
 use Rattle.time_readers.specs.Rfc3339.{Asks, places, nothing_read, fault}
 use Rattle.time_readers.specs.declared.rfc3339.Place.{Place}
@@ -7,7 +7,7 @@ use Rattle.time_locating.specs.Marks.{LocatesPlace, MarksText, at_once}
 use Rattle.time_locating.specs.Located.{Locating, Marking}
 use Rattle.time_locating.specs.Misses.{Wanted, these_bytes, wanted_of}
 
--- what is wanted at a place: the byte that is fixed there, or else the component that its refusal names
+-- what is expected at a place: its fixed byte, or else the component that its error names
 abbrev pub wanted_at : Place → Wanted
 wanted_at YearDash = these_bytes (codes "-")
 wanted_at MonthDash = these_bytes (codes "-")

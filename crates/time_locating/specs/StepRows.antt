@@ -1,6 +1,6 @@
 -- No public contract rests on this file.
 --
--- The steps of one item in front of a row of steps.
+-- The steps of one item at the front of a row of steps.
 use Rattle.std.specs.Prelude.{◌≡◌, ◌≤◌, ◌<◌, ℕ, List, length, min}
 use Rattle.time_components.specs.Tree.{further, steps_trees, Tree, none, more}
 use Rattle.time_components.specs.declared.inspect.Step.{Step}
@@ -13,7 +13,7 @@ inside (step.More b) behind = length (further behind)
 inside (step.Component c) behind = 0
 inside (step.Group g len) behind = min len (length behind)
 
--- The steps are those of one item, and then the others.
+-- The steps are those of one item, followed by the others.
 pub record IsSplit (steps item after : List Step) : Type 0 where
   pub tree : Tree
   pub alone : steps_trees item ≡ more tree none

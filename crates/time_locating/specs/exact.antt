@@ -1,3 +1,3 @@
--- What only the proofs need that a text has one place. What a place is stands in the files beside this one.
+-- What only the proofs need to show that a text has one place. The files beside this one define a place.
 
 pub mod PlaceLaws

@@ -1,4 +1,4 @@
-//! Where a text is refused by a description.
+//! Locates the errors of texts that are parsed by a description.
 ghost use Rattle.std.specs.Prelude.{map};
 ghost use Rattle.time_values.specs.Calendar.{greatest_year};
 ghost use Rattle.time_components.specs.Tree.{borrowed_shape, owned_shape, v3_shape, steps_shape, sequence, trees};
@@ -20,7 +20,7 @@ use time_parsing::{Items, begin};
 use time_preparing::Prepared;
 use time_record::Parsed;
 
-// Where a text is refused by an item.
+// Locates the error of a text that is parsed by an item.
 fn locate_item<'d, I: Inspect>(
     item: &'d I,
     input: &[u8],
@@ -34,7 +34,7 @@ fn locate_item<'d, I: Inspect>(
     place(unread, missed, input)
 }
 
-// Where a text is refused by the steps of a description.
+// Locates the error of a text that is parsed by the steps of a description.
 fn locate_steps<'a>(
     steps: &'a [Step],
     input: &[u8],
@@ -48,7 +48,7 @@ fn locate_steps<'a>(
     place(unread, missed, input)
 }
 
-// Where the last component of this name begins that the steps of a description read.
+// The index at which the last component of this name begins, of those that the steps of a description read.
 fn locate_in_steps(
     steps: &[Step],
     input: &[u8],
@@ -62,7 +62,7 @@ fn locate_in_steps(
     index_of(mark, input)
 }
 
-// Where the last component of this name begins that an item reads.
+// The index at which the last component of this name begins, of those that an item reads.
 fn locate_in_item<I: Inspect>(
     item: &I,
     input: &[u8],

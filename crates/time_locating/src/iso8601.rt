@@ -1,4 +1,4 @@
-//! Where a text is refused by ISO 8601.
+//! Locates the errors of ISO 8601 texts.
 mod marks;
 mod pieces;
 
@@ -22,7 +22,7 @@ use time_parsing::{Iso8601, Parsable, begin};
 use time_readers::iso8601::{DateNumbers, ExtendedKind, date, time};
 use time_record::Parsed;
 
-/// What stands in a text of ISO 8601.
+/// A piece of an ISO 8601 text.
 #[derive(Clone, Copy)]
 pub enum Piece {
     /// Four digits, or a sign and six.
@@ -43,11 +43,11 @@ pub enum Piece {
     Weekday,
     /// Two digits of 0 to 23 without a fraction.
     WholeHour,
-    /// The same with a fraction.
+    /// Two digits of 0 to 23 with a fraction.
     HourAndFraction,
     /// Two digits of 0 to 59 without a fraction.
     WholeMinute,
-    /// The same with a fraction.
+    /// Two digits of 0 to 59 with a fraction.
     MinuteAndFraction,
     /// Two digits of 0 to 60, perhaps with a fraction that doesn't round to 1.
     Second,
@@ -63,7 +63,7 @@ pub enum Piece {
     OffsetMinute,
 }
 
-// The rows of a date.
+// The rows of pieces that form a date.
 const DATES: [&[Piece]; 6] = [
     &[Piece::Year, Piece::Month, Piece::Day],
     &[Piece::Year, Piece::Ordinal],
@@ -86,7 +86,7 @@ const DATES: [&[Piece]; 6] = [
     ],
 ];
 
-// The rows of a time.
+// The rows of pieces that form a time.
 const PART_OF_HOUR: &[Piece] = &[Piece::HourAndFraction];
 
 const HOUR: &[Piece] = &[Piece::WholeHour];
@@ -116,7 +116,7 @@ const COLON_SECOND: &[Piece] = &[
     Piece::Second,
 ];
 
-// Those that may stand in a text of each kind.
+// The rows of a time that a text of each kind may have.
 const BASIC_TIMES: [&[Piece]; 5] = [PART_OF_HOUR, HOUR, PART_OF_MINUTE, MINUTE, SECOND];
 
 const EXTENDED_TIMES: [&[Piece]; 8] = [
@@ -141,7 +141,7 @@ const ANY_TIMES: [&[Piece]; 8] = [
     COLON_SECOND,
 ];
 
-// The rows of an offset, in a basic text and in others.
+// The rows of pieces that form an offset, in a basic text and in others.
 const UTC: &[Piece] = &[Piece::Zulu];
 
 const OFFSET_HOUR: &[Piece] = &[Piece::Sign, Piece::OffsetHour];
@@ -159,7 +159,7 @@ const BASIC_OFFSETS: [&[Piece]; 3] = [UTC, OFFSET_HOUR, OFFSET_MINUTE];
 
 const OFFSETS: [&[Piece]; 4] = [UTC, OFFSET_HOUR, OFFSET_MINUTE, OFFSET_COLON_MINUTE];
 
-// The first piece of a row that doesn't stand.
+// The miss at the first piece of a row that doesn't match.
 fn row_missed(row: &[Piece], input: &[u8]) -> Option<Miss<'static>>
     ensures { seen_miss result ≡ furthest (spec.row_misses row.now input.now) }
 {
@@ -173,7 +173,7 @@ fn row_missed(row: &[Piece], input: &[u8]) -> Option<Miss<'static>>
     None
 }
 
-// The furthest of what rows miss.
+// The furthest miss of some rows.
 #[tactic(auto, using(crate::proofs::IsoLengths::rows_next))]
 fn rows_missed(rows: &[&[Piece]], input: &[u8]) -> Option<Miss<'static>>
     ensures { seen_miss result ≡ furthest (spec.rows_misses (map (λ row. row.now) rows.now) input.now) }
@@ -185,7 +185,7 @@ fn rows_missed(rows: &[&[Piece]], input: &[u8]) -> Option<Miss<'static>>
     missed
 }
 
-// The rows of a time of that kind.
+// The rows of a time in a text of that kind.
 fn times_of(kind: ExtendedKind) -> &'static [&'static [Piece]]
     ensures { map (λ row. row.now) result.now ≡ spec.rows_after spec.time_piece time_rows kind }
 {
@@ -196,7 +196,7 @@ fn times_of(kind: ExtendedKind) -> &'static [&'static [Piece]]
     }
 }
 
-// The rows of an offset of that kind.
+// The rows of an offset in a text of that kind.
 fn offsets_of(kind: ExtendedKind) -> &'static [&'static [Piece]]
     ensures { map (λ row. row.now) result.now ≡ spec.rows_after spec.offset_piece offset_rows kind }
 {
@@ -206,21 +206,21 @@ fn offsets_of(kind: ExtendedKind) -> &'static [&'static [Piece]]
     }
 }
 
-// The furthest of what a time of that kind misses.
+// The furthest miss of a time of that kind.
 fn time_missed(kind: ExtendedKind, input: &[u8]) -> Option<Miss<'static>>
     ensures { seen_miss result ≡ furthest (spec.time_misses kind input.now) }
 {
     rows_missed(times_of(kind), input)
 }
 
-// The furthest of what an offset of that kind misses.
+// The furthest miss of an offset of that kind.
 fn offset_missed(kind: ExtendedKind, input: &[u8]) -> Option<Miss<'static>>
     ensures { seen_miss result ≡ furthest (spec.offset_misses kind input.now) }
 {
     rows_missed(offsets_of(kind), input)
 }
 
-// The furthest of what `T`, which may be needed, and a time of that kind miss.
+// The furthest miss of `T`, which is required only if `needs_t`, and of a time of that kind after it.
 fn letter_missed(needs_t: bool, kind: ExtendedKind, input: &[u8]) -> Option<Miss<'static>>
     ensures { seen_miss result ≡ furthest (spec.after_t needs_t kind input.now (byte 84 input.now)) }
 {
@@ -231,7 +231,7 @@ fn letter_missed(needs_t: bool, kind: ExtendedKind, input: &[u8]) -> Option<Miss
     }
 }
 
-// The furthest of what a time and an offset after it miss.
+// The furthest miss of a time and of an offset after it.
 fn missed_from_time(needs_t: bool, kind: ExtendedKind, input: &[u8]) -> Option<Miss<'static>>
     ensures { seen_miss result ≡ furthest (spec.from_time needs_t kind input.now) }
 {
@@ -242,7 +242,7 @@ fn missed_from_time(needs_t: bool, kind: ExtendedKind, input: &[u8]) -> Option<M
     }
 }
 
-// The furthest of what a text without a date misses.
+// The furthest miss of a text without a date.
 fn missed_without_date(input: &[u8]) -> Option<Miss<'static>>
     ensures { seen_miss result ≡ furthest (spec.without_date input.now) }
 {
@@ -252,8 +252,8 @@ fn missed_without_date(input: &[u8]) -> Option<Miss<'static>>
     )
 }
 
-// The number of a date that is greater than a record holds: how many bytes before the date's end it begins, and its
-// component.
+// The number of a date that is greater than a record allows: how many bytes before the date's end the number begins,
+// and the name of its component.
 fn too_great(numbers: DateNumbers, kind: ExtendedKind) -> Option<(usize, &'static str)>
     ensures { (r : Record) → IsYearHeld (iso_date numbers) → IsTooGreat (iso_date numbers) kind r result }
 {
@@ -267,7 +267,7 @@ fn too_great(numbers: DateNumbers, kind: ExtendedKind) -> Option<(usize, &'stati
     }
 }
 
-// The furthest of what a text misses.
+// The furthest miss of a text.
 fn missed(input: &[u8]) -> Option<Miss<'static>>
     ensures { (r : Record) → seen_miss result ≡ furthest (spec.misses greatest_year input.now r) }
 {

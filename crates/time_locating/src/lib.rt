@@ -1,4 +1,4 @@
-//! Where a text that a format refuses goes wrong, and what was expected there.
+//! Locates the error in a text that a format rejects: its index, and what was expected there.
 #![tactic(auto)]
 
 mod description;

@@ -1,4 +1,4 @@
-//! Formats that tell where a text is refused.
+//! Formats that locate the error in a rejected text.
 ghost use Rattle.std.specs.Prelude.{◌≡◌};
 ghost use Rattle.std.specs.Option.{option_map};
 ghost use Rattle.time_values.specs.Refusal.{refusal_of};
@@ -11,36 +11,37 @@ use time_parsing::Parsable;
 use time_record::Parsed;
 use time_values::error::{Parse, TryFromParsed};
 
-/// A format that tells where a text that it refuses goes wrong.
+/// A format that locates the error in a text that it rejects.
 pub trait Locate: Parsable {
-    // Where the whole of the bytes isn't read over a record: the place, with what was wanted there.
+    // Relates bytes that aren't read whole, over a record, to their place, with what was expected there.
     ghost locates: { Self → Locating };
 
-    /// Where parsing the text over the defaults goes wrong: the index of the byte that no reading gets past, and what was
-    /// expected there. `None` where the format reads the whole text, even if its parts make no value.
+    /// Locates the error of parsing the text with the defaults: the index of the byte that no reading gets past, and
+    /// what was expected there. `None` if the format reads the whole text, even if its parts make no value.
     ///
-    /// A component is missed where it begins, a literal at its first byte that differs, and the end of the text where the
-    /// format reads only a front of it. The answer is the miss furthest into the text; of several at one index, the one
-    /// that the error of the parse names, or else the first.
+    /// A missing component is located at its start, and a literal at its first byte that differs. If the format reads
+    /// only a front of the text, the end was expected after that front. The result is the miss furthest into the text;
+    /// of several at one index, the one that the error of the parse names, or else the first.
     fn locate<'a>(&'a self, input: &[u8], defaults: Option<Parsed>) -> Option<Located<'a>>
         ensures { IsLocated (Self.reads self.now) (locates self.now) input.now (begun defaults) result };
 
-    // For the name of a component: how many bytes are left where the last one of that name begins that is read, or
-    // nothing where none is.
+    // For the name of a component: how many bytes are left at the start of the last component of that name that is
+    // read, or nothing if none is read.
     ghost marks: { Self → Marking };
 
-    /// The index at which the component of this name begins, where the format parses a front of the text over the
-    /// defaults. `None` where it parses none, or none with such a component, as where the defaults give the value.
+    /// The index at which the component of this name begins, if the format parses a front of the text with the
+    /// defaults. `None` if it parses no front, or one without such a component, for example because the defaults give
+    /// the value.
     ///
-    /// The name is one that an error has, as `day` for `2021-02-30`. Where the text has the component twice, the index is
-    /// that of the last one, whose value counts.
+    /// The name is one that an error has, such as `day` for `2021-02-30`. If the text has the component twice, the
+    /// index is that of the last one, whose value counts.
     fn locate_component(&self, input: &[u8], defaults: Option<Parsed>, name: &str) -> Option<usize>
         ensures { IsMarked (marks self.now) name.now input.now (begun defaults) result };
 
-    // A text has one place, and none where it is read whole.
+    // A text has one place, or none if it is read whole.
     ghost exact_place: { (s : Self) → IsExactPlace (Self.reads s) (locates s) };
 
-    // A text has one mark of each name.
+    // A text has one mark for each name.
     ghost exact_mark: { (s : Self) → IsExactMark (marks s) };
 }
 
@@ -68,14 +69,14 @@ impl<T: Locate> Locate for &T {
     ghost exact_mark = { λ x. T.exact_mark x.now };
 }
 
-// The same defaults for one more call.
+// A copy of the defaults, for one more call.
 fn copy_of(defaults: &Option<Parsed>) -> Option<Parsed>
     ensures { result ≡ defaults.now }
 {
     *defaults
 }
 
-// The component whose range the error names.
+// The name of the component whose range the error names.
 fn range_name(error: Parse) -> Option<&'static str>
     ensures { option_map (λ name. name.now) result ≡ spec.range_name (refusal_of error) }
 {
@@ -86,9 +87,9 @@ fn range_name(error: Parse) -> Option<&'static str>
     }
 }
 
-/// The index at which a text goes wrong that a parse refused with this error. It is that of the text's place, and of a
-/// text that is read whole where the component begins whose range the error names: of an `ordinal` that the text
-/// doesn't say the week number. `None` where information is missing, or where the defaults give the component.
+/// The index of the error in a text that a parse rejected with `error`. It is the index that `locate` returns. If the
+/// text is read whole, it is the start of the component whose range the error names: for an `ordinal` in a text without
+/// one, the start of the week number. `None` if information is missing, or if the defaults give the component.
 pub fn locate_error<T: Locate>(
     format: &T,
     input: &[u8],

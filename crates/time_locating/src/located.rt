@@ -1,14 +1,14 @@
-//! Where a text is refused.
+//! The place at which a text is rejected.
 ghost use Rattle.std.specs.Prelude.{◌≡◌, ◌≤◌, ◌++◌, ℕ, List, Some, length};
 ghost use Rattle.std.specs.Option.{option_copied};
 ghost use Rattle.time_locating.specs.Located.{end_of, seen_place, expected_text};
 
 use std::fmt;
 
-/// What was expected where a text is refused.
+/// What was expected at the place of an error.
 #[derive(Clone, Copy, Debug, PartialEq, Eq)]
 pub enum Expected<'a> {
-    /// These bytes: what is left of a literal from its first byte on that isn't there. Of a literal of a `Description`,
+    /// These bytes: the rest of a literal, from its first byte that isn't there. For a literal of a `Description`,
     /// which keeps each byte by itself, it is that byte alone.
     Literal(&'a [u8]),
     /// The component of this name.
@@ -17,7 +17,7 @@ pub enum Expected<'a> {
     End,
 }
 
-/// Prints `expected` with the bytes between quotes, the component's name, or `the end`. A byte that doesn't print is
+/// Prints `expected`, and then the bytes in quotes, the component's name, or `the end`. A byte that doesn't print is
 /// escaped, as `\x00`.
 impl fmt::Display for Expected<'_> {
     ghost output = { expected_text };
@@ -31,17 +31,17 @@ impl fmt::Display for Expected<'_> {
     }
 }
 
-/// Where a text is refused.
+/// The place of the error in a rejected text.
 #[derive(Clone, Copy, Debug, PartialEq, Eq)]
 pub struct Located<'a> {
-    /// The index in the text at which what is expected should stand: a component, or of a literal its first byte that isn't
-    /// there. It is the length where the text is too short.
+    /// The index in the text of what was expected: the start of a component, or of a literal its first byte that isn't
+    /// there. It is the text's length if the text is too short.
     pub index: usize,
     /// What was expected there.
     pub expected: Expected<'a>,
 }
 
-/// Where a text goes wrong of which these bytes remain, or `None` where none do.
+/// The place of the error in a text that leaves the bytes `rest` unread, or `None` if there are no such bytes.
 pub(crate) fn after_all<'a>(rest: &[u8], input: &[u8]) -> Option<Located<'a>>
     requires { length rest.now ≤ length input.now }
     ensures { seen_place result ≡ end_of (length input.now) rest.now }
@@ -55,7 +55,7 @@ pub(crate) fn after_all<'a>(rest: &[u8], input: &[u8]) -> Option<Located<'a>>
     })
 }
 
-/// What is left after so many bytes.
+/// The rest after `count` bytes.
 pub(crate) fn past_bytes(input: &[u8], count: usize) -> Option<&[u8]>
     ensures { (text rest : List ℕ) → input.now ≡ text ++ rest → length text ≡ count → option_copied result ≡ Some rest }
 {

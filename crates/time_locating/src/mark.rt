@@ -1,4 +1,4 @@
-//! Where a component of a name begins, what reads nothing, and the place of a text.
+//! The start of a named component, the misses of a text, and its place.
 ghost use Rattle.std.specs.Prelude.{◌≡◌, ◌-◌, ℕ, List, length, Some};
 ghost use Rattle.std.specs.Option.{option_map, option_copied};
 ghost use Rattle.time_values.specs.Calendar.{greatest_year};
@@ -18,8 +18,8 @@ use crate::{Expected, Located};
 use time_components::Component;
 use time_values::error::ParseFromDescription;
 
-// Whether the component has this name: the refusal of its text says it. Of an ISO 8601 week, the refusal of its date
-// says another.
+// Whether the component has this name, which is that of the error of its text. For an ISO 8601 week, the error of its
+// date has another name.
 fn is_named(component: Component, name: &str) -> bool
     ensures { result ≡ places.is_named name.now component }
 {
@@ -61,7 +61,7 @@ fn is_named(component: Component, name: &str) -> bool
     }
 }
 
-/// How many bytes are left where the component begins, if it has this name.
+/// How many bytes are left at the component's start, if it has this name.
 pub(crate) fn mark_of(component: Component, name: &str, input: &[u8]) -> Option<usize>
     ensures { result ≡ when (places.is_named name.now component) (length input.now) }
 {
@@ -72,7 +72,7 @@ pub(crate) fn mark_of(component: Component, name: &str, input: &[u8]) -> Option<
     }
 }
 
-// Whether the refusal says this name.
+// Whether the error has this name.
 fn says_name(fault: ParseFromDescription, name: &str) -> bool
     ensures { result ≡ places.says_name name.now (refusal_of_description fault) }
 {
@@ -83,8 +83,8 @@ fn says_name(fault: ParseFromDescription, name: &str) -> bool
     }
 }
 
-/// Whether a place with this refusal has the name, between these bytes and what is left after it: it has where it takes
-/// bytes.
+/// Whether a place with this error has the name, and takes bytes: it does if `rest`, which is left after it, is shorter
+/// than `bytes`.
 pub(crate) fn is_place_of(
     fault: ParseFromDescription,
     name: &str,
@@ -96,7 +96,7 @@ pub(crate) fn is_place_of(
     rest.len() < bytes.len() && says_name(fault, name)
 }
 
-/// The index in the text where so many bytes are left.
+/// The index in the text at which that number of bytes is left.
 pub(crate) fn index_of(mark: Option<usize>, input: &[u8]) -> Option<usize>
     ensures text { result ≡ option_map (λ left. length input.now - left) mark }
     ensures tree { (t : Tree) (name : List ℕ) (r : Record) → MarksTree greatest_year t name input.now r mark
@@ -106,16 +106,16 @@ pub(crate) fn index_of(mark: Option<usize>, input: &[u8]) -> Option<usize>
     Some(input.len().saturating_sub(left))
 }
 
-/// A byte of a literal or a component that isn't there, or the end of a text that bytes are left before.
+/// What isn't there: a byte of a literal, a component, or the end of a text that has further bytes.
 #[derive(Clone, Copy)]
 pub(crate) struct Miss<'a> {
-    /// How many bytes were left where it should stand.
+    /// How many bytes were left at the point at which it was expected.
     pub(crate) left: usize,
-    /// What it wanted.
+    /// What was expected.
     pub(crate) expected: Expected<'a>,
 }
 
-/// What is expected in front of these bytes and reads nothing.
+/// The miss of what is expected at the front of these bytes and isn't there.
 #[inline]
 pub(crate) fn missed_at<'a>(expected: Expected<'a>, input: &[u8]) -> Option<Miss<'a>>
     ensures { seen_miss result ≡ Some (misses.missed (length input.now) (wants expected.entry)) }
@@ -126,8 +126,8 @@ pub(crate) fn missed_at<'a>(expected: Expected<'a>, input: &[u8]) -> Option<Miss
     })
 }
 
-/// What is missed of a literal: its first byte that isn't there, with those of it that follow. It is nothing where the
-/// input begins with the literal.
+/// The miss in a literal: its first byte that isn't there, with those of it that follow. `None` if the input begins
+/// with the literal.
 pub(crate) fn missed_in<'a>(text: &'a [u8], input: &[u8]) -> Option<Miss<'a>>
     ensures { seen_miss result ≡ furthest (literal_misses all_bytes text.now input.now) }
 {
@@ -145,7 +145,7 @@ pub(crate) fn missed_in<'a>(text: &'a [u8], input: &[u8]) -> Option<Miss<'a>>
     None
 }
 
-/// The first miss, but the second where it leaves fewer bytes.
+/// The first miss, or the second if that leaves fewer bytes.
 pub(crate) fn further<'a>(first: Option<Miss<'a>>, second: Option<Miss<'a>>) -> Option<Miss<'a>>
     ensures { seen_miss result ≡ misses.further (seen_miss first.entry) (seen_miss second.entry) }
 {
@@ -156,7 +156,7 @@ pub(crate) fn further<'a>(first: Option<Miss<'a>>, second: Option<Miss<'a>>) -> 
     }
 }
 
-/// What was wanted where there is that refusal of a component.
+/// What was expected at a component with that error.
 pub(crate) fn wanted_of(fault: ParseFromDescription) -> Expected<'static>
     ensures { wants result ≡ misses.wanted_of (refusal_of_description fault) }
 {
@@ -167,7 +167,7 @@ pub(crate) fn wanted_of(fault: ParseFromDescription) -> Expected<'static>
     }
 }
 
-/// The place of a text, by what is left unread of it, or `None` where nothing is read, and the furthest of its misses.
+/// The place of a text, from its unread rest (`None` if it isn't read) and the furthest of its misses.
 pub(crate) fn place<'d>(
     unread: Option<&[u8]>,
     missed: Option<Miss<'d>>,

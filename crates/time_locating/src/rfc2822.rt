@@ -1,4 +1,4 @@
-//! Where a text is refused by RFC 2822.
+//! Locates the errors of RFC 2822 texts.
 ghost use Rattle.std.specs.Prelude.{◌≡◌, ℕ, ◌++◌, Bool, true, List, length, Option, Some, is_some, option_map};
 ghost use Rattle.std.specs.Option.{option_copied};
 ghost use Rattle.time_values.specs.Calendar.{greatest_year};
@@ -25,7 +25,7 @@ use time_readers::rfc2822::{
 use time_readers::{ParsedItem, modifier};
 use time_record::Parsed;
 
-// How many letters of a weekday's name stand.
+// How many letters a weekday's name has.
 const WEEKDAY_LETTERS: usize = 3;
 
 // The places in order.
@@ -61,7 +61,7 @@ fn expected_at(place: Place) -> Expected<'static>
     }
 }
 
-// Of what is left where a place begins: what is left where that should begin which is expected at it.
+// The bytes that are left where the expected text should begin, given those that are left at the place's start.
 fn wanted_from(place: Place, input: &[u8]) -> &[u8]
     ensures { result.now ≡ spec.wanted_from place input.now }
 {
@@ -73,7 +73,7 @@ fn wanted_from(place: Place, input: &[u8]) -> &[u8]
     }
 }
 
-// What the places that are passed say of those after them.
+// What the places so far determine for those after them.
 #[derive(Clone, Copy)]
 struct Passed {
     // Whether the year has four digits.
@@ -82,14 +82,14 @@ struct Passed {
     offset_has_sign: bool,
 }
 
-// What is left after blanks, where they are read.
+// The rest after blanks, if they match.
 fn past_blanks(found: Option<ParsedItem<'_, ()>>) -> Option<&[u8]>
     ensures { option_copied result ≡ option_map (λ p. p.0.now) found.entry }
 {
     Some(found?.0)
 }
 
-// What is left after the weekday's part.
+// The rest after the weekday's part.
 fn past_weekday(input: &[u8]) -> Option<&[u8]>
     ensures { (rest : List ℕ) (v : Option Weekday) → Cut IsWeekdayPart input.now rest v → option_copied result ≡ Some rest }
 {
@@ -106,7 +106,7 @@ fn past_weekday(input: &[u8]) -> Option<&[u8]>
     }
 }
 
-// What is left after a day.
+// The rest after a day.
 fn past_day(input: &[u8]) -> Option<&[u8]>
     ensures { (rest : List ℕ) (v : ℕ) → Cut (IsDigitRun 1 2) input.now rest v → option_copied result ≡ Some rest }
 {
@@ -114,7 +114,7 @@ fn past_day(input: &[u8]) -> Option<&[u8]>
     Some(found.0)
 }
 
-// What is left after a year, and whether it has four digits.
+// The rest after a year, and whether the year has four digits.
 fn past_year(input: &[u8]) -> (Option<&[u8]>, bool)
     ensures { (full : Bool) (rest : List ℕ) (v : ℕ) → Cut (IsYear full) input.now rest v
         → (option_copied result.0 ≡ Some rest) × (result.1 ≡ full) }
@@ -125,7 +125,7 @@ fn past_year(input: &[u8]) -> (Option<&[u8]>, bool)
     }
 }
 
-// What is left after a second or nothing.
+// The rest after an optional second.
 fn past_second(input: &[u8]) -> Option<&[u8]>
     ensures { (rest : List ℕ) (v : Option ℕ) → Cut (IsSecond true) input.now rest v → option_copied result ≡ Some rest }
 {
@@ -135,7 +135,7 @@ fn past_second(input: &[u8]) -> Option<&[u8]>
     }
 }
 
-// What is left after a zone name, or a sign and an hour, and whether there is a sign.
+// The rest after a zone name, or after a sign and an hour, and whether there is a sign.
 fn past_offset_hour(input: &[u8]) -> (Option<&[u8]>, bool)
     ensures { (n m : Numbers) (rest : List ℕ) → Cut (Asks true place.OffsetHour n) input.now rest m
         → (option_copied result.0 ≡ Some rest) × (result.1 ≡ is_some m.offset_sign) }
@@ -146,7 +146,7 @@ fn past_offset_hour(input: &[u8]) -> (Option<&[u8]>, bool)
     }
 }
 
-// What is left after a place that stands there.
+// The rest after a place that matches.
 fn past<'a>(place: Place, input: &'a [u8], passed: &mut Passed) -> Option<&'a [u8]>
     ensures { (n m : Numbers) (rest : List ℕ) → Agrees n passed.old → Cut (Asks true place n) input.now rest m
         → (option_copied result ≡ Some rest) × Agrees m passed.new }
@@ -181,14 +181,14 @@ fn past<'a>(place: Place, input: &'a [u8], passed: &mut Passed) -> Option<&'a [u
     }
 }
 
-// How many places stand before this one.
+// How many places precede this one.
 fn places_before(place: Place) -> usize
     ensures { result ≡ rank place }
 {
     place as usize
 }
 
-// What is left before the place that doesn't stand, where those before it do.
+// The bytes that are left at the place that doesn't match, if those before it match.
 fn rest_before<'a>(place: Place, input: &'a [u8]) -> Option<&'a [u8]>
     ensures { (stop : FailsAt true input.now place) → option_copied result ≡ Some stop.mid }
 {
@@ -203,7 +203,7 @@ fn rest_before<'a>(place: Place, input: &'a [u8]) -> Option<&'a [u8]>
     Some(rest)
 }
 
-// How many bytes are left where the text of this name begins, where all places stand.
+// How many bytes are left at the start of the text of this name, if all places match.
 fn mark_of_place(input: &[u8], name: &str) -> Option<usize>
     ensures { (rest : List ℕ) (n : Numbers) → HasForm true input.now rest n
         → MarksPlaces (Asks true) spec.wanted_from fault name.now places nothing_read input.now result }

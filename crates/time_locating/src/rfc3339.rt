@@ -1,4 +1,4 @@
-//! Where a text is refused by RFC 3339.
+//! Locates the errors of RFC 3339 texts.
 ghost use Rattle.std.specs.Prelude.{◌≡◌, ◌≤◌, ℕ, ◌+◌, ◌++◌, true, length, List, Option, Some};
 ghost use Rattle.std.specs.Option.{option_copied};
 ghost use Rattle.time_digits.specs.Digits.{Cut};
@@ -51,7 +51,7 @@ fn expected_at(place: Place) -> Expected<'static>
     }
 }
 
-// How many bytes the fraction of a second takes with its point, which may be none.
+// How many bytes a second's fraction takes with its point, or 0 without a fraction.
 fn fraction_len(input: &[u8]) -> usize
     ensures within { result ≤ length input.now }
     ensures is { (text rest : List ℕ) (v : Option ℕ) → input.now ≡ text ++ rest → IsSubsecond text rest v
@@ -63,7 +63,7 @@ fn fraction_len(input: &[u8]) -> usize
     }
 }
 
-// The index at which a place begins that doesn't stand, where those before it do.
+// The index of the place that doesn't match, if those before it match.
 fn index_of(place: Place, input: &[u8]) -> usize
     ensures { (stop : FailsAt true input.now place) → result + length stop.mid ≡ length input.now }
 {
@@ -81,7 +81,7 @@ fn index_of(place: Place, input: &[u8]) -> usize
         Place::Second => return 17,
         Place::Subsecond => return TO_SECOND,
         Place::OffsetHour => 0,
-        // `Z` has no colon and no minute after it, so a sign and two digits stand before these.
+        // `Z` has no colon and no minute after it, so a sign and two digits precede these.
         Place::OffsetColon => 3,
         Place::OffsetMinute => 4,
     };
@@ -92,7 +92,7 @@ fn index_of(place: Place, input: &[u8]) -> usize
     (TO_SECOND + fraction).saturating_add(past_fraction)
 }
 
-// What is left after an offset's `Z`, or its sign and hour, and whether the text is then in UTC.
+// The rest after an offset's `Z`, or after its sign and hour, and whether the text is then in UTC.
 fn past_offset_hour(input: &[u8], is_utc: bool) -> (Option<&[u8]>, bool)
     ensures { (n m : Numbers) (rest : List ℕ) → n.is_utc ≡ is_utc → Cut (Asks true place.OffsetHour n) input.now rest m
         → (option_copied result.0 ≡ Some rest) × (m.is_utc ≡ result.1) }
@@ -103,7 +103,7 @@ fn past_offset_hour(input: &[u8], is_utc: bool) -> (Option<&[u8]>, bool)
     }
 }
 
-// What is left after a place that stands there. After `Z` the places of the offset are empty.
+// The rest after a place that matches. After `Z` the places of the offset are empty.
 fn past<'a>(place: Place, input: &'a [u8], is_utc: &mut bool) -> Option<&'a [u8]>
     ensures { (n m : Numbers) (rest : List ℕ) → n.is_utc ≡ is_utc.old → Cut (Asks true place n) input.now rest m
         → (option_copied result ≡ Some rest) × (m.is_utc ≡ is_utc.new) }
@@ -129,7 +129,7 @@ fn past<'a>(place: Place, input: &'a [u8], is_utc: &mut bool) -> Option<&'a [u8]
     }
 }
 
-// How many bytes are left where the place of this name begins, if it has a text, where all places stand.
+// How many bytes are left at the start of the place of this name, if it has a text and all places match.
 fn mark_of_place(input: &[u8], name: &str) -> Option<usize>
     ensures { (rest : List ℕ) (n : Numbers) → HasForm true input.now rest n
         → MarksPlaces (Asks true) at_once fault name.now places nothing_read input.now result }

@@ -1,4 +1,4 @@
-//! The walk over the items of a description that tells the furthest miss and a mark.
+//! Walks the items of a description to find the furthest miss and a mark.
 pub(crate) mod steps;
 
 ghost use Rattle.std.specs.Prelude.{ℕ, List, map, true, false};
@@ -15,9 +15,9 @@ use crate::mark::{Miss, further, mark_of, missed_at, missed_in, wanted_of};
 use time_components::{Component, FormatDescriptionV3Inner, Inspect, Node};
 use time_record::Parsed;
 
-/// Reads an item in front of the input over the record, and answers what it leaves unread. Beside it stand the
-/// furthest of the bytes and components that weren't there, and how many bytes are left where the last component of
-/// this name begins that is read. An item that reads nothing leaves the record as it was.
+/// Reads an item at the front of the input over the record. Returns the unread rest, the furthest miss, and how many
+/// bytes are left at the start of the last component of this name that is read. An item that doesn't match has no rest,
+/// and leaves the record unchanged.
 #[cycle(items)]
 pub(crate) fn walk<'a, 'd, I: Inspect>(
     item: &'d I,
@@ -42,7 +42,7 @@ pub(crate) fn walk<'a, 'd, I: Inspect>(
     }
 }
 
-/// Reads items one after the other, each on what the one before left.
+/// Reads items in turn, each from the rest that the one before leaves.
 #[cycle(items)]
 pub(crate) fn walk_all<'a, 'd, I: Inspect>(
     items: &'d [I],
@@ -74,7 +74,7 @@ pub(crate) fn walk_all<'a, 'd, I: Inspect>(
     (Some(rest), furthest, last)
 }
 
-// Reads the first of the items that reads, and nothing where there are none.
+// Reads the first of the items that matches, or nothing if there are no items.
 #[cycle(items)]
 fn walk_first<'a, 'd, I: Inspect>(
     items: &'d [I],
@@ -101,7 +101,7 @@ fn walk_first<'a, 'd, I: Inspect>(
     (None, furthest, None)
 }
 
-// Reads these bytes.
+// Reads a literal of these bytes.
 fn literal<'a, 'd>(
     text: &'d [u8],
     input: &'a [u8],
@@ -135,7 +135,7 @@ fn read_component<'a>(
     }
 }
 
-// The same; but an `Ignore` has to end between characters.
+// Reads a component; an `Ignore` has to end between characters.
 fn read_whole_component<'a>(
     component: Component,
     parsed: &mut Parsed,

@@ -1,4 +1,4 @@
--- A text of ISO 8601 that was written is read back.
+-- A written text of ISO 8601 parses back.
 use Rattle.std.specs.Prelude.{if◌then◌else◌}
 use Rattle.std.proofs.Common.{◌≡◌, ◌≤◌, ◌∷◌, ◌++◌, ℕ, pos, neg_ℤ, unsigned_abs, List, [], Bool, true, false, Some, Ok, refl, sym, ap, ◌∙◌, subst, arith, append_assoc, append-nil, codes}
 use Rattle.std.proofs.lemmas.List.{take_all}
@@ -37,7 +37,7 @@ use Rattle.time_parsing.proofs.IsoParts.{moment-whole}
 use Rattle.time_parsing.proofs.Told.{no_second, offset-taken, sign_of, signed_hours, signed_minutes, sign_byte-sign_of, is_negative-sign_of, year-said, year-below, hours-below, minutes-below, day_below, some_day}
 use Rattle.time_parsing.proofs.WrittenBack.{writable, none-is, few-digits, flat, no_digit, said, bytes, numeric-back, all_digits}
 
--- the pieces of a basic text, one behind another
+-- the pieces of a basic text, one after another
 flat_basic : (a b c d e f g h : List ℕ) → a ++ b ++ c ++ d ++ e ++ f ++ g ++ h ≡ a ++ (b ++ (c ++ (d ++ (e ++ (f ++ (g ++ h))))))
 flat_basic a b c d e f g h = simp append_assoc
 
@@ -45,7 +45,7 @@ module _ (k : ℕ) (few : k ≤ 9) (v w : OffsetDateTime) (cut : IsCut k v w)
     (year : IsBetween (pos 0) (pos 9999) (Dates.year (offset_date v)))
     (hours : IsBetween (neg_ℤ (pos 23)) (pos 23) (Offsets.hours (offset_of v)))
     (whole : Offsets.seconds (offset_of v) ≡ pos 0) where
-  -- what is said is the moment's
+  -- the numbers of the text are the moment's
   date_is : calendar (pos (unsigned_abs (Dates.year (offset_date v)))) (Dates.month (offset_date v)) (Dates.day (offset_date v))
       ≡ date_said (offset_date w)
   date_is =
@@ -150,7 +150,7 @@ module _ (k : ℕ) (few : k ≤ 9) (v w : OffsetDateTime) (cut : IsCut k v w)
         text date_is time_is is in
         (whole.0, whole.1, whole.3 w refl refl refl)
 
-  -- the sizes of the offset's parts
+  -- the ranges of the offset's parts
   abbrev hour_size : ℕ
   hour_size = unsigned_abs (Offsets.hours (offset_of v))
 
@@ -212,7 +212,7 @@ basic_read_back v w none cut =
     let value = basic_text_back 0 (omega arith) v w cut is.0 is.1 is.2 refl in
     (value, value)
 
--- ---- A canonical text is read back
+-- ---- A canonical text parses back
 
 -- all nine digits are those of a fraction
 nine-digits : (n : ℕ) → codes "." ++ fixed 9 n ≡ fraction_shown 9 n
@@ -220,7 +220,7 @@ nine-digits n =
     let long = fixed-length 9 n in
     ap (λ digits. codes "." ++ digits) (sym (take_all 9 (fixed 9 n) (omega (arith, long))))
 
--- they stand behind what is before them
+-- the digits follow what is before them
 fraction-joined : (front offset : List ℕ) (n : ℕ) → front ++ codes "." ++ fixed 9 n ++ offset ≡ front ++ fraction_shown 9 n ++ offset
 fraction-joined front offset n =
     ap (λ text. text ++ offset) (append_assoc front (codes ".") (fixed 9 n) ∙ ap (λ text. front ++ text) (nine-digits n))

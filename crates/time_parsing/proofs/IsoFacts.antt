@@ -1,5 +1,5 @@
--- Worked values of ISO 8601, read over records, so that a wrong rule in the specs does not check. They follow from the
--- definitions, and no code lies between.
+-- Worked values of ISO 8601, parsed over records, so that a wrong rule in the specs does not check. They follow from
+-- the definitions, without any code.
 use Rattle.std.proofs.Common.{◌≡◌, ℕ, List, [], length, pos, neg_ℤ, true, false, Some, Ok, Err, codes, refl, ap, inl, inr, arith}
 use Rattle.time_values.specs.Calendar.{greatest_year}
 use Rattle.time_values.specs.Offsets.{HasOffset}
@@ -36,12 +36,12 @@ module _ (r : Record) where
   abbrev after_date_and_minute : Record
   after_date_and_minute = record (timed 3 4 0 0) { year = Some (pos 2021); month = Some January; day = Some 2 }
 
-  -- a date without a reading leaves the kind unknown: the time makes it basic, so that the offset takes no colon
+  -- a date that doesn't match leaves the kind unknown: the time makes it basic, so that the offset takes no colon
   pub failed_date_leaves_no_kind : Iso8601.Reads Y (codes "1234-05:30") r (codes ":30") after_failed_date
   unfolding reading date_over time_over offset_over date_text forms year month weekday positive up_to digits byte point sign number time_after offset_text
   failed_date_leaves_no_kind = refl
 
-  -- a year and a month are a time and an offset
+  -- a year and a month parse as a time and an offset
   pub year_and_month_are_a_time : Iso8601.Reads Y (codes "2021-01") r [] after_year_and_month
   unfolding reading date_over time_over offset_over date_text forms year month weekday positive up_to digits byte point sign number time_after offset_text
   year_and_month_are_a_time = refl
@@ -65,7 +65,7 @@ module _ (r : Record) where
   unfolding reading date_over time_over offset_over date_text forms year month weekday positive up_to digits byte point sign number time_after offset_text
   whole_second_is_refused = (refl, refl)
 
-  -- a text without a part has the date's fault
+  -- a text without a part has the date's error
   pub minute_60_is_refused : Iso8601.Refuses Y (codes "0360") r (component (codes "month"))
   unfolding reading date_over time_over offset_over date_text forms year month weekday positive up_to digits byte point sign number time_after offset_text
   minute_60_is_refused = (refl, refl)
@@ -91,7 +91,7 @@ module _ (r : Record) where
       let same = (iso8601_exact Y).one_rest (codes "2021-01-02T030405") r (codes "05") [] after_date_and_minute new extended_date_and_minute h in
       omega (arith, ap length same)
 
--- a year and a month are a time, and an offset
+-- a year and a month parse as a time and an offset
 pub time_of_a_year_and_month : (t : Time) → HasClock 20 21 0 0 t → IsOutcome IsTimed (Iso8601.Reads Y) (Iso8601.Refuses Y) (codes "2021-01") empty (Ok t)
 unfolding IsTimed
 time_of_a_year_and_month t clock = (after_year_and_month empty, year_and_month_are_a_time empty, clock)
@@ -101,6 +101,6 @@ pub offset_of_a_year_and_month : (o : UtcOffset) → HasOffset (neg_ℤ (pos 1))
 unfolding IsOffset
 offset_of_a_year_and_month o has = (after_year_and_month empty, year_and_month_are_a_time empty, has)
 
--- bytes that remain are trailing characters, whatever was read
+-- bytes that remain are trailing characters, whatever was read before them
 pub bytes_that_remain : IsOutcome IsTimed (Iso8601.Reads Y) (Iso8601.Refuses Y) (codes "1234-05:30") empty (Err trailing)
 bytes_that_remain = inl (inr (codes ":30", after_failed_date empty, failed_date_leaves_no_kind empty, (λ e. omega (arith, ap length e)), refl))

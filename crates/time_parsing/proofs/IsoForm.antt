@@ -1,4 +1,4 @@
--- The parts of a text of ISO 8601 that was written say what they were written of.
+-- The parts of a written ISO 8601 text have the numbers of the value that was written.
 use Rattle.std.proofs.Common.{◌≡◌, ◌≢◌, ◌≤◌, ◌<◌, ◌+◌, ◌-◌, ◌*◌, ◌^◌, ◌/◌, ◌%◌, ℕ, zero, suc, pos, List, [], ◌∷◌, ◌++◌, length, take, true, Option, Some, None, Ok, refl, sym, ap, subst, ◌∙◌, ⊎_elim, inl, inr, arith, append_assoc, mul-le-mul_right, add-mul, mul_assoc, div-mul-le_self, pow-suc}
 use Rattle.std.specs.Prelude.{◌&&◌, nat_le, nat_lt, option_map}
 use Rattle.std.proofs.lemmas.Bool.{le-leb, lt-ltb, ne_eqb}
@@ -60,7 +60,7 @@ digits_there n rest small = (pieces-are_cuts.digits 2 (fixed 2 n ++ rest) rest n
 sign_there : (s : Sign) (rest : List ℕ) → sign (sign_byte s ∷ rest) ≡ Some (rest, s)
 sign_there s rest = (pieces-are_cuts.sign (sign_byte s ∷ rest) rest s).1 (sign_byte s ∷ [], refl, refl)
 
--- what doesn't stand in front of two digits, a colon or a sign
+-- what can't precede two digits, a colon or a sign
 no_dash : (n : ℕ) (rest : List ℕ) → byte 45 (fixed 2 n ++ rest) ≡ None
 unfolding fixed
 no_dash n rest = byte_missing 45 (48 + n / 10 % 10) ((48 + n % 10) ∷ rest) (λ e. omega (arith, e))
@@ -69,7 +69,7 @@ no_colon : (n : ℕ) (rest : List ℕ) → byte 58 (fixed 2 n ++ rest) ≡ None
 unfolding fixed
 no_colon n rest = byte_missing 58 (48 + n / 10 % 10) ((48 + n % 10) ∷ rest) (λ e. omega (arith, e))
 
--- a byte that is no point
+-- a byte other than a point
 other_than_point : (c : ℕ) (rest : List ℕ) → c ≢ 46 → c ≢ 44 → NoPointFirst (c ∷ rest)
 other_than_point c rest stop comma = λ p. ⊎_elim stop comma p
 
@@ -162,7 +162,7 @@ ten_pow-pos : (k : ℕ) → 0 < 10 ^ k
 ten_pow-pos zero = omega arith
 ten_pow-pos (suc k) = omega (arith, pow-suc 10 k, ten_pow-pos k)
 
--- a fraction of at most nine digits is rounded to what it says
+-- a fraction of at most nine digits is rounded to its own value
 rounded : (text : List ℕ) (m : ℕ) → m * 10 ^ length text ≡ digits_value text * 10 ^ 9 → m ≡ round_of text 1_000_000_000
 rounded text m whole =
     let power = 10 ^ length text in
@@ -209,7 +209,7 @@ fraction_second s text rest m small less few f = (
   says_fraction s text m small less (fraction-rounded text rest m few f),
 )
 
--- a second with k digits of its fraction says them
+-- a second with k digits of its fraction has their value
 abbrev pub SecondStands : ℕ → ℕ → ℕ → List ℕ → Type 0
 SecondStands k s n rest =
     (x : Number) × (number (fixed 2 s ++ (fraction_shown k n ++ rest)) ≡ Some (rest, x)) × SaysSecond x s (kept k n)

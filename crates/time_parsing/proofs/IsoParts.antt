@@ -1,4 +1,4 @@
--- The parts of a text of ISO 8601 are what is read after each of them.
+-- The parts of an ISO 8601 text are what is read after each of them.
 use Rattle.std.specs.Prelude.{MatchResult, ◌==◌, nat_le, unsigned_abs, option_map}
 use Rattle.std.specs.Borrow.{Bor}
 use Rattle.std.proofs.Common.{◌≡◌, ◌∙◌, refl, sym, ap, ◌⊎◌, inl, inr, ℕ, List, true, false, Option, Some, None, Result, Ok, Err, ◌≤◌, ℤ, pos, subst}
@@ -47,7 +47,7 @@ same_Err : {A : Type 0} (e f : Refusal) → ◌≡◌ {A = Result A Refusal} (Er
 same_Err e f h = cc
 
 module _ (Y : ℕ) (b : List ℕ) (r : Record) where
-  -- both ways have the same rest and record, or the date's fault
+  -- both definitions have one rest and record, or the date's error
   abbrev Agree : Type 0
   Agree =
       ((p : List ℕ × Record) × (answer Y b r ≡ Ok p) × (reading Y b r ≡ Some p))
@@ -111,7 +111,7 @@ module _ (Y : ℕ) (b : List ℕ) (r : Record) where
         | inr (f, said, none, date) ↦ (none, date ∙ ap (λ x. Err x) (same_Err {A = List ℕ × Record} f e (sym said ∙ h)))
       ]
 
-  -- what a call answers
+  -- the result of a call
   pub answered : (q : Record) (result : Result (Bor (List ℕ)) ParseFromDescription)
       → MatchResult result (λ rest. answer Y b r ≡ Ok (rest.now, q)) (λ e. answer Y b r ≡ Err (refusal_of_description e))
       → MatchResult result (λ rest. reading Y b r ≡ Some (rest.now, q))
@@ -119,10 +119,10 @@ module _ (Y : ℕ) (b : List ℕ) (r : Record) where
   answered q (Ok rest) h = answered-read (rest.now, q) h
   answered q (Err e) h = answered-refused (refusal_of_description e) h
 
--- ---- The record of a text of ISO 8601 that says the parts of a value resolves to that value
+-- ---- The record of an ISO 8601 text with the parts of a value resolves to that value
 
--- The whole text is read over an empty record, which then resolves to that date and time; and where an offset stands,
--- to the moment of all three.
+-- The whole text is read over an empty record, which then resolves to that date and time; if there is an offset, it
+-- resolves to the moment of all three.
 abbrev pub IsWholeText : List ℕ → PlainDateTime → Option UtcOffset → Type 0
 IsWholeText bytes p o =
     (r : Record) × Reads greatest_year bytes empty [] r × IsPlain greatest_year r (Ok p)
@@ -157,7 +157,7 @@ pub no_bytes : (bytes : List ℕ) → (length bytes == 0) ≡ true → bytes ≡
 no_bytes [] e = refl
 no_bytes (b ∷ bytes) e = absurd (omega (arith, eqb-true (length (b ∷ bytes)) 0 e))
 
--- the date and the time are put
+-- the date and the time are stored
 parts_put : (bytes between rest : List ℕ) (k l : ExtendedKind) (x : IsoDate) (y : TimeNumbers) (d : Date) (t : Time)
     → date_text bytes ≡ Ok (record { rest = between; value = x; kind = k })
     → time_text true k between ≡ Some (record { rest = rest; value = y; kind = l })
@@ -262,7 +262,7 @@ found_text : (l : ExtendedKind) (after rest : List ℕ) (n : OffsetNumbers) → 
     → (k : ExtendedKind) × (offset_text l after ≡ Some (record { rest = rest; value = n; kind = k }))
 found_text l after rest n h = with_its_kind l after rest n (offset_text l after) refl h
 
--- the offset is put after them, in components that resolve to it
+-- the offset is stored after them, in components that resolve to it
 offset_put : (l k : ExtendedKind) (after rest : List ℕ) (n : OffsetNumbers) (o : UtcOffset)
     → offset_text l after ≡ Some (record { rest = rest; value = n; kind = k }) → IsOffsetSaid n o
     → (h m s : Option ℤ)

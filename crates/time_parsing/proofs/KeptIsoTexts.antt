@@ -1,5 +1,5 @@
--- A text of ISO 8601 that is read whole where years have four digits is read so where they have more. A date
--- with a longer year begins with a sign and six digits, and no time begins so, and no offset is that long.
+-- An ISO 8601 text that is read whole if years have four digits is read whole, with that result, if they may have more.
+-- A date with a longer year begins with a sign and six digits; no time begins with a sign, and no offset is that long.
 use Rattle.std.specs.Prelude.{nat_le, option_map, option_and_then, unwrap_or, codes}
 use Rattle.std.proofs.Common.{◌≡◌, ◌∙◌, ℕ, ◌+◌, ◌<◌, ◌≤◌, ℤ, pos, unsigned_abs, Bool, true, false, Option, None, Some, Result, Ok, Err, List, [], ◌∷◌}
 use Rattle.std.proofs.Common.{◌++◌, length, length-append, refl, sym, ap, arith}
@@ -31,7 +31,7 @@ use Rattle.time_parsing.specs.TreeLaws.{KeepsTexts}
 use Rattle.time_parsing.specs.Rfc3339.{with_leap_second, without_offset_sign}
 use Rattle.time_parsing.proofs.IsoParts.{answered-read, read-answered}
 
--- ---- what a result tells
+-- ---- the cases of a result
 
 Ok-Err : {A : Type 0} (a : A) (e : Refusal) → ◌≡◌ {A = Result A Refusal} (Err e) (Ok a) → ⊥
 Ok-Err a e h = cc
@@ -56,7 +56,7 @@ year_in (calendar y m d) = y
 year_in (iso_ordinal y d) = y
 year_in (week y w d) = y
 
--- the text of a form says the year before it
+-- the text of a form has the year before it
 abbrev Says : ℤ → FormOrFault → Type 0
 Says y f = (x : List ℕ × IsoDate) → f ≡ Ok x → year_in x.1 ≡ y
 
@@ -206,7 +206,7 @@ long_year b d h long =
 -- ---- over a record
 
 module _ (Y Z : ℕ) where
-  -- the entries of a time and of an offset don't rest on the range of years
+  -- the entries of a time and of an offset don't depend on the range of years
   time_over-same : (needs_t : Bool) (kind : ExtendedKind) (b : List ℕ) (r : Record) → time_over Y needs_t kind b r ≡ time_over Z needs_t kind b r
   unfolding time_over
   time_over-same needs_t kind b r = refl
@@ -242,7 +242,7 @@ module _ (Y Z : ℕ) where
   date_or_none-same b r (Err fault) =
       ap (without_date Y fault b r) (time_over-same false Unknown b r) ∙ without_date-same fault b r (time_over Z false Unknown b r)
 
-  -- nor do those of a date but for the year
+  -- those of a date depend on it only by the year
   put_date-same : (d : IsoDate) (r : Record) → nat_le (unsigned_abs (year_in d)) Y ≡ true → nat_le (unsigned_abs (year_in d)) Z ≡ true
       → put_or_fault Y (date_entries d) r ≡ put_or_fault Z (date_entries d) r
   put_date-same (calendar y m d) r before now = rw (before, now) refl
@@ -285,7 +285,7 @@ module _ (Y : ℕ) where
       need-Ok (after_offset Y Unknown b r) fault (λ o. Ok o) ([], q) (rw (no_time_over b r long) at h)
       (λ o found is. no_offset b r q long (found ∙ ap (λ x. Some x) (same_Ok o ([], q) is)))
 
--- a date put into a record, and the answer of a text whose date is put or refused so
+-- storing a date in a record, and the result for a text whose date is stored or rejected
 abbrev dated : ℕ → Record → Found IsoDate → Result (Found Record) Refusal
 dated Y r d = result_and_then (λ q. Ok (with_value d q)) (put_or_fault Y (date_entries d.value) r)
 

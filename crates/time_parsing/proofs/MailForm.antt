@@ -1,4 +1,4 @@
--- A mail date that was written has the form of RFC 2822.
+-- A written mail date has the form of RFC 2822.
 use Rattle.std.specs.Prelude.{◌||◌, if◌then◌else◌}
 use Rattle.std.specs.Ordering.{int_eq}
 use Rattle.std.proofs.Common.{◌≡◌, ◌≤◌, ◌<◌, ◌^◌, ℕ, pos, List, [], ◌∷◌, ◌++◌, get_or, false, true, Some, None, refl, inl, inr, arith, rules, int_lt, ℤ, negsuc, unsigned_abs, sym, ap, ◌∙◌, subst, append_assoc, append-nil, codes}
@@ -41,7 +41,7 @@ use Rattle.time_parsing.proofs.Told.{made, sign_of, signed_hours, signed_minutes
 abbrev IsPlain : List ℕ → Type 0
 IsPlain text = 41 ≤ get_or text 0 0
 
--- so do letters, digits and a sign
+-- letters, digits and a sign are such bytes
 letters-plain : (w : Weekday) (rest : List ℕ) → IsPlain (short_weekday w ++ rest)
 letters-plain Monday rest = omega arith
 letters-plain Tuesday rest = omega arith
@@ -198,9 +198,9 @@ module _ (w : Weekday) (d : ℕ) (month : Month) (y h mi s : ℕ) (sign : Sign) 
           (true, y, (fixed-run 4 y _ year, late), refl)
           (Stand-text (Asks false) YearBlanks _ dated dated _ (32 ∷ []) time_bytes [] (fold-at _ (digits-plain h _), refl) time-stands))))))
 
--- ---- A mail date that was written is read back
+-- ---- A written mail date parses back
 
--- nothing is in the way of a mail date
+-- no error applies to a mail date
 writable : (y s : ℤ)
     → (if int_lt y (pos 1900) || int_lt (pos 9999) y then Some Year else if int_eq s (pos 0) then None else Some OffsetSecond) ≡ None
     → IsBetween (pos 1900) (pos 9999) y × (s ≡ pos 0)
@@ -209,7 +209,7 @@ writable y s is = search rules
 four_digits : (y : ℤ) → IsBetween (pos 1900) (pos 9999) y → IsBetween (pos 0) (pos 9999) y
 four_digits y h = omega (arith, ints, h)
 
--- nothing is kept of a fraction
+-- no digit of the fraction is kept
 none-kept : (n : ℕ) → n < 10 ^ 9 → 0 ≡ kept 0 n
 none-kept n below = omega (arith, below)
 
@@ -217,7 +217,7 @@ late-year : (y : ℤ) → IsBetween (pos 1900) (pos 9999) y → 1900 ≤ unsigne
 late-year (pos n) h = omega (arith, ints, h)
 late-year (negsuc n) h = absurd (omega (arith, ints, h))
 
--- the pieces of a mail date, one behind another
+-- the pieces of a mail date, one after another
 flat : (a b c d m f y g h i j k s l z o : List ℕ) →
     a ++ b ++ c ++ d ++ m ++ f ++ y ++ g ++ (h ++ i ++ j ++ k ++ s) ++ l ++ (z ++ o)
     ≡ (a ++ b) ++ (c ++ (d ++ (m ++ (f ++ (y ++ (g ++ (h ++ (i ++ (j ++ ((k ++ s) ++ (l ++ (z ++ (o ++ [])))))))))))))

@@ -1,4 +1,4 @@
--- An exact format and a resolution that is one have one outcome.
+-- An exact format and a resolution with one result have one outcome.
 use Rattle.std.proofs.Common.{◌≡◌, ℕ, List, [], sym, ap, ◌∙◌, subst, ⊎_elim, None, Some, Result, Ok, Err, refl, ◌+◌, ◌/◌, ◌%◌, get_or, arith, ◌≢◌, ◌⊎◌, inl, inr, MatchResult, Bool, true, false}
 use Rattle.time_values.specs.Refusal.{Refusal, trailing}
 use Rattle.time_values.specs.Calendar.{greatest_year}
@@ -37,7 +37,7 @@ with_rest rest (Ok v) = Ok (v, rest)
 with_rest rest (Err e) = Err e
 
 module _ (R : Reading) (F : Refusing) (exact : IsExact R F) where
-  -- a text that is read whole is not refused
+  -- a text that is read whole is not rejected
   whole_or_refused : (b : List ℕ) (r p : Record) (e : Refusal) → R b r [] p → IsWhole R F b r (Err e) → ⊥
   whole_or_refused b r p e read refused =
       ⊎_elim (λ here. exact.not_both b r [] p e read here) (λ w. w.3 (exact.one_rest b r w.0 [] w.1 p w.2 read)) refused
@@ -66,7 +66,7 @@ module _ (R : Reading) (F : Refusing) (exact : IsExact R F) where
       (λ w. ⊎_elim (λ there. absurd (whole_or_refused b r w.0 f w.1 there))
       (λ z. one z.0 (Err e) (Err f) (subst (λ (p : Record). resolves p (Err e)) (same_record b r w.0 z.0 w.1 z.1) w.2) z.2) y) x
 
-  -- a record with a front of the bytes has one value or one refusal
+  -- a record with a front of the bytes has one value or one error
   same_front : {V : Type 0} (resolves : Resolving V) → OneResolution resolves → (b : List ℕ) (r p q : Record) (x y : List ℕ)
       (u v : Result V Refusal) → R b r x p → R b r y q → resolves p u → resolves q v → u ≡ v
   same_front {V} resolves one b r p q x y u v reads others first second =
@@ -102,7 +102,7 @@ one_moment_outcome (direct refused) R F exact alone one b None (Ok v) (Err f) p 
 one_moment_outcome (direct refused) R F exact alone one b None (Err e) (Ok w) p q = absurd (alone.1 b w e q p)
 one_moment_outcome (direct refused) R F exact alone one b None (Err e) (Err f) p q = ap Err (alone.0 b e f p q)
 
--- ---- Moments of one text are one, but for the digits that aren't written
+-- ---- Moments with equal texts are equal, except for the digits that aren't written
 
 pub same_Ok : (v w : OffsetDateTime) → ◌≡◌ {A = Result OffsetDateTime Refusal} (Ok v) (Ok w) → v ≡ w
 same_Ok v w e = cc
@@ -115,7 +115,7 @@ one_text digits others v w a b none cut other other_cut same =
     same_Ok a b (one_outcome (Reads greatest_year) (Refuses greatest_year) (rfc3339_exact greatest_year) (IsMoment greatest_year) IsMoment-one
     (moment_text (written digits v) v) empty (Ok a) (Ok b) first.1 moved)
 
--- nothing of a moment is cut off
+-- no digit of the moment is dropped
 one_whole : (v : OffsetDateTime) → IsCut (written Auto v) v v
 one_whole v = record {
   date = refl;
@@ -127,9 +127,9 @@ pub one_short_text : OneShortText
 one_short_text v w none other same =
     one_text Auto Auto v w v w none (one_whole v) other (one_whole w) same
 
--- ---- Moments of one text of RFC 2822, or of ISO 8601, are one but for the digits that aren't written
+-- ---- Moments with equal texts of RFC 2822, or of ISO 8601, are equal except for the digits that aren't written
 
--- moments of one text over an empty record
+-- moments with equal texts over an empty record
 one_moment : (R : Reading) (F : Refusing) → IsExact R F → (bytes : List ℕ) (a b : OffsetDateTime)
     → IsOutcome (IsMoment greatest_year) R F bytes empty (Ok a) → IsOutcome (IsMoment greatest_year) R F bytes empty (Ok b) → a ≡ b
 one_moment R F exact bytes a b first second =
@@ -172,7 +172,7 @@ outcome_before reads refuses bytes rest begin r (Err e) read (inl (more, is)) = 
 outcome_before reads refuses bytes rest begin r (Err e) read (inr (end, moment)) =
     inr (r, subst (λ x. reads bytes begin x r) end read, moment)
 
--- ---- Marked and unmarked trees, where no `Ignore` ends inside a character. `Y` is the greatest year.
+-- ---- Marked and unmarked trees, if no `Ignore` ends inside a character. `Y` is the greatest year.
 
 -- a marked component that leaves a whole character
 module _ (Y : ℕ) (b : List ℕ) (r : Record) (rest : List ℕ) (q : Record) where

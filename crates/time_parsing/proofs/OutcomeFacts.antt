@@ -1,5 +1,5 @@
--- Worked values of direct refusals, of outcomes and of the canonical text, so that a wrong rule in the specs does not
--- check. They follow from the definitions, and no code lies between.
+-- Worked values of direct errors, of outcomes and of the canonical text, so that a wrong rule in the specs does not
+-- check. They follow from the definitions, without any code.
 use Rattle.std.proofs.Common.{◌≡◌, ℕ, [], length, pos, neg_ℤ, true, false, Some, None, Result, Ok, Err, codes, refl, sym, ap, subst, ◌∙◌, inl, inr, arith}
 use Rattle.std.proofs.lemmas.Int.{ints}
 use Rattle.time_values.specs.Calendar.{greatest_year, days_of_months}
@@ -40,7 +40,7 @@ Y = greatest_year
 
 -- ---- The direct path of RFC 3339
 
--- two digits are the form of a month
+-- two digits match the form of a month
 thirteenth_form : HasForm false (codes "2021-13-01T00:00:00Z") [] (zulu 2021 13 1 0 0 0 None)
 unfolding fixed
 thirteenth_form =
@@ -50,7 +50,7 @@ thirteenth_form =
 pub month_13_is_out_of_range : RefusesRfc3339 Y (codes "2021-13-01T00:00:00Z") (range (codes "month") false)
 month_13_is_out_of_range = inr ([], (zulu 2021 13 1 0 0 0 None, thirteenth_form, inl refl))
 
--- the form doesn't end the text
+-- the form matches, and a byte remains
 thirteenth_form_x : HasForm false (codes "2021-13-01T00:00:00Zx") (codes "x") (zulu 2021 13 1 0 0 0 None)
 unfolding fixed
 thirteenth_form_x =
@@ -79,7 +79,7 @@ thirteenth_form_x =
 pub byte_that_remains_is_refused_first : RefusesRfc3339 Y (codes "2021-13-01T00:00:00Zx") trailing
 byte_that_remains_is_refused_first = inr (codes "x", (zulu 2021 13 1 0 0 0 None, thirteenth_form_x, refl))
 
--- bytes that remain come before the month's range
+-- the error of bytes that remain precedes that of the month's range
 pub no_month_before_the_byte : RefusesRfc3339 Y (codes "2021-13-01T00:00:00Zx") (range (codes "month") false) → ⊥
 no_month_before_the_byte h =
     let same : trailing ≡ range (codes "month") false = rfc3339_exact_path.0 (codes "2021-13-01T00:00:00Zx") _ _ byte_that_remains_is_refused_first h in
@@ -90,7 +90,7 @@ no_fault_of_the_form h =
     let same : range (codes "month") false ≡ component (codes "month") = rfc3339_exact_path.0 (codes "2021-13-01T00:00:00Z") _ _ month_13_is_out_of_range h in
     cc
 
--- the range of an offset's minute comes before the month's
+-- the error of an offset minute's range precedes that of the month's
 sixtieth_form : HasForm false (codes "2021-13-01T00:00:00+05:60") [] (numeric 2021 13 1 0 0 0 None Positive 5 60)
 unfolding fixed
 sixtieth_form =
@@ -135,7 +135,7 @@ module _ (v : OffsetDateTime) (date : HasParts (pos 1985) April 12 (offset_date 
       (Err e) example_is_a_moment h in
       cc
 
--- each path has its own refusal
+-- each path has its own error
 pub month_13_directly : IsMomentOutcome Y (direct (RefusesRfc3339 Y)) (Reads Y) (Refuses Y)
     (codes "2021-13-01T00:00:00Z") None (Err (range (codes "month") false))
 month_13_directly = month_13_is_out_of_range
@@ -151,7 +151,7 @@ pub month_13_and_a_byte_over_a_record : IsMomentOutcome Y (direct (RefusesRfc333
     (Some empty) (Err (component (codes "month")))
 month_13_and_a_byte_over_a_record = inl (inl (month_13_is_refused empty (codes "-01T00:00:00Zx")))
 
--- an ordinal of the defaults wins over the month and day of the text
+-- an ordinal of the defaults takes precedence over the month and day of the text
 abbrev first_day : Record
 first_day = record empty { ordinal = Some 1 }
 

@@ -1,5 +1,5 @@
--- Worked values of RFC 3339 and RFC 2822, read over records, so that a wrong rule in the specs does not check. They
--- follow from the definitions, and no code lies between.
+-- Worked values of RFC 3339 and RFC 2822, parsed over records, so that a wrong rule in the specs does not check. They
+-- follow from the definitions, without any code.
 use Rattle.std.proofs.Common.{◌≡◌, ◌≢◌, ℕ, List, [], ◌∷◌, ◌++◌, length, pos, neg_ℤ, true, false, Some, None, codes, refl, sym, ap, inl, arith}
 use Rattle.time_values.specs.Calendar.{greatest_year}
 use Rattle.time_values.specs.Refusal.{component, literal, range}
@@ -118,7 +118,7 @@ module _ (r : Record) where
     leap_second_allowed = true;
   }
 
-  -- a numeric offset leaves the second of the offset
+  -- a numeric offset keeps the second of the offset
   pub offset_ahead_is_read : Reads Y (codes "2021-01-02T03:04:05+05:30") r [] (record after_2021 { offset_hour = Some (pos 5); offset_minute = Some (pos 30) })
   offset_ahead_is_read =
       let ranges : InRanges (numeric 2021 1 2 3 4 5 None Positive 5 30) = record {
@@ -132,7 +132,7 @@ module _ (r : Record) where
       let n = numeric 2021 1 2 3 4 5 None Positive 5 30 in
       (n, January, (ranged_forms (codes "2021-01-02T03:04:05+05:30") [] n).1 (ahead_form, ranges), refl, refl)
 
-  -- a minus before the hour 00 counts for the minute
+  -- a minus before the hour 00 applies to the minute
   pub offset_behind_is_read : Reads Y (codes "2021-01-02T03:04:05-00:30") r [] (record after_2021 {
     offset_hour = Some (pos 0);
     offset_minute = Some
@@ -182,7 +182,7 @@ module _ (r : Record) where
       (rfc3339_exact Y).one_refusal (codes "2021-13-01T00:00:00Z") r _ _ (month_13_is_refused (codes "-01T00:00:00Z")) h in
       cc
 
-  -- no reading leaves a byte of a whole text
+  -- no reading of a whole text leaves a byte
   pub no_z_is_left : (new : Record) → Reads Y example r (codes "Z") new → ⊥
   no_z_is_left new h =
       let same = (rfc3339_exact Y).one_rest example r [] (codes "Z") after_example new example_is_read h in
@@ -307,7 +307,7 @@ module _ (r : Record) where
       (rfc2822_exact Y).one_refusal (codes "Mon, 00 Jan 2021 03:04 GMT") r _ _ (day_0_is_refused (codes "Jan 2021 03:04 GMT")) h in
       cc
 
--- two digits are a year from 1950 to 2049, and a zone's name sets all three parts of the offset
+-- two digits are a year from 1950 to 2049, and a zone name sets all three parts of the offset
 pub obsolete_date_is_read : (r : Record) → Rfc2822.Reads Y (codes "21 Nov 97 09:55:06 GMT") r [] (record r {
   day = Some 21;
   month = Some November;
@@ -323,7 +323,7 @@ pub obsolete_date_is_read : (r : Record) → Rfc2822.Reads Y (codes "21 Nov 97 0
 })
 obsolete_date_is_read r = (mail_facts.obsolete, mail_facts.obsolete_date, refl)
 
--- half an hour behind UTC isn't read as ahead
+-- half an hour behind UTC isn't parsed as ahead of it
 pub no_mail_offset_turned : Rfc2822.Reads Y (codes "Mon, 02 Jan 2021 03:04:05 -0030") empty []
     (record (after_mail empty) { offset_hour = Some (pos 0); offset_minute = Some (pos 30) }) → ⊥
 no_mail_offset_turned h =

@@ -1,4 +1,4 @@
--- What a written text says of a moment, and that the moment is made of it.
+-- The numbers that a written text has for a moment, and that they form that moment.
 use Rattle.std.proofs.Common.{rules, ◌≡◌, ◌≢◌, ◌≤◌, ◌<◌, ◌-◌, ◌^◌, ℕ, zero, suc, ℤ, pos, negsuc, neg_ℤ, unsigned_abs, Bool, true, false, None, refl, sym, ap, ◌∙◌, subst, arith}
 use Rattle.std.specs.Prelude.{◌==◌, ◌||◌, if◌then◌else◌, int_lt}
 use Rattle.std.specs.Option.{option_or}
@@ -28,7 +28,7 @@ use Rattle.time_readers.specs.declared.direct.Said.{Said}
 use Rattle.time_parsing.specs.Written.{kept, IsCut}
 use Rattle.time_parsing.specs.exact.ToldMoment.{month_short}
 
--- no part of a date that there is, is refused
+-- no part of a date that exists is rejected
 no_date_refusal : (d : Date) → calendar_date_refusal greatest_year (Dates.year d) (month_number (Dates.month d)) (Dates.day d) ≡ None
 no_date_refusal d = let year = d.year_in in let day = d.day_in in grind (arith, nat_tests)
 
@@ -78,7 +78,7 @@ pub sign_byte-sign_of : (b : Bool) → sign_byte (sign_of b) ≡ (if b then 45 e
 sign_byte-sign_of true = refl
 sign_byte-sign_of false = refl
 
--- What the text of a moment says, where k digits are written.
+-- The numbers in the text of a moment with k digits of its fraction.
 abbrev pub told : ℕ → OffsetDateTime → Said
 told k v = record {
   year = unsigned_abs (Dates.year (offset_date v));
@@ -121,7 +121,7 @@ pub minutes-below : (m : ℤ) → IsBetween (neg_ℤ (pos 59)) (pos 59) m → un
 minutes-below (pos n) h = omega (arith, ints, h)
 minutes-below (negsuc n) h = omega (arith, ints, h)
 
--- nothing that is told is refused
+-- no number of the text is rejected
 date-taken : (d : Date) → IsBetween (pos 0) (pos 9999) (Dates.year d) →
     option_or (month_refusal (month_number (Dates.month d)))
     (calendar_date_refusal greatest_year (pos (unsigned_abs (Dates.year d))) (month_number (Dates.month d)) (Dates.day d)) ≡ None

@@ -1,4 +1,4 @@
--- Optional trees, equal trees, and what a tree leaves. `Y` is the greatest year.
+-- Optional trees, equal trees, and the rest after a tree. `Y` is the greatest year.
 use Rattle.std.specs.Prelude.{option_and_then}
 use Rattle.std.proofs.Common.{◌≡◌, ◌∙◌, ℕ, List, [], ◌∷◌, ◌++◌, Option, None, Some, refl, ap, cond, Bool, true, false, ◌↔◌, ◌⊎◌, Ok, Err, subst, inl, inr, Result, Bor, sym, append_assoc}
 use Rattle.time_values.specs.Refusal.{Refusal, refusal_of_description}
@@ -10,7 +10,7 @@ use Rattle.time_record.proofs.Unique.{RefusesAll-here, RefusesAll-more, Refuses-
 use Rattle.time_parsing.specs.Rfc3339.{without_offset_sign, with_leap_second}
 use Rattle.time_parsing.specs.TreeLaws.{JoinedReads, JoinedRefuses, JoinedLeaves, Flattens, OptionalAsFirst, told, AnswersAlike, LeavesSuffix}
 
--- ---- Entries put into a record one after another. `Y` is the greatest year.
+-- ---- Entries stored in a record in turn. `Y` is the greatest year.
 
 and_then-append : (Y : ℕ) (xs ys : List Entry) (o : Option Record) (q : Record)
     → ((p : Record) → put_all Y xs p ≡ Some q → put_all Y (xs ++ ys) p ≡ put_all Y ys q)
@@ -23,7 +23,7 @@ put_all-append : (Y : ℕ) (xs ys : List Entry) (r q : Record) → put_all Y xs 
 put_all-append Y [] ys r q h = let same : r ≡ q = cc in ap (put_all Y ys) same
 put_all-append Y (x ∷ xs) ys r q h = and_then-append Y xs ys (put Y x r) q (λ p. put_all-append Y xs ys p q) h
 
--- A change of the record that no entry looks at may come before the entries as well as after them.
+-- A change of the record on which no entry depends may precede the entries or follow them.
 module _ (change : Record → Record) (past : (e : Entry) (r : Record) → put_here e (change r) ≡ change (put_here e r)) where
   and_then-changed : (Y : ℕ) (e : Entry) (es : List Entry) (r q : Record) (b : Bool)
       → ((p : Record) → put_all Y es p ≡ Some q → put_all Y es (change p) ≡ Some (change q))
@@ -36,7 +36,7 @@ module _ (change : Record → Record) (past : (e : Entry) (r : Record) → put_h
   put_all-changed Y [] r q h = let same : r ≡ q = cc in ap (λ (x : Record). Some (change x)) same
   put_all-changed Y (e ∷ es) r q h = and_then-changed Y e es r q (in_range Y e) (λ p. put_all-changed Y es p q) h
 
--- no entry looks at these two flags
+-- no entry depends on these two flags
 past_offset_sign : (e : Entry) (r : Record) → put_here e (without_offset_sign r) ≡ without_offset_sign (put_here e r)
 past_offset_sign (year_is v) r = refl
 past_offset_sign _ r = refl
@@ -45,8 +45,8 @@ past_leap_second : (e : Entry) (r : Record) → put_here e (with_leap_second r) 
 past_leap_second (year_is v) r = refl
 past_leap_second _ r = refl
 
--- Entries of a date, a time and an offset, with the sign of an offset forgotten before the last, and a leap second
--- allowed in the end.
+-- Entries of a date, a time and an offset, with the sign of an offset cleared before the last, and a leap second
+-- allowed at the end.
 pub put_all-parts : (Y : ℕ) (date time offset : List Entry) (old dated timed new : Record)
     → put_all Y date old ≡ Some dated → put_all Y time dated ≡ Some timed
     → put_all Y offset (without_offset_sign timed) ≡ Some new
@@ -64,7 +64,7 @@ put_all-parts Y date time offset old dated timed new d t o =
 abbrev ReadsBoth : ℕ → Trees → Trees → List ℕ → Record → List ℕ → Record → Type 0
 ReadsBoth Y ts us b r rest q = (mid : List ℕ) × (m : Record) × ReadsAll Y ts b r mid m × ReadsAll Y us mid m rest q
 
--- and refused in the one or in the other
+-- rejected in the first part or in the second
 abbrev RefusesEither : ℕ → Trees → Trees → List ℕ → Record → Refusal → Type 0
 RefusesEither Y ts us b r e =
     RefusesAll Y ts b r e ⊎ ((mid : List ℕ) × (m : Record) × ReadsAll Y ts b r mid m × RefusesAll Y us mid m e)
@@ -85,7 +85,7 @@ module _ (Y : ℕ) where
       subst (λ s. ReadsAll Y (trees ys) s r rest q) h.0 (subst (λ p. ReadsAll Y (trees ys) mid p rest q) h.1 k)
   both-joined (t ∷ xs) ys b r mid m rest q h k = (h.0, h.1, h.2, both-joined xs ys h.0 h.1 mid m rest q h.3 k)
 
-  -- trees in turn are refused by the first of them, or behind it
+  -- trees in turn are rejected by the first of them, or after it
   head-either : (t : Tree) (ts : Trees) (b : List ℕ) (r : Record) (e : Refusal) → RefusesAll Y (more t ts) b r e →
       Refuses Y t b r e ⊎ ((mid : List ℕ) × (m : Record) × Reads Y t b r mid m × RefusesAll Y ts mid m e)
   unfolding ReadsAll IsFaultAll
@@ -95,7 +95,7 @@ module _ (Y : ℕ) where
         | inr (mid, m, k, fault) ↦ inr (mid, m, k, record { unread = λ x q s. h.unread x q (mid, m, k, s); fault = fault })
       ]
 
-  -- a fault of the first of joined lists is one of both
+  -- an error of the first of joined lists is one of both
   refused-first : (xs ys : List Tree) (b : List ℕ) (r : Record) (e : Refusal) →
       RefusesAll Y (trees xs) b r e → RefusesAll Y (trees (xs ++ ys)) b r e
   unfolding IsFaultAll
@@ -106,7 +106,7 @@ module _ (Y : ℕ) where
         | inr (mid, m, k, part) ↦ RefusesAll-more Y t (trees (xs ++ ys)) b r mid m e k (refused-first xs ys mid m e part)
       ]
 
-  -- and so is one of the second behind the first
+  -- an error of the second list, after the first, is one of both
   refused-behind : (xs ys : List Tree) (b : List ℕ) (r : Record) (mid : List ℕ) (m : Record) (e : Refusal) →
       ReadsAll Y (trees xs) b r mid m → RefusesAll Y (trees ys) mid m e → RefusesAll Y (trees (xs ++ ys)) b r e
   unfolding ReadsAll
@@ -128,7 +128,7 @@ module _ (Y : ℕ) where
         ]
       ]
 
-  -- a list is read and refused as its trees in turn
+  -- a list is read and rejected as its trees in turn
   list-reads : (ts : Trees) (b : List ℕ) (r : Record) (rest : List ℕ) (q : Record) →
       Reads Y (sequence ts) b r rest q ↔ ReadsAll Y ts b r rest q
   unfolding Reads
@@ -237,7 +237,7 @@ module _ (Y : ℕ) where
   choice-optional t b r rest q (inr (h, inl k)) = inr (h, k.0, k.1)
   choice-optional t b r rest q (inr (h, inr k)) = absurd k.1
 
-  -- neither is ever refused
+  -- neither is ever rejected
   optional-unrefused : (t : Tree) (b : List ℕ) (r : Record) (e : Refusal) → Refuses Y (optional t) b r e → ⊥
   unfolding IsFault
   optional-unrefused t b r e h = h.fault

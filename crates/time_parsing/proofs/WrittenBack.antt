@@ -1,4 +1,4 @@
--- A text that was written is read back.
+-- A written text parses back.
 use Rattle.std.specs.Prelude.{if◌then◌else◌, ◌==◌, ◌||◌, ◌&&◌, int_lt, unwrap_or}
 use Rattle.std.specs.Ordering.{int_eq}
 use Rattle.std.proofs.Common.{◌≡◌, ◌≢◌, ◌≤◌, ◌<◌, ◌+◌, ◌-◌, ◌*◌, ◌^◌, ◌/◌, ◌%◌, ℕ, zero, suc, List, [], ◌∷◌, ◌++◌, take, false, true, Option, Some, None, refl, sym, ap, subst, ◌∙◌, inl, inr, arith, codes, append-nil, rules, ℤ, pos, neg_ℤ, unsigned_abs, Bool, append_assoc}
@@ -37,9 +37,9 @@ use Rattle.time_parsing.specs.exact.RecordedRfc3339.{direct-value}
 use Rattle.time_parsing.specs.Rfc3339.{Reads, Refuses}
 use Rattle.time_parsing.proofs.Told.{told, made, sign_of, signed_hours, signed_minutes, sign_byte-sign_of, is_negative-sign_of, year-below, hours-below, minutes-below, some_month, day_below}
 
--- ---- A text that was written has the form of RFC 3339
+-- ---- A written text has the form of RFC 3339
 
--- digits of a number that has no more are a run that says it
+-- k digits of a number that has no more are a run with its value
 fixed-digits : (k n : ℕ) → AllDigits (fixed k n)
 unfolding fixed
 fixed-digits zero n = tt
@@ -74,7 +74,7 @@ fixed-fraction k n rest some few below ends =
           ∙ ap (λ i. digits_value (take 9 (fixed k n)) * 10 ^ (9 - i)) (sym long);
     }
 
--- so are the first k of nine
+-- the first k of nine digits are a fraction
 pub written-fraction : (k n : ℕ) (rest : List ℕ) → 1 ≤ k → k ≤ 9 → n < 10 ^ 9 → NoDigitFirst rest
     → IsFraction (take k (fixed 9 n)) rest (kept k n)
 written-fraction k n rest some few below ends =
@@ -82,7 +82,7 @@ written-fraction k n rest some few below ends =
     subst (λ text. IsFraction text rest (kept k n)) (sym (take-fixed (9 - k) k 9 n sum))
     (fixed-fraction k (n / 10 ^ (9 - k)) rest some few (front-below (9 - k) k 9 n sum below) ends)
 
--- the fraction that k digits say
+-- the value of a fraction with k digits
 abbrev pub said : ℕ → ℕ → Option ℕ
 said k n = if k == 0 then None else Some (kept k n)
 
@@ -95,7 +95,7 @@ fraction-stands zero n rest few below ends point = (refl, point)
 fraction-stands (suc k) n rest few below ends point =
     rw (not_zero k) (take (suc k) (fixed 9 n), refl, written-fraction (suc k) n rest (omega arith) few below ends)
 
--- a place whose text stands before what the later places have
+-- a place whose text precedes those of the later places
 pub Stand-text : {P N : Type 0} (A : Format P N) (p : P) (ps : List P) (n k m : N) (text after rest : List ℕ) →
     A p n text after k → Stand A ps k after rest m → Stand A (p ∷ ps) n (text ++ after) rest m
 unfolding Stand
@@ -106,7 +106,7 @@ unfolding Stand
 Stand-none A n bytes = (refl, refl)
 
 module _ (y mo d h mi s : ℕ) (subsecond : Option ℕ) where
-  -- the numbers once the month was read, the date, and the time
+  -- the numbers after the month, the date, and the time
   abbrev numbered : Numbers
   numbered = record nothing_read { year = y; month = mo }
 
@@ -116,7 +116,7 @@ module _ (y mo d h mi s : ℕ) (subsecond : Option ℕ) where
   abbrev pub timed : Numbers
   timed = record dated { hour = h; minute = mi; second = s; subsecond = subsecond }
 
-  -- and the offset: `Z`, or sign, hour and minute
+  -- the numbers after the offset: `Z`, or sign, hour and minute
   abbrev pub zulu : Numbers
   zulu = record timed { is_utc = true }
 
@@ -184,7 +184,7 @@ module _ (y mo d h mi s : ℕ) (subsecond : Option ℕ) where
           (Stand-text (Asks false) MonthDash _ numbered numbered _ (codes "-") _ [] (refl, refl)
           (Stand-text (Asks false) Day _ numbered dated _ (fixed 2 d) time_bytes [] (d, (fixed-run 2 d _ day, tt), refl) time-stands))))
 
--- nothing is in the way of a text
+-- no error applies to a text
 pub writable : (y h s : ℤ) →
     (if int_lt y (pos 0) || int_lt (pos 9999) y then Some Year else
     if int_lt h (neg_ℤ (pos 23)) || int_lt (pos 23) h then Some OffsetHour else
@@ -197,7 +197,7 @@ pub few-digits : (digits : FractionDigits) (n : ℕ) → count_of digits n ≤ 9
 few-digits Auto n = significant-bound 9 n
 few-digits (Exactly k) n = search rules
 
--- what k digits say is what they keep
+-- k digits have the value that they keep
 said-kept : (k n : ℕ) → n < 10 ^ 9 → unwrap_or (said k n) 0 ≡ kept k n
 said-kept zero n below = omega (arith, below)
 said-kept (suc k) n below = rw (not_zero k) refl
@@ -215,7 +215,7 @@ no_point Positive rest = λ h. omega (arith, h)
 pub none-is : (h m : ℤ) → (int_eq h (pos 0) && int_eq m (pos 0)) ≡ true → (h ≡ pos 0) × (m ≡ pos 0)
 none-is h m is = search rules
 
--- thirteen texts, one behind another
+-- thirteen texts, one after another
 pub flat : (a b c d e f g h i j k l m : List ℕ) →
     a ++ b ++ c ++ d ++ e ++ f ++ (g ++ h ++ i ++ j ++ k) ++ l ++ m
     ≡ a ++ (b ++ (c ++ (d ++ (e ++ (f ++ (g ++ (h ++ (i ++ (j ++ (k ++ (l ++ m)))))))))))
@@ -232,7 +232,7 @@ module _ (k : ℕ) (few : k ≤ 9) (v w : OffsetDateTime) (cut : IsCut k v w)
       (Times.hour (offset_time v)) (Times.minute (offset_time v)) (Times.second (offset_time v))
       (said k (Times.nanosecond (offset_time v))) (fraction_shown k (Times.nanosecond (offset_time v))) offset
 
-  -- it is the moment that the offset's numbers say
+  -- it is the moment of the offset's numbers
   stands-with : (offset : List ℕ) (all : Numbers) → NoDigitFirst offset → NoDotFirst offset →
       Stand (Asks false) offset_places (timed (unsigned_abs (Dates.year (offset_date v))) (month_number (Dates.month (offset_date v)))
       (Dates.day (offset_date v)) (Times.hour (offset_time v)) (Times.minute (offset_time v)) (Times.second (offset_time v))
@@ -250,7 +250,7 @@ module _ (k : ℕ) (few : k ≤ 9) (v w : OffsetDateTime) (cut : IsCut k v w)
       (year-below (Dates.year d) year) (some_month d) (omega (arith, month)) (day_below d) in
       (all, form, minute_stands all minute, subst (λ said. IsMade greatest_year said w) (sym is) (made k v w cut year whole))
 
-  -- of UTC, and of another offset
+  -- the text with the offset UTC, and with another offset
   zulu-back : is_none (offset_of v) ≡ true → IsDirectRfc3339 greatest_year (with_offset (codes "Z")) w
   zulu-back none =
       let parts = none-is (Offsets.hours (offset_of v)) (Offsets.minutes (offset_of v)) none in
@@ -323,7 +323,7 @@ auto-keeps n below = keeps-auto n
 pub nine-keeps : KeepsAll (Exactly 9)
 nine-keeps n below = omega arith
 
--- with nine digits a moment is cut to itself
+-- with nine digits a moment is kept whole
 pub all_digits : (v : OffsetDateTime) → IsCut 9 v v
 all_digits v = record {
   date = refl;

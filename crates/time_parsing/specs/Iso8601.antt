@@ -1,4 +1,4 @@
--- ISO 8601, read over a record. `Y` is the greatest year.
+-- ISO 8601, parsed over a record. `Y` is the greatest year.
 use Rattle.std.specs.Prelude.{◌≡◌, ℕ, pos, List, [], ◌∷◌, codes, Bool, true, false, Option, Some, None, option_map, option_and_then, Result, Ok, Err}
 use Rattle.std.specs.Result.{result_ok}
 use Rattle.time_values.specs.Refusal.{Refusal, component}
@@ -23,7 +23,7 @@ use Rattle.time_record.specs.Resolution.{IsConstructed}
 use Rattle.time_parsing.specs.Outcome.{Reading, Refusing}
 use Rattle.time_parsing.specs.Rfc3339.{without_offset_sign, with_leap_second}
 
--- the entries of a date, each with the component that is at fault where its value is out of range
+-- the entries of a date, each with the component that the error names if the value is out of range
 abbrev pub date_entries : IsoDate → List (Entry × List ℕ)
 date_entries (calendar y m d) =
     (year_is y, codes "year") ∷ (month_is m, codes "month") ∷ (day_is d, codes "day") ∷ []
@@ -35,17 +35,17 @@ date_entries (week y w d) =
 abbrev pub time_entries : TimeNumbers → List Entry
 time_entries t = hour_24_is t.hour ∷ minute_is t.minute ∷ second_is t.second ∷ subsecond_is t.subsecond ∷ []
 
--- the entries of an offset, of which `Z` also says the second, 0
+-- the entries of an offset; `Z` also determines the second, 0
 abbrev pub offset_entries : OffsetNumbers → List Entry
 offset_entries Zulu = offset_hour_is (pos 0) ∷ offset_minute_is (pos 0) ∷ offset_second_is (pos 0) ∷ []
 offset_entries (Numeric hour minute) = offset_hour_is hour ∷ offset_minute_is minute ∷ []
 
--- the record with the entries put one after another, or the fault of the first whose value is out of range
+-- the record with the entries stored in turn, or the error of the first whose value is out of range
 abbrev pub put_or_fault : ℕ → List (Entry × List ℕ) → Record → Result Record Refusal
 put_or_fault Y [] r = Ok r
 put_or_fault Y (e ∷ entries) r = need (put Y e.0 r) (component e.1) (put_or_fault Y entries)
 
--- what follows from a value, or the refusal
+-- the result of `f` for a value, or the error
 abbrev pub result_and_then : {A B : Type 0} → (A → Result B Refusal) → Result A Refusal → Result B Refusal
 result_and_then f (Err e) = Err e
 result_and_then f (Ok a) = f a
@@ -54,30 +54,30 @@ result_and_then f (Ok a) = f a
 abbrev pub with_value : {V W : Type 0} → Found V → W → Found W
 with_value f value = record { rest = f.rest; value = value; kind = f.kind }
 
--- the text of a date, put into the record; or the fault of the text, or of a value
+-- the date of the bytes, stored in the record; or the error of the text, or of a value
 unfoldable pub date_over : ℕ → List ℕ → Record → Result (Found Record) Refusal
 date_over Y bytes r =
     result_and_then (λ d. result_and_then (λ q. Ok (with_value d q)) (put_or_fault Y (date_entries d.value) r))
     (date_text bytes)
 
--- the text of a time of that kind, put into the record
+-- the time of the bytes, of that kind, stored in the record
 unfoldable pub time_over : ℕ → Bool → ExtendedKind → List ℕ → Record → Option (Found Record)
 time_over Y needs_t kind bytes r =
     option_and_then (λ t. option_map (with_value t) (put_all Y (time_entries t.value) r)) (time_text needs_t kind bytes)
 
--- the text of an offset of that kind, put into the record, which keeps no sign of an offset from before
+-- the offset of the bytes, of that kind, stored in the record, which keeps no earlier offset's sign
 unfoldable pub offset_over : ℕ → ExtendedKind → List ℕ → Record → Option (Found Record)
 offset_over Y kind bytes r =
     option_and_then
     (λ o. option_map (with_value o) (put_all Y (offset_entries o.value) (without_offset_sign r)))
     (offset_text kind bytes)
 
--- Each part is a reader, from the rest, the record and the kind before it to those after it. A date, which needs no
--- kind before it:
+-- Each part is a reader, from the rest, the record and the kind before it to those after it. A date requires no kind
+-- before it.
 abbrev pub date : ℕ → ReaderOf (Found Record)
 date Y f = result_ok (date_over Y f.rest f.value)
 
--- a time of the kind so far, which may need its `T`
+-- a time of the kind so far, whose `T` is required if `needs_t`
 abbrev pub time : ℕ → Bool → ReaderOf (Found Record)
 time Y needs_t f = time_over Y needs_t f.kind f.rest f.value
 
@@ -85,15 +85,14 @@ time Y needs_t f = time_over Y needs_t f.kind f.rest f.value
 abbrev pub offset : ℕ → ReaderOf (Found Record)
 offset Y f = offset_over Y f.kind f.rest f.value
 
--- A date, after which a time may stand, which needs its `T`; or else a time; or else an offset. After a time an offset
--- may stand.
+-- A date, which a time with its `T` may follow; or else a time; or else an offset. An offset may follow a time.
 abbrev pub parts : ℕ → ReaderOf (Found Record)
 parts Y =
     date Y then optional (time Y true then optional (offset Y))
     or time Y false then optional (offset Y)
     or offset Y
 
--- the bytes after the parts with which the bytes begin, and the record with what they say, or nothing without a part
+-- the rest after the parts at the front of the bytes, and the record with their values, or nothing if there is no part
 unfoldable pub reading : ℕ → List ℕ → Record → Option (List ℕ × Record)
 reading Y bytes r =
     option_map (λ f. (f.rest, f.value)) (parts Y (record { rest = bytes; value = r; kind = Unknown }))
@@ -102,12 +101,12 @@ reading Y bytes r =
 abbrev pub Reads : ℕ → Reading
 Reads Y bytes r rest new = reading Y bytes (with_leap_second r) ≡ Some (rest, new)
 
--- there is no part, and the fault is the date's
+-- there is no part, and the error is the date's
 abbrev pub Refuses : ℕ → Refusing
 Refuses Y bytes r e =
     (reading Y bytes (with_leap_second r) ≡ None) × (date_over Y bytes (with_leap_second r) ≡ Err e)
 
--- ---- What values say in the words of a text of ISO 8601, which the short forms need
+-- ---- The numbers that an ISO 8601 text has for a value, which the short forms need
 
 -- a date, by its year, month and day
 abbrev pub date_said : Date → IsoDate
@@ -122,7 +121,7 @@ time_said t = record {
   subsecond = Times.nanosecond t;
 }
 
--- the offset that is said
+-- the offset of these numbers
 abbrev pub IsOffsetSaid : OffsetNumbers → UtcOffset → Type 0
 IsOffsetSaid Zulu o = IsUtc o
 IsOffsetSaid (Numeric hour minute) o =

@@ -1,6 +1,6 @@
 -- No public contract rests on this file.
 --
--- What is read of ISO 8601 after each part over a record. `Y` is the greatest year.
+-- The reading of ISO 8601 after each part, over a record. `Y` is the greatest year.
 use Rattle.std.specs.Prelude.{ℕ, List, true, false, Option, Some, None, option_map, unwrap_or, Result, Ok, Err}
 use Rattle.time_values.specs.Refusal.{Refusal}
 use Rattle.time_readers.specs.IsoPieces.{Found}
@@ -10,29 +10,29 @@ use Rattle.time_readers.specs.declared.iso8601.ExtendedKind.TheVariants.{Unknown
 use Rattle.time_record.specs.Record.{Record}
 use Rattle.time_parsing.specs.Iso8601.{date_over, time_over, offset_over}
 
--- after an offset, which is the last part: its kind no longer counts
+-- after an offset, which is the last part, so its kind is dropped
 abbrev pub after_offset : ℕ → ExtendedKind → List ℕ → Record → Option (List ℕ × Record)
 after_offset Y kind bytes r = option_map (λ o. (o.rest, o.value)) (offset_over Y kind bytes r)
 
--- after a time: an offset, or nothing
+-- after a time: an optional offset
 unfoldable pub after_time : ℕ → ExtendedKind → List ℕ → Record → List ℕ × Record
 after_time Y kind bytes r = unwrap_or (after_offset Y kind bytes r) (bytes, r)
 
--- after a date: a time and what stands after it, or nothing, and so no offset
+-- after a date: an optional time with what follows it; without a time there is no offset
 abbrev pub after_date : ℕ → Found Record → Option (Found Record) → List ℕ × Record
 after_date Y d (Some t) = after_time Y t.kind t.rest t.value
 after_date Y d None = (d.rest, d.value)
 
--- without a date, whose fault is given: a time and what stands after it, or an offset, or else the fault
+-- without a date, given its error: a time with what follows it, or an offset, or else that error
 abbrev pub without_date : ℕ → Refusal → List ℕ → Record → Option (Found Record) → Result (List ℕ × Record) Refusal
 without_date Y fault bytes r (Some t) = Ok (after_time Y t.kind t.rest t.value)
 without_date Y fault bytes r None = need (after_offset Y Unknown bytes r) fault (λ o. Ok o)
 
--- the text with a date, after which a time needs its `T`, or without one
+-- the text with a date, after which a time requires its `T`, or without a date
 abbrev pub date_or_none : ℕ → List ℕ → Record → Result (Found Record) Refusal → Result (List ℕ × Record) Refusal
 date_or_none Y bytes r (Ok d) = Ok (after_date Y d (time_over Y true d.kind d.rest d.value))
 date_or_none Y bytes r (Err fault) = without_date Y fault bytes r (time_over Y false Unknown bytes r)
 
--- all of them
+-- the whole reading
 unfoldable pub answer : ℕ → List ℕ → Record → Result (List ℕ × Record) Refusal
 answer Y bytes r = date_or_none Y bytes r (date_over Y bytes r)

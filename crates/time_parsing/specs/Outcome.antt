@@ -1,4 +1,4 @@
--- What a parse answers, over a format's reading and refusal, which are relations.
+-- The results of a parse, over a format's readings and errors, which are relations.
 use Rattle.std.specs.Prelude.{◌≡◌, ◌≢◌, ◌⊎◌, ◌↔◌, ℕ, List, [], Option, None, Some, Result, Ok, Err}
 use Rattle.std.specs.Borrow.{Bor}
 use Rattle.time_values.specs.Refusal.{Refusal, trailing, refusal_of}
@@ -7,62 +7,61 @@ use Rattle.time_values.specs.declared.offset_date_time.OffsetDateTime.{OffsetDat
 use Rattle.time_record.specs.Record.{Record, empty}
 use Rattle.time_record.specs.Resolution.{IsMoment}
 
--- what a format reads: bytes, the record before, the rest of the bytes, and the record after
+-- how a format reads: bytes, the record before, the rest of the bytes, and the record after
 abbrev pub Reading : Type 1
 Reading = List ℕ → Record → List ℕ → Record → Type 0
 
--- what a format refuses: bytes, the record before, and the refusal
+-- how a format rejects: bytes, the record before, and the error
 abbrev pub Refusing : Type 1
 Refusing = List ℕ → Record → Refusal → Type 0
 
--- what a record resolves to: a value, or the refusal of the record
+-- what a record resolves to: a value, or the error of the record
 abbrev pub Resolving : Type 0 → Type 1
 Resolving V = Record → Result V Refusal → Type 0
 
--- the record that a parse begins with: the defaults, or the empty one
+-- the initial record of a parse: the defaults, or the empty one
 abbrev pub begun : Option Record → Record
 begun None = empty
 begun (Some defaults) = defaults
 
--- a call's result, its refusal without where its text lies in memory
+-- a call's result, its error viewed without the address of its text
 abbrev pub seen : {V : Type 0} → Result V Parse → Result V Refusal
 seen (Ok v) = Ok v
 seen (Err e) = Err (refusal_of e)
 
--- A front of the bytes is read over the record up to the rest, and leaves the new record; or there is that refusal,
--- and the record is as it was.
+-- A front of the bytes is read over the record up to the rest, and produces the new record; or there is that error, and
+-- the record is unchanged.
 abbrev pub ParsesInto : Reading → Refusing → List ℕ → Record → Result (Bor (List ℕ)) Parse → Record → Type 0
 ParsesInto reads refuses bytes old (Ok rest) new = reads bytes old rest.now new
 ParsesInto reads refuses bytes old (Err e) new = refuses bytes old (refusal_of e) × (new ≡ old)
 
--- The whole of the bytes is read, and the record is that one; or there is that refusal, which for bytes that
--- remain is the one of trailing characters.
+-- All bytes are read, and that is the record; or there is that error, which is trailing characters if bytes remain.
 abbrev pub IsWhole : Reading → Refusing → List ℕ → Record → Result Record Refusal → Type 0
 IsWhole reads refuses bytes begin (Ok r) = reads bytes begin [] r
 IsWhole reads refuses bytes begin (Err e) =
     refuses bytes begin e ⊎ ((rest : List ℕ) × (r : Record) × reads bytes begin rest r × (rest ≢ []) × (e ≡ trailing))
 
--- The outcome of a parse: the value to which the record of the whole text resolves; or the refusal of the reading,
--- or the one of the record that was read.
+-- The outcome of a parse: the value to which the record of the whole text resolves; or the error of the reading, or
+-- that of the record that was read.
 abbrev pub IsOutcome : {V : Type 0} → Resolving V → Reading → Refusing → List ℕ → Record → Result V Refusal → Type 0
 IsOutcome resolves reads refuses bytes begin (Ok v) = (r : Record) × reads bytes begin [] r × resolves r (Ok v)
 IsOutcome resolves reads refuses bytes begin (Err e) =
     IsWhole reads refuses bytes begin (Err e) ⊎ ((r : Record) × reads bytes begin [] r × resolves r (Err e))
 
--- the result of a parse of a front, its refusal without where its text lies in memory
+-- the result of a parse of a front, its error viewed without the address of its text
 abbrev pub seen_front : {V : Type 0} → Result (V × Bor (List ℕ)) Parse → Result (V × List ℕ) Refusal
 seen_front (Ok x) = Ok (x.0, x.1.now)
 seen_front (Err e) = Err (refusal_of e)
 
 -- The outcome of a parse of a front: the value to which the record of a front of the bytes resolves, with the rest of
--- the bytes; or the refusal of the reading, or the one of the record that was read. Bytes that remain are no refusal.
+-- the bytes; or the error of the reading, or that of the record that was read. Bytes that remain are no error.
 abbrev pub IsFront : {V : Type 0} → Resolving V → Reading → Refusing → List ℕ → Record
     → Result (V × List ℕ) Refusal → Type 0
 IsFront resolves reads refuses bytes begin (Ok x) = (r : Record) × reads bytes begin x.1 r × resolves r (Ok x.0)
 IsFront resolves reads refuses bytes begin (Err e) =
     refuses bytes begin e ⊎ ((rest : List ℕ) × (r : Record) × reads bytes begin rest r × resolves r (Err e))
 
--- A format has one answer to a text over a record: one reading or one refusal, and never both.
+-- A format has one answer for a text over a record: one reading or one error, and never both.
 pub record IsExact (reads : Reading) (refuses : Refusing) : Type 0 where
   pub one_rest : (bytes : List ℕ) (r : Record) (x y : List ℕ) (p q : Record)
       → reads bytes r x p → reads bytes r y q → x ≡ y
@@ -86,13 +85,13 @@ OneFront {V} resolves reads refuses =
     → IsFront resolves reads refuses bytes begin result
     → IsFront resolves reads refuses bytes begin other → result ≡ other
 
--- how a format reads a moment where no defaults are given: over a record, as all else, or directly, with these refusals
+-- how a format parses a moment without defaults: over a record, like all else, or directly, with these errors
 pub data Path : Type 1 where
   over_record : Path
   direct : (List ℕ → Refusal → Type 0) → Path
 
--- The outcome of a parse of a moment. On a direct path it is the moment that the text has over an empty record, and
--- where it has none the direct refusal. With defaults each path is over them.
+-- The outcome of a parse of a moment. On a direct path it is the moment that the text has over an empty record, or the
+-- direct error if it has none. With defaults each path parses over them.
 abbrev pub IsMomentOutcome : ℕ → Path → Reading → Refusing → List ℕ → Option Record
     → Result OffsetDateTime Refusal → Type 0
 IsMomentOutcome Y (direct refused) reads refuses bytes None (Ok v) =
@@ -103,7 +102,7 @@ IsMomentOutcome Y (direct refused) reads refuses bytes (Some defaults) result =
 IsMomentOutcome Y over_record reads refuses bytes defaults result =
     IsOutcome (IsMoment Y) reads refuses bytes (begun defaults) result
 
--- a direct path refuses a text once, and none of which the record has a moment
+-- a direct path has one error for a text, and none for a text whose record has a moment
 abbrev pub IsExactPath : ℕ → Path → Reading → Refusing → Type 0
 IsExactPath Y over_record reads refuses = Unit {0}
 IsExactPath Y (direct refused) reads refuses =
@@ -118,7 +117,7 @@ OneMomentOutcome Y path reads refuses =
     → IsMomentOutcome Y path reads refuses bytes defaults result
     → IsMomentOutcome Y path reads refuses bytes defaults other → result ≡ other
 
--- the direct path makes the moments that the record has
+-- the direct path returns exactly the moments of the record
 abbrev pub SameMoments : ℕ → Reading → Refusing → (List ℕ → OffsetDateTime → Type 0) → Type 0
 SameMoments Y reads refuses direct_moment =
     (bytes : List ℕ) (v : OffsetDateTime)

@@ -1,4 +1,4 @@
--- The mail dates of RFC 2822, read over a record. `Y` is the greatest year.
+-- The mail dates of RFC 2822, parsed over a record. `Y` is the greatest year.
 use Rattle.std.specs.Prelude.{◌≡◌, ℕ, List, [], ◌∷◌, ◌++◌, true, Option, Some, None, pos}
 use Rattle.time_values.specs.declared.weekday.Weekday.{Weekday}
 use Rattle.time_readers.specs.Rfc2822.{HasForm, FailsAt, fault}
@@ -9,7 +9,7 @@ use Rattle.time_record.specs.Record.{Entry, put_all, weekday_is, year_is, month_
 use Rattle.time_parsing.specs.Outcome.{Reading, Refusing}
 use Rattle.time_parsing.specs.Rfc3339.{without_offset_sign, with_leap_second}
 
--- the entry of a weekday, where one stands
+-- the entry of a weekday, if there is one
 abbrev pub weekday_entries : Option Weekday → List Entry
 weekday_entries None = []
 weekday_entries (Some v) = weekday_is v ∷ []
@@ -18,7 +18,7 @@ weekday_entries (Some v) = weekday_is v ∷ []
 abbrev pub date_entries : Numbers → List Entry
 date_entries n = weekday_entries n.weekday ++ day_is n.day ∷ month_is n.month ∷ year_is (pos n.year) ∷ []
 
--- the entry of a second, where one stands
+-- the entry of a second, if there is one
 abbrev pub second_entries : Option ℕ → List Entry
 second_entries None = []
 second_entries (Some v) = second_is v ∷ []
@@ -27,8 +27,8 @@ second_entries (Some v) = second_is v ∷ []
 abbrev pub time_entries : Numbers → List Entry
 time_entries n = hour_24_is n.hour ∷ minute_is n.minute ∷ second_entries n.second
 
--- The entries of an offset: of a zone name its hour, and 0 as minute and second; of a numeric one, which has a sign,
--- its hour and minute, and no second.
+-- The entries of an offset: for a zone name its hour, and 0 as minute and second; for a numeric offset, which has a
+-- sign, its hour and minute, and no second.
 abbrev pub offset_entries : Option Sign → Numbers → List Entry
 offset_entries None n = offset_hour_is n.offset_hour ∷ offset_minute_is (pos 0) ∷ offset_second_is (pos 0) ∷ []
 offset_entries (Some sign) n = offset_hour_is n.offset_hour ∷ offset_minute_is n.offset_minute ∷ []
@@ -37,13 +37,13 @@ offset_entries (Some sign) n = offset_hour_is n.offset_hour ∷ offset_minute_is
 abbrev pub entries : Numbers → List Entry
 entries n = date_entries n ++ time_entries n ++ offset_entries n.offset_sign n
 
--- A front of the bytes is the fifteen places' texts, each of its form and in its range. Their numbers are put into the
--- record, which allows a leap second, and keeps no sign of an offset from before.
+-- A front of the bytes is the texts of the fifteen places, each of its form and in its range. Their numbers are stored
+-- in the record, which allows a leap second, and keeps no earlier offset's sign.
 abbrev pub Reads : ℕ → Reading
 Reads Y bytes r rest new =
     (n : Numbers) × HasForm true bytes rest n
     × (put_all Y (entries n) (with_leap_second (without_offset_sign r)) ≡ Some new)
 
--- the fault of the first place whose form or range doesn't stand
+-- the error of the first place whose form or range is violated
 abbrev pub Refuses : ℕ → Refusing
 Refuses Y bytes r e = (p : Place) × FailsAt true bytes p × (e ≡ fault p)

@@ -1,4 +1,4 @@
--- RFC 3339, read over a record. `Y` is the greatest year.
+-- RFC 3339, parsed over a record. `Y` is the greatest year.
 use Rattle.std.specs.Prelude.{◌≡◌, ℕ, List, [], ◌∷◌, ◌++◌, true, false, if◌then◌else◌, Option, Some, None, pos}
 use Rattle.time_values.specs.Names.{month_number}
 use Rattle.time_values.specs.Sign.{signed_by}
@@ -9,11 +9,11 @@ use Rattle.time_readers.specs.declared.rfc3339.Place.{Place}
 use Rattle.time_record.specs.Record.{Record, Entry, put_all, year_is, month_is, day_is, hour_24_is, minute_is, second_is, subsecond_is, offset_hour_is, offset_minute_is, offset_second_is}
 use Rattle.time_parsing.specs.Outcome.{Reading, Refusing}
 
--- the entries of a date, of which m is the month
+-- the entries of a date, whose month is m
 abbrev pub date_entries : Numbers → Month → List Entry
 date_entries n m = year_is (pos n.year) ∷ month_is m ∷ day_is n.day ∷ []
 
--- the entry of a fraction, where one stands
+-- the entry of a fraction, if there is one
 abbrev pub subsecond_entries : Option ℕ → List Entry
 subsecond_entries None = []
 subsecond_entries (Some v) = subsecond_is v ∷ []
@@ -22,23 +22,23 @@ subsecond_entries (Some v) = subsecond_is v ∷ []
 abbrev pub time_entries : Numbers → List Entry
 time_entries n = hour_24_is n.hour ∷ minute_is n.minute ∷ second_is n.second ∷ subsecond_entries n.subsecond
 
--- the entries of a numeric offset, which says no second: its hour and minute, with its sign
+-- the entries of a numeric offset, which has no second: its hour and minute, with its sign
 abbrev pub numeric_offset_entries : Numbers → List Entry
 numeric_offset_entries n =
     offset_hour_is (signed_by n.offset_is_negative (pos n.offset_hour))
     ∷ offset_minute_is (signed_by n.offset_is_negative (pos n.offset_minute))
     ∷ []
 
--- the entries of an offset, of which `Z` also says the second, 0
+-- the entries of an offset; `Z` also determines the second, 0
 abbrev pub offset_entries : Numbers → List Entry
 offset_entries n =
     if n.is_utc then numeric_offset_entries n ++ offset_second_is (pos 0) ∷ [] else numeric_offset_entries n
 
--- the entries of the numbers, of which m is the month, in the order of the places
+-- the entries of the numbers, whose month is m, in the order of the places
 abbrev pub entries : Numbers → Month → List Entry
 entries n m = date_entries n m ++ time_entries n ++ offset_entries n
 
--- the record without the sign that an offset hour of a description had left
+-- the record without the sign that an offset hour of a description left
 abbrev pub without_offset_sign : Record → Record
 without_offset_sign r = record r { offset_is_negative = false }
 
@@ -46,13 +46,13 @@ without_offset_sign r = record r { offset_is_negative = false }
 abbrev pub with_leap_second : Record → Record
 with_leap_second r = record r { leap_second_allowed = true }
 
--- A front of the bytes is the fifteen places' texts, each of its form and in its range. Their numbers are put into the
--- record, which allows a leap second, and keeps no sign of an offset from before.
+-- A front of the bytes is the texts of the fifteen places, each of its form and in its range. Their numbers are stored
+-- in the record, which allows a leap second, and keeps no earlier offset's sign.
 abbrev pub Reads : ℕ → Reading
 Reads Y bytes r rest new =
     (n : Numbers) × (m : Month) × HasForm true bytes rest n × (month_number m ≡ n.month)
     × (put_all Y (entries n m) (with_leap_second (without_offset_sign r)) ≡ Some new)
 
--- the fault of the first place whose form or range doesn't stand
+-- the error of the first place whose form or range is violated
 abbrev pub Refuses : ℕ → Refusing
 Refuses Y bytes r e = (p : Place) × FailsAt true bytes p × (e ≡ fault p)

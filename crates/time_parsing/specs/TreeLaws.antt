@@ -1,4 +1,4 @@
--- Laws of reading trees. `Y` is the greatest year.
+-- Laws about reading trees. `Y` is the greatest year.
 use Rattle.std.specs.Prelude.{◌≡◌, ◌↔◌, ◌⊎◌, ℕ, List, [], ◌∷◌, ◌++◌, Result, Ok, Err}
 use Rattle.std.specs.Borrow.{Bor}
 use Rattle.time_values.specs.Refusal.{Refusal, refusal_of_description}
@@ -8,7 +8,7 @@ use Rattle.time_record.specs.Reading.{Answers, Clean, unmarked, Reads, Refuses}
 use Rattle.time_record.specs.Record.{Record, IsInRanges}
 use Rattle.time_parsing.specs.Outcome.{Reading}
 
--- Reading a list that is two joined is reading the one, and then the other on what the one left.
+-- A list that joins two lists reads as the first, and then as the second on what the first leaves.
 abbrev pub JoinedReads : ℕ → Type 0
 JoinedReads Y =
     (xs ys : List Tree) (bytes : List ℕ) (r : Record) (rest : List ℕ) (q : Record)
@@ -16,25 +16,25 @@ JoinedReads Y =
     ↔ ((mid : List ℕ) × (m : Record) × Reads Y (sequence (trees xs)) bytes r mid m
     × Reads Y (sequence (trees ys)) mid m rest q)
 
--- the one is refused so, or the other on what the one left
+-- the first list has this error, or the second has it on what the first leaves
 abbrev pub EitherRefuses : ℕ → List Tree → List Tree → List ℕ → Record → Refusal → Type 0
 EitherRefuses Y xs ys bytes r e =
     Refuses Y (sequence (trees xs)) bytes r e
     ⊎ ((mid : List ℕ) × (m : Record) × Reads Y (sequence (trees xs)) bytes r mid m
     × Refuses Y (sequence (trees ys)) mid m e)
 
--- It is refused where either of them is, and with that fault.
+-- The joined list is rejected if and only if either list is, with that error.
 abbrev pub JoinedRefuses : ℕ → Type 0
 JoinedRefuses Y =
     (xs ys : List Tree) (bytes : List ℕ) (r : Record) (e : Refusal)
     → Refuses Y (sequence (trees (xs ++ ys))) bytes r e ↔ EitherRefuses Y xs ys bytes r e
 
--- what the one tree reads of the bytes over the record, the other reads too, and its faults are the same
+-- the trees have equal readings and equal errors for these bytes and this record
 pub record AlikeOn (Y : ℕ) (t u : Tree) (bytes : List ℕ) (r : Record) : Type 0 where
   pub reads : (rest : List ℕ) (q : Record) → Reads Y t bytes r rest q ↔ Reads Y u bytes r rest q
   pub refuses : (e : Refusal) → Refuses Y t bytes r e ↔ Refuses Y u bytes r e
 
--- the same of all bytes and records
+-- the trees have equal readings and equal errors for all bytes and records
 abbrev pub Alike : ℕ → Tree → Tree → Type 0
 Alike Y t u = (bytes : List ℕ) (r : Record) → AlikeOn Y t u bytes r
 
@@ -45,16 +45,16 @@ Flattens Y =
     → Alike Y (sequence (trees (before ++ sequence (trees inside) ∷ behind)))
     (sequence (trees (before ++ (inside ++ behind))))
 
--- An optional tree is the first of it and the empty list.
+-- An optional tree is a choice of it and the empty list.
 abbrev pub OptionalAsFirst : ℕ → Type 0
 OptionalAsFirst Y = (t : Tree) → Alike Y (optional t) (first_of (trees (t ∷ sequence none ∷ [])))
 
--- what an item answers, without where it lies in memory
+-- an item's result, viewed without its address
 abbrev pub told : Result (Bor (List ℕ)) ParseFromDescription → Result (List ℕ) Refusal
 told (Ok rest) = Ok rest.now
 told (Err e) = Err (refusal_of_description e)
 
--- Where either of them is refused, the list's answer is that fault, and the record is as it was before both.
+-- If either list is rejected, the joined list has that error, and the record is unchanged.
 abbrev pub JoinedLeaves : ℕ → Type 0
 JoinedLeaves Y =
     (xs ys : List Tree) (bytes : List ℕ) (old new : Record) (e : Refusal)
@@ -62,28 +62,28 @@ JoinedLeaves Y =
     → EitherRefuses Y xs ys bytes old e → Answers Y (sequence (trees (xs ++ ys))) bytes old result new
     → (told result ≡ Err e) × (new ≡ old)
 
--- Equal trees answer the same, and leave the same record.
+-- Equal trees give equal results, and leave equal records.
 abbrev pub AnswersAlike : ℕ → Tree → Tree → Type 0
 AnswersAlike Y t u =
     (bytes : List ℕ) (old : Record) (result other : Result (Bor (List ℕ)) ParseFromDescription) (new other_new : Record)
     → t ≡ u → Answers Y t bytes old result new → Answers Y u bytes old other other_new
     → (told result ≡ told other) × (new ≡ other_new)
 
--- Where no `Ignore` ends inside a character, it makes no difference which of them are marked to end between two.
+-- If no `Ignore` ends inside a character, a mark to end between characters makes no difference.
 abbrev pub WholeCharacters : ℕ → Type 0
 WholeCharacters Y =
     (t u : Tree) (bytes : List ℕ) (r : Record) → unmarked t ≡ u → Clean Y u bytes r → AlikeOn Y t u bytes r
 
--- What is left is a suffix of what was there.
+-- What is left is a suffix of the bytes.
 abbrev pub LeavesSuffix : ℕ → Type 0
 LeavesSuffix Y =
     (t : Tree) (bytes : List ℕ) (r : Record) (rest : List ℕ) (q : Record)
     → Reads Y t bytes r rest q → (front : List ℕ) × (bytes ≡ front ++ rest)
 
--- ---- What stays read where the range of years grows. `Y` is the greatest year of the narrower range, and `Z` of the
+-- ---- Readings that are kept in a wider range of years. `Y` is the greatest year of the narrower range, and `Z` of the
 -- wider.
 
--- a tree in which nothing is optional, and nothing is one of some
+-- a tree without an optional tree, and without a choice
 abbrev mutual
   pub HasNoChoice : Tree → Type 0
   HasNoChoice (literal t) = Unit {0}
@@ -96,16 +96,16 @@ abbrev mutual
   HaveNoChoice none = Unit {0}
   HaveNoChoice (more t ts) = HasNoChoice t × HaveNoChoice ts
 
--- Each reading of such a tree stays one, with the same rest and record.
+-- Each reading of such a tree is kept, with its rest and record.
 abbrev pub KeepsReadings : ℕ → ℕ → Type 0
 KeepsReadings Y Z =
     (t : Tree) → HasNoChoice t → (bytes : List ℕ) (r : Record) (rest : List ℕ) (q : Record)
     → Reads Y t bytes r rest q → Reads Z t bytes r rest q
 
--- Each text that a format read whole it reads whole, with the same record.
+-- Each text that the format read whole is still read whole, with its record.
 abbrev pub KeepsTexts : Reading → Reading → Type 0
 KeepsTexts before now = (bytes : List ℕ) (r q : Record) → before bytes r [] q → now bytes r [] q
 
--- Each record stays one.
+-- Each record in the narrower range is in the wider one.
 abbrev pub KeepsRecords : ℕ → ℕ → Type 0
 KeepsRecords Y Z = (r : Record) → IsInRanges Y r → IsInRanges Z r

@@ -1,4 +1,4 @@
--- Texts of RFC 3339 and RFC 2822 that were written, and are read.
+-- Written texts of RFC 3339 and RFC 2822, which are parsed back.
 use Rattle.std.specs.Prelude.{◌≡◌, ℕ, ◌-◌, ◌*◌, ◌/◌, ◌^◌, ◌<◌, List, None, Ok, pos, neg_ℤ, ◌++◌, codes, Some, ◌≢◌}
 use Rattle.time_values.specs.Moments.{offset_date, offset_time, offset_of, offset_instant, utc_date, utc_instant}
 use Rattle.time_values.specs.Times as Times
@@ -16,11 +16,11 @@ use Rattle.time_record.specs.Record.{empty}
 use Rattle.time_record.specs.Resolution.{IsMoment, IsUtcMoment}
 use Rattle.time_parsing.specs.Outcome.{IsOutcome, IsMomentOutcome, Path, Reading, Refusing}
 
--- the nanoseconds that the first k of nine digits say
+-- the nanoseconds that the first k of nine digits represent
 abbrev pub kept : ℕ → ℕ → ℕ
 kept k n = n / 10 ^ (9 - k) * 10 ^ (9 - k)
 
--- the moment is that one, of whose fraction k digits are kept
+-- the second moment is the first with k digits of its fraction
 pub record IsCut (k : ℕ) (v w : OffsetDateTime) : Type 0 where
   pub date : offset_date w ≡ offset_date v
   pub clock : Times.HasSecond (offset_time v) (kept k (Times.nanosecond (offset_time v))) (offset_time w)
@@ -30,8 +30,8 @@ pub record IsCut (k : ℕ) (v w : OffsetDateTime) : Type 0 where
 abbrev pub written : FractionDigits → OffsetDateTime → ℕ
 written digits v = count_of digits (Times.nanosecond (offset_time v))
 
--- The text of a moment is read back as that moment but for the digits that aren't written, with defaults of nothing, on
--- the format's path and over a record.
+-- The text of a moment parses back as that moment except for the digits that aren't written, without defaults, on the
+-- format's path and over a record.
 abbrev pub ReadsBack : ℕ → Path → Reading → Refusing → Type 0
 ReadsBack Y path reads refuses =
     (digits : FractionDigits) (v w : OffsetDateTime)
@@ -39,11 +39,11 @@ ReadsBack Y path reads refuses =
     → IsMomentOutcome Y path reads refuses (moment_text (written digits v) v) None (Ok w)
     × IsOutcome (IsMoment Y) reads refuses (moment_text (written digits v) v) empty (Ok w)
 
--- No digit is cut off that isn't 0.
+-- Only zeros are dropped.
 abbrev pub KeepsAll : FractionDigits → Type 0
 KeepsAll digits = (n : ℕ) → n < 1_000_000_000 → kept (count_of digits n) n ≡ n
 
--- Moments of one text are one, but for the digits that aren't written.
+-- Moments with equal texts are equal, except for the digits that aren't written.
 abbrev pub OneText : Type 0
 OneText =
     (digits others : FractionDigits) (v w a b : OffsetDateTime)
@@ -51,14 +51,14 @@ OneText =
     → unwritable_3339 w ≡ None → IsCut (written others w) w b
     → moment_text (written digits v) v ≡ moment_text (written others w) w → a ≡ b
 
--- Moments of one text with as many digits as each has are one.
+-- Moments with equal texts are equal, if as many digits are written as each has.
 abbrev pub OneShortText : Type 0
 OneShortText =
     (v w : OffsetDateTime)
     → unwritable_3339 v ≡ None → unwritable_3339 w ≡ None
     → moment_text (written Auto v) v ≡ moment_text (written Auto w) w → v ≡ w
 
--- The text of a mail date is read back as that moment without its fraction.
+-- The text of a mail date parses back as that moment without its fraction.
 abbrev pub ReadsMailBack : ℕ → Path → Reading → Refusing → Type 0
 ReadsMailBack Y path reads refuses =
     (v w : OffsetDateTime) (bytes : List ℕ)
@@ -66,8 +66,8 @@ ReadsMailBack Y path reads refuses =
     → IsMomentOutcome Y path reads refuses bytes None (Ok w)
     × IsOutcome (IsMoment Y) reads refuses bytes empty (Ok w)
 
--- ---- The canonical text of a moment by RFC 3339, section 5.6: with nine digits of a fraction, and an offset in UTC
--- too.
+-- ---- The canonical text of a moment by RFC 3339, section 5.6: with nine digits of a fraction, and with an offset in
+-- UTC too.
 
 -- `YYYY-MM-DDTHH:MM:SS.nnnnnnnnn+HH:MM`, with `-` for an offset behind UTC
 abbrev pub canonical_text : OffsetDateTime → List ℕ
@@ -81,17 +81,17 @@ pub record HasCanonicalText (v : OffsetDateTime) : Type 0 where
   pub hours : IsBetween (neg_ℤ (pos 23)) (pos 23) (Offsets.hours (offset_of v))
   pub whole_minutes : Offsets.seconds (offset_of v) ≡ pos 0
 
--- The text is read back as that moment, without defaults, and with those of an empty record.
+-- The canonical text parses back as that moment, without defaults, and over an empty record.
 abbrev pub ReadsCanonicalBack : ℕ → Path → Reading → Refusing → Type 0
 ReadsCanonicalBack Y path reads refuses =
     (v : OffsetDateTime) → HasCanonicalText v
     → IsMomentOutcome Y path reads refuses (canonical_text v) None (Ok v)
     × IsMomentOutcome Y path reads refuses (canonical_text v) (Some empty) (Ok v)
 
--- ---- Texts of ISO 8601 that were written, and are read
+-- ---- Written texts of ISO 8601, which are parsed back
 
--- The basic text of a moment is read back as that moment without its fraction, with defaults of nothing, on the
--- format's path and over a record.
+-- The basic text of a moment parses back as that moment without its fraction, without defaults, on the format's path
+-- and over a record.
 abbrev pub ReadsBasicBack : ℕ → Path → Reading → Refusing → Type 0
 ReadsBasicBack Y path reads refuses =
     (v w : OffsetDateTime)
@@ -99,56 +99,56 @@ ReadsBasicBack Y path reads refuses =
     → IsMomentOutcome Y path reads refuses (basic_text v) None (Ok w)
     × IsOutcome (IsMoment Y) reads refuses (basic_text v) empty (Ok w)
 
--- ---- Texts of moments that were written, and are read as dates and times in UTC
+-- ---- Written texts of moments, which are parsed as dates and times in UTC
 
--- the date and time in UTC of the moment, of whose fraction k digits are kept
+-- the date and time in UTC of the moment with k digits of its fraction
 abbrev pub IsUtcCut : ℕ → ℕ → OffsetDateTime → UtcDateTime → Type 0
 IsUtcCut Y k v u =
     (w : OffsetDateTime) × IsCut k v w × (utc_instant Y u ≡ offset_instant Y w) × IsDateWithin Y (utc_date u)
 
--- The text of a moment is read back as its date and time in UTC, but for the digits that aren't written.
+-- The text of a moment parses back as its date and time in UTC, except for the digits that aren't written.
 abbrev pub ReadsUtcBack : ℕ → Reading → Refusing → Type 0
 ReadsUtcBack Y reads refuses =
     (digits : FractionDigits) (v : OffsetDateTime) (u : UtcDateTime)
     → unwritable_3339 v ≡ None → IsUtcCut Y (written digits v) v u
     → IsOutcome (IsUtcMoment Y) reads refuses (moment_text (written digits v) v) empty (Ok u)
 
--- the basic text, without the fraction
+-- the basic text parses back without the fraction
 abbrev pub ReadsBasicUtcBack : ℕ → Reading → Refusing → Type 0
 ReadsBasicUtcBack Y reads refuses =
     (v : OffsetDateTime) (u : UtcDateTime)
     → unwritable_3339 v ≡ None → IsUtcCut Y 0 v u
     → IsOutcome (IsUtcMoment Y) reads refuses (basic_text v) empty (Ok u)
 
--- the text of a mail date, without the fraction
+-- the text of a mail date parses back without the fraction
 abbrev pub ReadsMailUtcBack : ℕ → Reading → Refusing → Type 0
 ReadsMailUtcBack Y reads refuses =
     (v : OffsetDateTime) (u : UtcDateTime) (bytes : List ℕ)
     → unwritable_2822 v ≡ None → IsUtcCut Y 0 v u → IsMailText v bytes
     → IsOutcome (IsUtcMoment Y) reads refuses bytes empty (Ok u)
 
--- ---- Which moments have one text of RFC 2822, or of ISO 8601
+-- ---- Which moments have equal texts of RFC 2822, or of ISO 8601
 
--- moments of one mail date are one, but for their fractions
+-- moments with equal mail dates are equal, except for their fractions
 abbrev pub OneMailText : Type 0
 OneMailText =
     (v w a b : OffsetDateTime) (bytes : List ℕ)
     → unwritable_2822 v ≡ None → IsCut 0 v a → IsMailText v bytes
     → unwritable_2822 w ≡ None → IsCut 0 w b → IsMailText w bytes → a ≡ b
 
--- moments of one extended text are one
+-- moments with equal extended texts are equal
 abbrev pub OneExtendedText : Type 0
 OneExtendedText =
     (v w : OffsetDateTime)
     → unwritable_3339 v ≡ None → unwritable_3339 w ≡ None → moment_text 9 v ≡ moment_text 9 w → v ≡ w
 
--- moments of one basic text are one, but for their fractions
+-- moments with equal basic texts are equal, except for their fractions
 abbrev pub OneBasicText : Type 0
 OneBasicText =
     (v w a b : OffsetDateTime)
     → unwritable_3339 v ≡ None → IsCut 0 v a → unwritable_3339 w ≡ None → IsCut 0 w b
     → basic_text v ≡ basic_text w → a ≡ b
 
--- no text is extended and basic
+-- no text is both extended and basic
 abbrev pub ExtendedOrBasic : Type 0
 ExtendedOrBasic = (v w : OffsetDateTime) → moment_text 9 v ≢ basic_text w

@@ -1,4 +1,4 @@
--- What only the proofs need that a parse is exact. What a text means is said in the files beside this one.
+-- What only the proofs need to show that a parse is exact. The files beside this one define what a text means.
 
 pub mod Laws
 pub mod RecordedRfc2822

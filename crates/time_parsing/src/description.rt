@@ -15,11 +15,11 @@ use time_record::{AnyFormatItem, Parsed};
 use time_values::OffsetDateTime;
 use time_values::error::Parse;
 
-/// Items that are read one after another, as a format.
+/// Items that are parsed one after another, as a format.
 #[derive(Clone, Copy, Debug)]
 pub struct Items<'a, I>(pub &'a [I]);
 
-// Reads a front of the input by an item over the record, and answers the unread rest.
+// Reads a front of the input by an item over the record, and returns the unread rest.
 fn read_item<'a, I: AnyFormatItem>(
     item: &I,
     input: &'a [u8],

@@ -1,7 +1,7 @@
-//! The format of ISO 8601, read over a record.
+//! The format of ISO 8601, parsed over a record.
 //!
-//! `fast` makes a date and time, or a moment, of the numbers of a whole text, with no record, and is asked first where
-//! there are no defaults: what it doesn't answer is read over the record.
+//! If there are no defaults, `fast` is tried first: it makes a date and time, or a moment, directly from the numbers of
+//! a whole text. A text that `fast` doesn't parse is parsed over the record.
 ghost use Rattle.std.specs.Prelude.{◌≡◌, MatchOption, MatchResult, Some, None, false, true, Ok, Err};
 ghost use Rattle.time_values.specs.Calendar.{greatest_year};
 ghost use Rattle.time_values.specs.Refusal.{refusal_of_description};
@@ -27,24 +27,24 @@ use time_values::{OffsetDateTime, PlainDateTime};
 
 /// The format of ISO 8601, as `2021-01-02T03:04:05Z` or `20210102T030405Z`.
 ///
-/// A text is a date or nothing, a time or nothing, and an offset or nothing, and at least one of them. A date
-/// is of the calendar, as `2021-01-02`, by the day of the year, as `2021-002`, or by the week, as `2020-W53-6`.
-/// A time has an hour, and may have a minute and a second; the last of them may have a fraction of any number
-/// of digits, after `.` or `,`, and omitted parts are 0. After a date it needs its `T`. A leap second may
-/// stand in it. An offset is `Z`, or an hour with a sign, as `-05`, which may have a minute; such an offset
-/// leaves the second of the defaults. After a date an offset needs a time before it.
+/// A text is an optional date, an optional time and an optional offset, and at least one of them. A date is of the
+/// calendar, as `2021-01-02`, by the day of the year, as `2021-002`, or by the week, as `2020-W53-6`. A time has an
+/// hour, and may have a minute and a second; the last of them may have a fraction of any number of digits, after `.` or
+/// `,`, and omitted parts are 0. After a date it requires its `T`. It may be a leap second. An offset is `Z`, or an
+/// hour with a sign, as `-05`, which may have a minute; such an offset keeps the second of the defaults. After a date
+/// an offset requires a time before it.
 ///
-/// A text is basic, without separators, or extended, with them. The first part that shows which of them settles
-/// it for those after it: in a basic text no colon is read, and in an extended one the colon before a minute may
-/// still be omitted. A part that can't be parsed settles nothing, and the record is unchanged.
+/// A text is basic, without separators, or extended, with them. The first part that shows which one it is determines it
+/// for the parts after it: in a basic text no colon is read, and in an extended one the colon before a minute may still
+/// be omitted. A part that can't be parsed determines nothing, and leaves the record unchanged.
 ///
-/// Where none of the three can be read the refusal is the date's: an invalid component `year`, `month`, `day`,
-/// `ordinal`, `week` or `weekday`, or an invalid literal, where a `-` is missing. A day above 31, an ordinal
-/// above 366 and a week above 53 refuse the date, and no other form of it is tried then.
+/// If none of the three can be parsed, the error is the date's: an invalid component `year`, `month`, `day`, `ordinal`,
+/// `week` or `weekday`, or an invalid literal, if a `-` is missing. A day above 31, an ordinal above 366 or a week
+/// above 53 rejects the date, and then no other form of a date is tried.
 #[derive(Clone, Copy, Debug, PartialEq, Eq)]
 pub struct Iso8601;
 
-// Puts what a date says, or answers the fault of the first value that is out of its range, and puts nothing.
+// Stores a date's numbers. If one is out of its range, returns the error of the first such number, and stores nothing.
 #[inline(always)]
 fn put_date(numbers: DateNumbers, parsed: &mut Parsed) -> Result<(), ParseFromDescription>
     ensures { MatchResult result
@@ -87,7 +87,7 @@ fn put_date(numbers: DateNumbers, parsed: &mut Parsed) -> Result<(), ParseFromDe
     Ok(())
 }
 
-// Puts what a time says, or nothing.
+// Stores a time's numbers, or nothing.
 #[inline(always)]
 fn put_time(numbers: TimeNumbers, parsed: &mut Parsed) -> Option<()>
     ensures { MatchOption result
@@ -108,7 +108,7 @@ fn put_time(numbers: TimeNumbers, parsed: &mut Parsed) -> Option<()>
     Some(())
 }
 
-// Puts what an offset says, and forgets the sign that an offset hour of a description had left; or puts nothing.
+// Stores an offset's numbers, and clears the sign that an offset hour of a description left; or changes nothing.
 #[inline(always)]
 fn put_offset(numbers: OffsetNumbers, parsed: &mut Parsed) -> Option<()>
     ensures { MatchOption result
@@ -136,7 +136,7 @@ fn put_offset(numbers: OffsetNumbers, parsed: &mut Parsed) -> Option<()>
     Some(())
 }
 
-// Reads a date over the record, and answers the rest and the kind after it.
+// Reads a date over the record, and returns the rest and the kind after it.
 #[inline(always)]
 fn date_over<'a>(
     input: &'a [u8],
@@ -157,7 +157,7 @@ fn date_over<'a>(
     }
 }
 
-// Reads a time of that kind over the record, and answers the rest and the kind after it.
+// Reads a time of that kind over the record, and returns the rest and the kind after it.
 #[inline(always)]
 fn time_over<'a>(
     input: &'a [u8],
@@ -175,7 +175,7 @@ fn time_over<'a>(
     Some((found.rest, found.kind))
 }
 
-// Reads an offset of that kind over the record, and answers the rest. No part that needs its kind follows.
+// Reads an offset of that kind over the record, and returns the rest. No later part needs the offset's kind.
 #[inline(always)]
 fn offset_over<'a>(input: &'a [u8], parsed: &mut Parsed, kind: ExtendedKind) -> Option<&'a [u8]>
     ensures { MatchOption result
@@ -187,7 +187,7 @@ fn offset_over<'a>(input: &'a [u8], parsed: &mut Parsed, kind: ExtendedKind) -> 
     Some(found.rest)
 }
 
-// Reads an offset after a time, or nothing, and answers the rest.
+// Reads an optional offset after a time, and returns the rest.
 #[inline(always)]
 fn after_time<'a>(input: &'a [u8], parsed: &mut Parsed, kind: ExtendedKind) -> &'a [u8]
     ensures { steps.after_time greatest_year kind input.now parsed.old ≡ (result.now, parsed.new) }
@@ -198,7 +198,7 @@ fn after_time<'a>(input: &'a [u8], parsed: &mut Parsed, kind: ExtendedKind) -> &
     }
 }
 
-// Reads the parts of a text without a date, whose fault is given.
+// Reads the parts of a text without a date; `fault` is the error of its date.
 #[inline(never)]
 fn without_date<'a>(
     input: &'a [u8],
@@ -220,7 +220,7 @@ fn without_date<'a>(
     }
 }
 
-// Reads the parts of a text over the record, or answers the date's fault where none can be read.
+// Reads the parts of a text over the record. If none can be read, returns the date's error.
 #[inline(always)]
 fn read<'a>(input: &'a [u8], parsed: &mut Parsed) -> Result<&'a [u8], ParseFromDescription>
     ensures { MatchResult result
@@ -237,7 +237,8 @@ fn read<'a>(input: &'a [u8], parsed: &mut Parsed) -> Result<&'a [u8], ParseFromD
     }
 }
 
-// The moment of a whole text over the defaults. The record begins here, so that none is laid out before a short cut.
+// The moment of a whole text over the defaults. The record is created in this function, so that a short cut before it
+// doesn't pay for one.
 #[inline(always)]
 fn moment_over(input: &[u8], defaults: Option<Parsed>) -> Result<OffsetDateTime, Parse>
     ensures { IsOutcome (IsMoment greatest_year) (spec.Reads greatest_year) (spec.Refuses greatest_year) input.now

@@ -1,4 +1,4 @@
-//! Laws of parsing: each function does nothing, and its contract is the law.
+//! Laws about parsing: each function does nothing, and its contract is the law.
 ghost use Rattle.time_values.specs.Calendar.{greatest_year};
 ghost use Rattle.time_record.specs.Resolution.{IsDated, IsTimed, IsOffset, IsPlain, IsUtcMoment, IsMoment, IsTimestamp};
 ghost use Rattle.time_descriptions.specs.Description.{shape};
@@ -37,21 +37,21 @@ pub fn law_two_paths()
         (IsDirectRfc2822 greatest_year) }
 {}
 
-/// A list that is two lists joined reads as the one, and then as the other on what the one left. It is refused where
-/// either of them is, with that fault; and the record is then unchanged, as after every refusal.
+/// A list that joins two lists reads as the first, and then as the second on what the first leaves. It is rejected if
+/// either is, with that error, and the record is then unchanged, as after every error.
 pub fn law_joined_lists()
     ensures reads { JoinedReads greatest_year }
     ensures refuses { JoinedRefuses greatest_year }
     ensures leaves { JoinedLeaves greatest_year }
 {}
 
-/// A list inside a list may be flattened: the same is read, and the same is refused.
+/// Flattening a list inside a list changes no reading and no error.
 #[tactic(auto, using(crate::proofs::TreeLemmas::flattens))]
 pub fn law_flattened()
     ensures { Flattens greatest_year }
 {}
 
-/// An optional item reads as the first of it and the empty list, and neither is ever refused.
+/// An optional item reads as a choice of it and the empty list, and neither is ever rejected.
 #[tactic(auto, using(crate::proofs::TreeLemmas::optional_as_first))]
 pub fn law_optional_as_first()
     ensures { OptionalAsFirst greatest_year }
@@ -62,14 +62,13 @@ pub fn law_equal_shapes<I: AnyFormatItem, J: AnyFormatItem>(item: &I, other: &J)
     ensures { AnswersAlike greatest_year (I.shape item.now) (J.shape other.now) }
 {}
 
-/// A description that was read from a text and an item of its shape give the same results, and leave the same record.
+/// A description that was parsed from a text and an item of its shape give the same results, and leave the same record.
 pub fn law_equal_described<const N: usize, I: AnyFormatItem>(description: &Description<N>, item: &I)
     ensures { AnswersAlike greatest_year (shape description.now) (I.shape item.now) }
 {}
 
-/// A version-3 description parses as the same description of another type, where no `Ignore` that is begun ends inside a
-/// character. It is the tree that they are but for the marks that a version-3 description puts on its
-/// components.
+/// A version-3 description parses as the same description of another type, if no `Ignore` that is visited ends inside a
+/// character. Their trees differ only in the marks that a version-3 description has on its components.
 #[tactic(auto, using(crate::proofs::OneOutcome::whole_characters))]
 pub fn law_whole_characters()
     ensures { WholeCharacters greatest_year }
@@ -81,10 +80,10 @@ pub fn law_suffix()
     ensures { LeavesSuffix greatest_year }
 {}
 
-/// The text that [`text_3339`](time_writing::text_3339) writes of a moment is read back by [`Rfc3339`](crate::Rfc3339) as
-/// that moment but for the digits that aren't written, without defaults, directly and over a record. As many digits as
-/// the fraction has, and nine, keep all of it. The canonical text, which [`text_3339`] of this module writes, is read back
-/// as the whole moment.
+/// The text that [`text_3339`](time_writing::text_3339) writes of a moment parses back by [`Rfc3339`](crate::Rfc3339)
+/// as that moment except for the digits that aren't written, without defaults, directly and over a record. As many
+/// digits as the fraction has, or nine, keep all of it. The canonical text, which [`text_3339`] of this module writes,
+/// parses back as the whole moment.
 pub fn law_read_back()
     ensures text { ReadsBack greatest_year (direct (RefusesRfc3339 greatest_year)) (Rfc3339.Reads greatest_year)
         (Rfc3339.Refuses greatest_year) }
@@ -94,33 +93,33 @@ pub fn law_read_back()
         (Rfc3339.Reads greatest_year) (Rfc3339.Refuses greatest_year) }
 {}
 
-/// Moments with one text of RFC 3339 are one but for the digits that aren't written, and where as many are written as
-/// each has they are one.
+/// Moments with equal texts of RFC 3339 are equal except for the digits that aren't written. If as many digits are
+/// written as each has, they are equal.
 pub fn law_one_text()
     ensures text { OneText }
     ensures auto { OneShortText }
 {}
 
-/// The text that [`text_2822`](time_writing::text_2822) writes of a moment is read back by [`Rfc2822`](crate::Rfc2822) as
-/// that moment without its fraction, without defaults, directly and over a record.
+/// The text that [`text_2822`](time_writing::text_2822) writes of a moment parses back by [`Rfc2822`](crate::Rfc2822)
+/// as that moment without its fraction, without defaults, directly and over a record.
 pub fn law_mail_read_back()
     ensures { ReadsMailBack greatest_year (direct (RefusesRfc2822 greatest_year)) (Rfc2822.Reads greatest_year)
         (Rfc2822.Refuses greatest_year) }
 {}
 
-/// What [`text_8601`](time_writing::text_8601) writes of a moment is read back by [`Iso8601`](crate::Iso8601) as that
-/// moment, and what [`text_8601_basic`](time_writing::text_8601_basic) writes as that moment without its fraction,
-/// without defaults and over a record. The first is the text of RFC 3339 with nine digits of a fraction. Of any number
-/// of digits such a text is read back as the moment but for the digits that aren't written.
+/// What [`text_8601`](time_writing::text_8601) writes of a moment parses back by [`Iso8601`](crate::Iso8601) as that
+/// moment, and what [`text_8601_basic`](time_writing::text_8601_basic) writes parses back as that moment without its
+/// fraction, without defaults and over a record. The first is the text of RFC 3339 with nine digits of a fraction. With
+/// any number of digits such a text parses back as the moment except for the digits that aren't written.
 pub fn law_iso_read_back()
     ensures extended { ReadsBack greatest_year over_record (Iso8601.Reads greatest_year) (Iso8601.Refuses greatest_year) }
     ensures basic { ReadsBasicBack greatest_year over_record (Iso8601.Reads greatest_year)
         (Iso8601.Refuses greatest_year) }
 {}
 
-/// The texts of [`law_read_back`], [`law_mail_read_back`] and [`law_iso_read_back`] are read back as dates and times in
-/// UTC too, each as that of the moment but for the digits that aren't written. So the text of `OffsetDateTime::from` a
-/// date and time in UTC is read back as that date and time, but for the same digits.
+/// The texts of [`law_read_back`], [`law_mail_read_back`] and [`law_iso_read_back`] also parse back as dates and times
+/// in UTC, each as that of the moment except for the digits that aren't written. So the text of `OffsetDateTime::from`
+/// a date and time in UTC parses back as that date and time, except for those digits.
 pub fn law_utc_read_back()
     ensures rfc3339 { ReadsUtcBack greatest_year (Rfc3339.Reads greatest_year) (Rfc3339.Refuses greatest_year) }
     ensures rfc2822 { ReadsMailUtcBack greatest_year (Rfc2822.Reads greatest_year) (Rfc2822.Refuses greatest_year) }
@@ -128,26 +127,26 @@ pub fn law_utc_read_back()
     ensures basic { ReadsBasicUtcBack greatest_year (Iso8601.Reads greatest_year) (Iso8601.Refuses greatest_year) }
 {}
 
-/// Moments with one text of RFC 2822 are one but for their fractions, which aren't written.
+/// Moments with equal texts of RFC 2822 are equal except for their fractions, which aren't written.
 pub fn law_one_mail_text()
     ensures { OneMailText }
 {}
 
-/// Moments with one extended text of ISO 8601 are one, and those with one basic text are one but for their fractions,
-/// which aren't written. No text is extended and basic.
+/// Moments with equal extended texts of ISO 8601 are equal, and those with equal basic texts are equal except for their
+/// fractions, which aren't written. No text is both extended and basic.
 pub fn law_one_iso_text()
     ensures extended { OneExtendedText }
     ensures basic { OneBasicText }
     ensures apart { ExtendedOrBasic }
 {}
 
-/// The wider range of years changed no result of the years -9999 to 9999. Each reading by a description in which nothing is
-/// optional and nothing is chosen stays one, with the same rest and record; so does each text that
-/// [`Rfc3339`](crate::Rfc3339), [`Rfc2822`](crate::Rfc2822) or [`Iso8601`](crate::Iso8601) reads whole, and each
-/// record of that range.
+/// The wider range of years changed no result of the years -9999 to 9999. Each reading by a description without an
+/// optional item and without a choice is kept, with the same rest and record. So is each text that
+/// [`Rfc3339`](crate::Rfc3339), [`Rfc2822`](crate::Rfc2822) or [`Iso8601`](crate::Iso8601) reads whole, and each record
+/// of that range.
 ///
-/// A choice may read otherwise: of the text `+012345`, the first of an extended year and the literal `+012345` was the
-/// literal, and is the year.
+/// A choice may read otherwise: a choice of an extended year and the literal `+012345` read the text `+012345` as the
+/// literal, and now reads it as the year.
 pub fn law_kept_readings()
     ensures readings { KeepsReadings 9999 greatest_year }
     ensures rfc3339 { KeepsTexts (Rfc3339.Reads 9999) (Rfc3339.Reads greatest_year) }

@@ -1,7 +1,8 @@
 //! Parses whole texts into date-time values.
 #![tactic(auto)]
 
-// Puts a value into a record by a setter that can't refuse it. Said so, the compiler knows which options are there.
+// Stores a value in a record by a setter that can't reject it. `unreachable!` shows the compiler that the option is
+// set.
 macro_rules! put {
     ($set:expr) => {
         let Some(()) = $set else { unreachable!() };

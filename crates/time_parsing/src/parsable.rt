@@ -1,4 +1,4 @@
-//! What can be parsed by.
+//! What texts can be parsed by.
 ghost use Rattle.std.specs.Prelude.{◌≡◌, ◌≢◌, ◌⊎◌, [], Ok, Err, MatchResult};
 ghost use Rattle.time_values.specs.Calendar.{greatest_year};
 ghost use Rattle.time_values.specs.Refusal.{refusal_of, refusal_of_parsed, trailing};
@@ -11,7 +11,7 @@ use time_record::Parsed;
 use time_values::error::{Parse, ParseFromDescription, TryFromParsed};
 use time_values::{Date, OffsetDateTime, PlainDateTime, Time, Timestamp, UtcDateTime, UtcOffset};
 
-/// A format that texts can be parsed by.
+/// A format by which texts can be parsed.
 ///
 /// The calls that parse a text take defaults for components that it omits, such as the year of `03-04`. The text is
 /// parsed over them, and each of its components replaces its default. `None` means no defaults.
@@ -19,18 +19,18 @@ pub trait Parsable {
     // A front of the bytes is read over a record: the rest, and the record after it.
     ghost reads: { Self → Reading };
 
-    // Nothing is read, with this refusal.
+    // Nothing is read, with this error.
     ghost refuses: { Self → Refusing };
 
-    // How a moment is read without defaults: over a record, or directly.
+    // How a moment is parsed without defaults: over a record, or directly.
     ghost path: { Self → Path };
 
-    /// Parses a front of the input over the record, and gives the unparsed rest. The text's components replace those
-    /// of the record. A refusal leaves the record unchanged.
+    /// Parses a front of the input over the record, and returns the unparsed rest. The text's components replace those
+    /// of the record. An error leaves the record unchanged.
     fn parse_into<'a>(&self, input: &'a [u8], parsed: &mut Parsed) -> Result<&'a [u8], Parse>
         ensures { ParsesInto (reads self.now) (refuses self.now) input.now parsed.old result parsed.new };
 
-    /// The record of the whole input, read over the defaults. Where bytes remain it refuses as
+    /// The record of the whole input, parsed over the defaults. If bytes remain, the error is
     /// [`ParseFromDescription::UnexpectedTrailingCharacters`].
     #[inline]
     fn parse_internal(&self, input: &[u8], defaults: Option<Parsed>) -> Result<Parsed, Parse>
@@ -47,7 +47,7 @@ pub trait Parsable {
         }
     }
 
-    /// The date of the whole input, read over the defaults.
+    /// The date of the whole input, parsed over the defaults.
     fn parse_date(&self, input: &[u8], defaults: Option<Parsed>) -> Result<Date, Parse>
         ensures { IsOutcome (IsDated greatest_year) (reads self.now) (refuses self.now) input.now
             (begun defaults) (seen result) }
@@ -57,7 +57,7 @@ pub trait Parsable {
         value_before::<Date>(rest, &parsed)
     }
 
-    /// The time of the whole input, read over the defaults.
+    /// The time of the whole input, parsed over the defaults.
     fn parse_time(&self, input: &[u8], defaults: Option<Parsed>) -> Result<Time, Parse>
         ensures { IsOutcome IsTimed (reads self.now) (refuses self.now) input.now
             (begun defaults) (seen result) }
@@ -67,7 +67,7 @@ pub trait Parsable {
         value_before::<Time>(rest, &parsed)
     }
 
-    /// The offset of the whole input, read over the defaults.
+    /// The offset of the whole input, parsed over the defaults.
     fn parse_offset(&self, input: &[u8], defaults: Option<Parsed>) -> Result<UtcOffset, Parse>
         ensures { IsOutcome IsOffset (reads self.now) (refuses self.now) input.now
             (begun defaults) (seen result) }
@@ -77,7 +77,7 @@ pub trait Parsable {
         value_before::<UtcOffset>(rest, &parsed)
     }
 
-    /// The date and time of the whole input, read over the defaults.
+    /// The date and time of the whole input, parsed over the defaults.
     fn parse_plain_date_time(
         &self,
         input: &[u8],
@@ -91,7 +91,7 @@ pub trait Parsable {
         value_before::<PlainDateTime>(rest, &parsed)
     }
 
-    /// The date and time in UTC of the whole input, read over the defaults.
+    /// The date and time in UTC of the whole input, parsed over the defaults.
     fn parse_utc_date_time(
         &self,
         input: &[u8],
@@ -105,8 +105,8 @@ pub trait Parsable {
         value_before::<UtcDateTime>(rest, &parsed)
     }
 
-    /// The date, time and offset of the whole input, read over the defaults. Without defaults a format
-    /// may take a direct path, which has the same values and refusals of its own.
+    /// The date, time and offset of the whole input, parsed over the defaults. Without defaults a format may take a
+    /// direct path, which has the same values and errors of its own.
     fn parse_offset_date_time(
         &self,
         input: &[u8],
@@ -115,7 +115,7 @@ pub trait Parsable {
         ensures { IsMomentOutcome greatest_year (path self.now) (reads self.now) (refuses self.now) input.now
             defaults (seen result) };
 
-    /// The instant of the whole input, read over the defaults.
+    /// The instant of the whole input, parsed over the defaults.
     fn parse_timestamp(&self, input: &[u8], defaults: Option<Parsed>) -> Result<Timestamp, Parse>
         ensures { IsOutcome (IsTimestamp greatest_year) (reads self.now) (refuses self.now) input.now
             (begun defaults) (seen result) }
@@ -125,8 +125,9 @@ pub trait Parsable {
         value_before::<Timestamp>(rest, &parsed)
     }
 
-    /// The date, time and offset of a front of the input, read over the defaults, and the unread rest. The text is read
-    /// over a record, so its refusals are those of [`Parsable::parse_into`] and of the record; bytes that remain are none.
+    /// The date, time and offset of a front of the input, parsed over the defaults, and the unread rest. The text is
+    /// parsed over a record, so its errors are those of [`Parsable::parse_into`] and of the record. Bytes that remain
+    /// are no error.
     fn parse_front<'a>(
         &self,
         input: &'a [u8],
@@ -141,16 +142,17 @@ pub trait Parsable {
         Ok((value, rest))
     }
 
-    // The format has one answer to a text over a record.
+    // The format has one answer for a text over a record.
     ghost exact: { (s : Self) → IsExact (reads s) (refuses s) };
 
-    // Its direct path has one refusal, where it has no moment.
+    // Its direct path has one error, if it has no moment.
     ghost exact_path: { (s : Self) → IsExactPath greatest_year (path s) (reads s) (refuses s) };
 }
 
 /// The record that a parse begins with: the defaults, or an empty one.
 ///
-/// An empty one is made before the defaults are looked at, since a choice between two records is made piece by piece.
+/// The empty one is made before the defaults are inspected, since a choice between two records would be made piece by
+/// piece.
 #[inline(always)]
 pub fn begin(defaults: Option<Parsed>) -> Parsed
     ensures { result ≡ begun defaults }
@@ -162,7 +164,7 @@ pub fn begin(defaults: Option<Parsed>) -> Parsed
     record
 }
 
-/// The value of a record that was read up to this rest. Where bytes remain it refuses as
+/// The value of a record that was read up to this rest. If bytes remain, the error is
 /// [`ParseFromDescription::UnexpectedTrailingCharacters`].
 #[inline(always)]
 pub fn value_before<V: TryFrom<Parsed, Error = TryFromParsed> + Drop>(
@@ -180,7 +182,7 @@ pub fn value_before<V: TryFrom<Parsed, Error = TryFromParsed> + Drop>(
     Ok(V::try_from(*parsed)?)
 }
 
-/// The date, time and offset of a record that was read up to this rest. Where bytes remain it refuses as
+/// The date, time and offset of a record that was read up to this rest. If bytes remain, the error is
 /// [`ParseFromDescription::UnexpectedTrailingCharacters`].
 #[inline(always)]
 pub(crate) fn moment_before(rest: &[u8], parsed: &Parsed) -> Result<OffsetDateTime, Parse>
@@ -191,7 +193,7 @@ pub(crate) fn moment_before(rest: &[u8], parsed: &Parsed) -> Result<OffsetDateTi
     value_before(rest, parsed)
 }
 
-/// A reference to a format reads as the format does, always over a record.
+/// A reference to a format parses as the format does, always over a record.
 impl<T: Parsable> Parsable for &T {
     ghost reads = { λ x. T.reads x.now };
 

@@ -20,17 +20,17 @@ use time_values::error::Parse;
 
 /// The format of mail dates, RFC 2822, as `Mon, 02 Jan 2021 03:04:05 +0000`.
 ///
-/// Blanks and comments may stand between its parts. A weekday is read, and not compared with the date. The
-/// year may have two digits, and the offset may be a zone name, as `GMT`.
+/// Blanks and comments may separate its parts. A weekday is read, but not compared with the date. The year may have two
+/// digits, and the offset may be a zone name, as `GMT`.
 ///
-/// The first place that doesn't have its form, or whose number is out of its range, is refused as it is by
-/// [`place_fault`]. But a moment without defaults is read by [`direct::rfc2822`], which asks the places for their form
-/// alone, then refuses bytes that remain, and then the first of `day`, `hour`, `minute`, `second`, `hours` and
-/// `minutes` that the calendar refuses, as out of range.
+/// The error is that of the first place that doesn't have its form, or whose number is out of its range, by
+/// [`place_fault`]. But a moment without defaults is parsed by [`direct::rfc2822`], which first checks only the form of
+/// the places, and then rejects bytes that remain. After that it rejects, as out of range, the first of `day`, `hour`,
+/// `minute`, `second`, `hours` and `minutes` that the calendar doesn't have.
 #[derive(Clone, Copy, Debug, PartialEq, Eq)]
 pub struct Rfc2822;
 
-// Puts the weekday, where it stands, day, month and year.
+// Stores the weekday, if there is one, and day, month and year.
 #[inline(always)]
 fn put_date(numbers: Numbers, parsed: &mut Parsed)
     requires day { IsInRange 1 31 numbers.day }
@@ -48,7 +48,7 @@ fn put_date(numbers: Numbers, parsed: &mut Parsed)
     put!(parsed.set_year(i32::from(numbers.year)));
 }
 
-// Puts hour, minute and, where it stands, the second.
+// Stores hour, minute and, if there is one, the second.
 #[inline(always)]
 fn put_time(numbers: Numbers, parsed: &mut Parsed)
     requires hour { numbers.hour ≤ 23 }
@@ -63,7 +63,7 @@ fn put_time(numbers: Numbers, parsed: &mut Parsed)
     }
 }
 
-// Puts the offset, and forgets the sign that an offset hour of a description had left.
+// Stores the offset, and clears the sign that an offset hour of a description left.
 #[inline(always)]
 fn put_offset(numbers: Numbers, parsed: &mut Parsed)
     requires hour { unsigned_abs numbers.offset_hour ≤ 25 }

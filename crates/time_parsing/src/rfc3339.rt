@@ -28,16 +28,17 @@ use time_values::{Date, Month, OffsetDateTime, Time, UtcOffset};
 
 /// The format of RFC 3339, as `1985-04-12T23:20:50.52Z`.
 ///
-/// Any one byte may stand between the date and the time, and `Z` may be a small letter.
+/// Any one byte may separate the date from the time, and `Z` may be a small letter.
 ///
-/// The first place that doesn't have its form, or whose number is out of its range, is refused as it is by
-/// [`place_fault`]. But a moment without defaults is read by [`direct::rfc3339`], which asks the places for their form
-/// alone, then refuses bytes that remain, and then the first of `month`, `day`, `hour`, `minute` and `second` that the
-/// calendar refuses, as out of range; of an offset's minute above 59 it refuses `minutes` so, where it stands.
+/// The error is that of the first place that doesn't have its form, or whose number is out of its range, by
+/// [`place_fault`]. But a moment without defaults is parsed by [`direct::rfc3339`]. It first checks only the form of the
+/// places. Then it rejects an offset's minute above 59, as `minutes` out of range, and after that bytes that remain. At
+/// last it rejects, as out of range, the first of `month`, `day`, `hour`, `minute` and `second` that the calendar
+/// doesn't have.
 #[derive(Clone, Copy, Debug, PartialEq, Eq)]
 pub struct Rfc3339;
 
-// Puts year, month and day.
+// Stores year, month and day.
 #[inline(always)]
 fn put_date(numbers: Numbers, parsed: &mut Parsed)
     requires year { numbers.year ≤ greatest_year }
@@ -55,7 +56,7 @@ fn put_date(numbers: Numbers, parsed: &mut Parsed)
     put!(parsed.set_day(day));
 }
 
-// Puts hour, minute, second and, where it stands, the fraction of the second.
+// Stores hour, minute, second and, if there is one, the fraction of the second.
 #[inline(always)]
 fn put_time(numbers: Numbers, parsed: &mut Parsed)
     requires hour { numbers.hour ≤ 23 }
@@ -72,7 +73,7 @@ fn put_time(numbers: Numbers, parsed: &mut Parsed)
     }
 }
 
-// Puts the offset, and forgets the sign that an offset hour of a description had left.
+// Stores the offset, and clears the sign that an offset hour of a description left.
 #[inline(always)]
 fn put_offset(numbers: Numbers, parsed: &mut Parsed)
     requires hour { numbers.offset_hour ≤ 23 }
@@ -179,8 +180,8 @@ fn offset_with_colon(offset: UtcOffset) -> [u8; 6]
 /// The canonical text of a moment by RFC 3339, section 5.6: `2021-01-02T03:04:05.500000000-00:30`, always with nine
 /// digits of a fraction, and with `+00:00` in UTC.
 ///
-/// It asks for a year of 0 to 9999 and an offset of whole minutes, at most 23:59.
-/// [`text_3339`](time_writing::text_3339) of `time_writing` asks for nothing.
+/// The year has to be 0 to 9999, and the offset whole minutes, at most 23:59. [`text_3339`](time_writing::text_3339) of
+/// `time_writing` has no such requirement.
 pub fn text_3339(value: OffsetDateTime) -> [u8; 35]
     requires year { IsBetween (pos 0) (pos 9999) (Dates.year (offset_date value)) }
     requires hours { IsBetween (neg_ℤ (pos 23)) (pos 23) (Offsets.hours (offset_of value)) }

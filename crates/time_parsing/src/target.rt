@@ -1,4 +1,4 @@
-//! The types of value that a text is parsed for.
+//! The types of value into which a text is parsed.
 ghost use Rattle.std.specs.Prelude.{ℕ, List, Result, None};
 ghost use Rattle.time_values.specs.Calendar.{greatest_year};
 ghost use Rattle.time_values.specs.Refusal.{Refusal};
@@ -11,16 +11,16 @@ use std::convert::AsSlice;
 use time_values::error::Parse;
 use time_values::{Date, OffsetDateTime, PlainDateTime, Time, Timestamp, UtcDateTime, UtcOffset};
 
-/// A type of value that a whole text is parsed for, by any format: `Date::parse("2021-01-02", &Iso8601)`.
+/// A type of value into which any format parses a whole text: `Date::parse("2021-01-02", &Iso8601)`.
 pub trait Target: Sized {
-    // How a format that takes moments by this path, reads this and refuses that answers bytes.
+    // The outcome for given bytes, by a format with this path for moments, these readings and these errors.
     ghost outcome: { Path → Reading → Refusing → List ℕ → Result Self Refusal → Type 0 };
 
-    /// The value of a whole text, given as text or as bytes. There are no defaults for components that the text omits.
+    /// The value of a whole text, passed as text or as bytes. There are no defaults for components that the text omits.
     ///
     /// # Errors
     ///
-    /// As the format's own call for the type, such as [`Parsable::parse_date`], with `None`.
+    /// Those of the format's own call for the type, such as [`Parsable::parse_date`], with `None` for the defaults.
     fn parse<T: AsSlice<u8> + Drop, F: Parsable>(text: T, format: &F) -> Result<Self, Parse>
         ensures { outcome (F.path format.now) (F.reads format.now) (F.refuses format.now) (T.items text) (seen result) };
 }

@@ -1,4 +1,4 @@
--- How the answer of trees in turn follows from those of their beginnings. `Y` is the greatest year.
+-- How the result of a sequence follows from those of its beginnings. `Y` is the greatest year.
 use Rattle.std.specs.Option.{option_or}
 use Rattle.std.specs.Prelude.{MatchOption}
 use Rattle.std.proofs.Common.{◌≡◌, ℕ, List, refl, sym, ◌∙◌, subst, Option, Some, None, inl, inr, Result, Ok, Err, Bor, zero, suc, ◌+◌, ◌-◌, ◌≤◌, ◌<◌, [], ◌∷◌, ◌++◌, length, take, drop, get_or, length-drop, ap, arith, append_assoc}
@@ -17,10 +17,10 @@ use Rattle.time_preparing.specs.Forms.{Fits, parts, Says}
 use Rattle.time_preparing.specs.declared.joined.Joined.{Joined}
 use Rattle.time_preparing.proofs.Rows.{AllPlain, drop_further, further_plain, plain_row, says_at}
 
--- ---- How the answer of alternatives follows from those of their beginnings. `Y` is the greatest year.
+-- ---- How the result of alternatives follows from those of their beginnings. `Y` is the greatest year.
 
--- What the trees that are left answer as alternatives, all of them answer: none before them reads, and the first one's
--- fault is kept.
+-- The result of the alternatives that are left is that of all of them: none before them matches, and the first one's
+-- error is kept.
 pub record Chooses (Y : ℕ) (all left : Trees) (b : List ℕ) (r : Record) (kept : Option ParseFromDescription) : Type 0 where
   pub reads : (rest : List ℕ) (q : Record) → ReadsSome Y left b r rest q → ReadsSome Y all b r rest q
   pub unread : NoReadingSome Y left b r → NoReadingSome Y all b r
@@ -31,13 +31,13 @@ Chooses-start Y all b r = record { reads = λ rest q h. h; unread = λ h. h; fau
 
 module _ {Y : ℕ} {all left : Trees} {b : List ℕ} {r : Record} {kept : Option ParseFromDescription} (k : Chooses Y all left b r kept) where
   module _ (t : Tree) (ts : Trees) (is : left ≡ more t ts) where
-    -- the next one reads
+    -- the next one matches
     pub Chooses-reads : (rest : List ℕ) (q : Record) → Reads Y t b r rest q → Reads Y (first_of all) b r rest q
     Chooses-reads rest q h =
         let some = ReadsSome-here Y t ts b r rest q h in
         first_of-some Y b r all rest q (k.reads rest q (subst (λ us. ReadsSome Y us b r rest q) (sym is) some))
 
-    -- the next one is refused
+    -- the next one is rejected
     pub Chooses-refused : {kept' : Option ParseFromDescription} (e : ParseFromDescription) →
         Refuses Y t b r (refusal_of_description e) → kept' ≡ option_or kept (Some e) → Chooses Y all ts b r kept'
     Chooses-refused e h more_kept =
@@ -56,7 +56,7 @@ module _ {Y : ℕ} {all left : Trees} {b : List ℕ} {r : Record} {kept : Option
       let unread = k.unread (subst (λ us. NoReadingSome Y us b r) (sym end) (NoReadingSome-none Y b r)) in
       record { unread = λ rest q h. unread rest q (some-first_of Y b r all rest q (refusal_of_description e) fault h); fault = fault }
 
-  -- there was none
+  -- there was no alternative
   pub Chooses-nothing : left ≡ tree_none → kept ≡ None → Reads Y (first_of all) b r b r
   Chooses-nothing end is =
       let empty : tree_none ≡ all = sym end ∙ rw is at k.fault in
@@ -80,17 +80,17 @@ module _ (Y : ℕ) (us : Trees) where
 pub Goes-start : (Y : ℕ) (all : Trees) (b : List ℕ) (r : Record) → Goes Y all b r all b r
 Goes-start Y all b r = record { reads = λ rest q h. h; refuses = λ e h. h }
 
--- further and further
+-- two advances, one after the other
 pub Goes-further : {Y : ℕ} {all : Trees} {b0 : List ℕ} {r0 : Record} {left : Trees} {b : List ℕ} {r : Record}
     {least : Trees} {c : List ℕ} {s : Record} → Goes Y all b0 r0 left b r → Goes Y left b r least c s → Goes Y all b0 r0 least c s
 Goes-further g h = record { reads = λ rest q k. g.reads rest q (h.reads rest q k); refuses = λ e k. g.refuses e (h.refuses e k) }
 
 module _ {Y : ℕ} {all : Trees} {b0 : List ℕ} {r0 : Record} {left : Trees} {b : List ℕ} {r : Record} (g : Goes Y all b0 r0 left b r) where
-  -- the same trees by another term
+  -- equal trees by another term
   pub Goes-as : (left' : Trees) → left' ≡ left → Goes Y all b0 r0 left' b r
   Goes-as left' is = subst (λ ts. Goes Y all b0 r0 ts b r) (sym is) g
 
-  -- trees in front of what is left are read
+  -- trees before the ones that are left are read
   pub Goes-reads : (ts us : Trees) → left ≡ followed_by ts us → {mid : List ℕ} {m : Record} → ReadsAll Y ts b r mid m → Goes Y all b0 r0 us mid m
   Goes-reads ts us is {mid} {m} h = record {
     reads = λ rest q k. g.reads rest q (subst (λ ts. ReadsAll Y ts b r rest q) (sym is) (reads_later Y us ts b r mid m rest q h k));
@@ -102,25 +102,25 @@ module _ {Y : ℕ} {all : Trees} {b0 : List ℕ} {r0 : Record} {left : Trees} {b
   unfolding ReadsAll
   Goes-item t us is {mid} {m} h = Goes-reads (more t tree_none) us is (mid, m, h, (refl, refl))
 
-  -- or refused
+  -- the next tree is rejected
   pub Goes-refused : (t : Tree) (us : Trees) → left ≡ more t us → {e : Refusal} → Refuses Y t b r e → Refuses Y (sequence all) b0 r0 e
   unfolding Reads IsFault
   Goes-refused t us is {e} h =
       let refused = g.refuses e (subst (λ ts. RefusesAll Y ts b r e) (sym is) (RefusesAll-here Y t us b r e h)) in
       record { unread = refused.unread; fault = refused.fault }
 
-  -- nothing is left
+  -- no tree is left
   pub Goes-end : left ≡ tree_none → Reads Y (sequence all) b0 r0 b r
   unfolding Reads ReadsAll
   Goes-end is = g.reads b r (subst (λ ts. ReadsAll Y ts b r b r) (sym is) (refl, refl))
 
--- what is answered is told
+-- a result by `Answers` is one by `Tells`
 pub answered : (Y : ℕ) (t : Tree) (b : List ℕ) (r : Record) (result : Result (Bor (List ℕ)) ParseFromDescription) (q : Record) →
     Answers Y t b r result q → Tells Y t b r result q
 answered Y t b r (Ok rest) q h = h
 answered Y t b r (Err e) q h = h.0
 
--- what a list of one tree answers
+-- the result of a list of one tree
 one_tree : (Y : ℕ) (t : Tree) (b : List ℕ) (r : Record) (rest : List ℕ) (q : Record) →
     Reads Y (sequence (more t tree_none)) b r rest q → Reads Y t b r rest q
 unfolding Reads ReadsAll
@@ -154,7 +154,7 @@ one_list_fault : (Y : ℕ) (t : Tree) (b : List ℕ) (r : Record) (e : Refusal) 
 unfolding IsFault IsFaultAll
 one_list_fault Y t b r e h = inl (h.unread, h.fault)
 
--- a tree that is told, as a list of it alone
+-- a tree's result is that of a list of it alone
 pub one_told : (Y : ℕ) (t : Tree) (ts : Trees) (b : List ℕ) (r : Record) (result : Result (Bor (List ℕ)) ParseFromDescription) (q : Record) →
     ts ≡ more t tree_none → Tells Y t b r result q → Tells Y (sequence ts) b r result q
 one_told Y t ts b r (Ok rest) q is h = rw is (one_as_list Y t b r rest.now q h)
@@ -164,7 +164,7 @@ one_told Y t ts b r (Err e) q is h =
       fault = one_list_fault Y t b r _ h;
     })
 
--- ---- Steps that are read at once, in front of others
+-- ---- Joined steps in front of others
 
 plain_take : (n : ℕ) (xs : List Step) → AllPlain xs → AllPlain (take n xs)
 plain_take zero xs p = tt
@@ -187,7 +187,7 @@ drop_part zero xs ys within = refl
 drop_part (suc n) [] ys within = absurd (omega arith)
 drop_part (suc n) (x ∷ xs) ys within = drop_part n xs ys (omega arith)
 
--- so many bytes and components are read, each on its own
+-- that many bytes and components are read, each on its own
 pub plain_front : (j : Joined) → AllPlain (parts j) → (n : ℕ) → n ≤ length (parts j) → (b mid : List ℕ) (r q : Record) →
     ReadsAll greatest_year (leaves (take n (parts j))) b r mid q → ReadsFront j n b r mid q
 plain_front j p n within b mid r q h = λ after e.
@@ -212,7 +212,7 @@ whole_front j ts k n b rest r q (Some x) row h is = λ after e.
     rw (is.0, is.1) (Goes-reads (Goes-start greatest_year (steps_trees (parts j ++ after)) b r) ts (steps_trees (drop k (parts j ++ after))) (row after e) h)
 whole_front j ts k n b rest r q None row h is = rw h (no_front j n b rest r is.0 is.1)
 
--- the same in a row of steps, from one of them on
+-- the trees in a row of steps, from one step on
 pub front_goes : (js : List Joined) (steps : List Step) (next n : ℕ) (j : Joined) (b mid : List ℕ) (r q : Record) → Fits js steps →
     length js ≡ length steps → next < length js → j ≡ get_or js next j → MayReadFront j (length js - next) n b r mid q →
     Goes greatest_year (steps_trees (drop next steps)) b r (steps_trees (drop (next + n) steps)) mid q

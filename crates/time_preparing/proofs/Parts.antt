@@ -98,7 +98,7 @@ module _ (Y : ℕ) where
       two_read byte (OffsetHour OFFSET_HOUR) (OffsetMinute OFFSET_MINUTE) b h_rest m_in rest (flagged h minus) (signed m) r p q
       h_cut is m_cut puts_h puts_m
 
-  -- numbers that are put
+  -- numbers that are stored
 
   pub put_offset_hour : (h : ℤ) (minus : Bool) (r : Record) → nat_le (unsigned_abs h) 25 ≡ true →
       put_value Y (OffsetHour OFFSET_HOUR) (flagged h minus) r ≡ Some (record r { offset_hour = Some h; offset_is_negative = minus })
@@ -139,12 +139,12 @@ module _ (Y : ℕ) where
       put_value Y (Subsecond SUBSECOND) (number n) r ≡ Some (record r { subsecond = Some n })
   put_subsecond n r within = rw (le-leb n 999999999 within) refl
 
-  -- what a setter has put
+  -- what a setter stores
   pub set_some : (o : Option Record) (r q : Record) (u : Unit {0}) → Sets o r (Some u) q → o ≡ Some q
   set_some None r q u h = absurd h
   set_some (Some p) r q u h = ap Some (sym h)
 
-  -- a part that may be missing, and begins with a byte
+  -- an optional part that begins with a byte
 
   missing : (ts : Trees) (byte : ℕ) (b : List ℕ) (r : Record) → ((rest : List ℕ) → b ≡ byte ∷ rest → ⊥) →
       Reads Y (optional (sequence (more (literal (byte ∷ [])) ts))) b r b r
@@ -184,7 +184,7 @@ module _ (Y : ℕ) where
       (tree_read none behind rest rest (fraction_tree p) s q q fraction (read_all rest q)))))
       (read_all rest q)
 
-  -- a time by the halves of the day
+  -- a time of the 12-hour clock
   pub half_read : (h : InHalf) (n : HalfNumbers) (b hour_rest minute_in minute_rest second_rest half_in rest : List ℕ) (r : Record) →
       Cut (Spells false (Hour12 HOUR_12)) b hour_rest (number n.hour) → 1 ≤ n.hour → n.hour ≤ 12 → hour_rest ≡ h.in_time ∷ minute_in →
       Cut (Spells false (Minute MINUTE)) minute_in minute_rest (number n.minute) → n.minute ≤ 59 →

@@ -26,7 +26,7 @@ use Rattle.time_preparing.specs.Puts.{PutsItem, PutsItems}
 use Rattle.time_preparing.specs.Walk.{followed_by}
 use Rattle.time_preparing.proofs.Wholes.{led}
 
--- ---- What a whole text of one form is as a format's outcome
+-- ---- The outcome of a format for a whole text of one form
 
 -- over a record
 pub over_outcome : {V : Type 0} (resolves : Resolving V) (w : Whole) (steps : List Step) (bytes : List ℕ) (begin : Record) (result : Option V) →
@@ -81,7 +81,7 @@ mutual
       ∙ ap (λ (ps : List Place). there (steps_of i) ++ ps) (items_there is)
       ∙ sym (there-append (steps_of i) (all_steps_of is))
 
--- after steps that there is room for
+-- after steps that fit
 past : (ss : List Step) (n : ℕ) (places : List Place) → length ss ≤ n
     → first_reason n (there ss ++ places) ≡ first_reason (n - length ss) places
 past [] n places h = let e : n ≡ n - 0 = omega arith in ap (λ (k : ℕ). first_reason k places) e
@@ -90,7 +90,7 @@ past (s ∷ ss) (suc n) places h =
     let e : n - length ss ≡ suc n - suc (length ss) = omega arith in
     past ss n places (omega (arith, h)) ∙ ap (λ (k : ℕ). first_reason k places) e
 
--- what comes later is no earlier reason
+-- a later place has no earlier reason
 here : (n : ℕ) (places later : List Place) (reason : Unprepared) → first_reason n places ≡ Some reason
     → first_reason n (places ++ later) ≡ Some reason
 here n [] later reason e = absurd (none-some reason e)
@@ -98,13 +98,13 @@ here n (Err r ∷ places) later reason e = e
 here zero (Ok s ∷ places) later reason e = e
 here (suc n) (Ok s ∷ places) later reason e = here n places later reason e
 
--- where there is no room for all steps
+-- if there is no room for all steps
 no_room : (ss : List Step) (n : ℕ) → n < length ss → first_reason n (there ss) ≡ Some TooLong
 no_room [] n h = absurd (omega (arith, h))
 no_room (s ∷ ss) zero h = refl
 no_room (s ∷ ss) (suc n) h = no_room ss n (omega (arith, h))
 
--- The steps of one item were put, or there is no room for them.
+-- The steps of one item were appended, or there is no room for them.
 pub puts_steps : {A : Type 0} (n : ℕ) (t : Tree) (i : Item) (old : List Step) (r : Result A Unprepared) (new : List Step) → length old ≤ n → t ≡ tree_of i
     → OnOk r (new ≡ old ++ steps_of i) → OnOk r (length new ≤ n)
     → IfErr r (λ e. (e ≡ TooLong) × (n < length old + length (steps_of i))) → PutsItem n t old r new
@@ -115,7 +115,7 @@ puts_steps n t i old (Err e) new h is put fits full =
     ∙ no_room (steps_of i) (n - length old) (omega (arith, full.1, h))
     ∙ ap Some (sym full.0)
 
--- The one step of a component was put, or there is no room for it.
+-- The one step of a component was appended, or there is no room for it.
 pub puts_component : {A : Type 0} (n : ℕ) (c : Component) (old : List Step) (r : Result A Unprepared) (new : List Step) → length old ≤ n
     → OnOk r (new ≡ old ++ step.Component c ∷ []) → OnOk r (length new ≤ n)
     → IfErr r (λ e. (e ≡ TooLong) × (n ≤ length old)) → PutsItem n (component_tree false c) old r new
@@ -123,7 +123,7 @@ puts_component n c old (Ok x) new h put fits full = (component c, refl, put, fit
 puts_component {A = A} n c old (Err e) new h put fits full =
     puts_steps {A = A} n (component_tree false c) (component c) old (Err e) new h refl tt tt (full.0, omega (arith, full.1))
 
--- The first byte of a literal was put, and then the others.
+-- The first byte of a literal was appended, and then the others.
 pub puts_bytes : {A : Type 0} (n b : ℕ) (bytes : List ℕ) (old mid : List Step) (r : Result A Unprepared) (new : List Step)
     → length old ≤ n → mid ≡ old ++ step.Literal b ∷ [] → length mid ≤ n
     → OnOk r (new ≡ mid ++ map step.More bytes) → OnOk r (length mid ≤ n → length new ≤ n)
@@ -139,7 +139,7 @@ puts_bytes {A = A} n b bytes old mid (Err e) new h m k put fits full =
     puts_steps {A = A} n (literal_tree (b ∷ bytes)) (literal b bytes) old (Err e) new h refl tt tt
     (full.0, omega (arith, full.1, one, length-map bytes step.More))
 
--- where there is
+-- if there is room for all steps
 room : (ss : List Step) (n : ℕ) → length ss ≤ n → first_reason n (there ss) ≡ None
 room [] n h = refl
 room (s ∷ ss) zero h = absurd (omega (arith, h))
@@ -154,13 +154,13 @@ followed_by-none : (ts : Trees) → followed_by ts no_trees ≡ ts
 followed_by-none no_trees = refl
 followed_by-none (more_trees t ts) = ap (more_trees t) (followed_by-none ts)
 
--- an item more in front
+-- one more item in front
 followed-item : (front : List Item) (i : Item) (ts : Trees)
     → followed_by (trees_of (items_of front)) (more_trees (tree_of i) ts) ≡ followed_by (trees_of (items_of (front ++ i ∷ []))) ts
 followed-item [] i ts = refl
 followed-item (j ∷ front) i ts = ap (more_trees (tree_of j)) (followed-item front i ts)
 
--- The items in front were put, and the trees that are left come after theirs.
+-- The items in front were appended, and the trees that are left follow theirs.
 pub record Stands (n : ℕ) (all : Trees) (old : List Step) (left : Trees) (now : List Step) : Type 0 where
   pub front : List Item
   pub told : all ≡ followed_by (trees_of (items_of front)) left
@@ -171,7 +171,7 @@ pub stands_first : (n : ℕ) (ts : Trees) (old : List Step) → length old ≤ n
 stands_first n ts old h = record { front = []; told = refl; steps = sym (append-nil old); fits = h }
 
 module _ {n : ℕ} {all : Trees} {old : List Step} {left : Trees} {now : List Step} (h : Stands n all old left now) where
-  -- one item more was put
+  -- one more item was appended
   pub stands_item : (t : Tree) (ts : Trees) (new : List Step) → left ≡ more_trees t ts
       → (i : Item) × (t ≡ tree_of i) × (new ≡ now ++ steps_of i) × (length new ≤ n) → Stands n all old ts new
   stands_item t ts new e (i, is, put, fits) = record {
@@ -184,7 +184,7 @@ module _ {n : ℕ} {all : Trees} {old : List Step} {left : Trees} {now : List St
     fits = fits;
   }
 
-  -- all items were put
+  -- all items were appended
   pub stands_last : left ≡ no_trees
       → (is : List Item) × (all ≡ trees_of (items_of is)) × (now ≡ old ++ flat is) × (length now ≤ n)
   stands_last e = (
@@ -194,7 +194,7 @@ module _ {n : ℕ} {all : Trees} {old : List Step} {left : Trees} {now : List St
     h.fits,
   )
 
-  -- the next item is refused
+  -- the next item is rejected
   pub stands_refused : (t : Tree) (ts : Trees) (reason : Unprepared) → left ≡ more_trees t ts
       → first_reason (n - length now) (places_of t) ≡ Some reason → first_reason (n - length old) (places_of_all all) ≡ Some reason
   stands_refused t ts reason next e =
@@ -209,13 +209,13 @@ module _ {n : ℕ} {all : Trees} {old : List Step} {left : Trees} {now : List St
       ap (first_reason (n - length old)) are ∙ past ss (n - length old) places (omega (arith, counted, h.fits))
       ∙ ap (λ (k : ℕ). first_reason k places) same ∙ here (n - length now) (places_of t) (places_of_all ts) reason e
 
--- a reason that is handed on
+-- the first reason is kept
 pub tells : {A : Type 0} (n : ℕ) (ts : Trees) (old : List Step) (r : Result A Unprepared) (new : List Step) (reason : Unprepared)
     → IsErr r × IsErrAnd r (λ e. e ≡ reason) → first_reason (n - length old) (places_of_all ts) ≡ Some reason → PutsItems n ts old r new
 tells n ts old (Ok x) new reason by e = absurd (false≢true by.0)
 tells n ts old (Err reason') new reason by e = e ∙ ap Some (sym by.1)
 
--- what stands inside a group is refused
+-- what is inside a group is rejected
 pub inside_tells : {A : Type 0} (n : ℕ) (g : Group) (ts : Trees) (old mid : List Step) (r : Result A Unprepared) (new : List Step)
     (reason : Unprepared) → IsErr r × IsErrAnd r (λ e. e ≡ reason) → mid ≡ old ++ step.Group g 0 ∷ [] → length mid ≤ n
     → first_reason (n - length mid) (places_of_all ts) ≡ Some reason → PutsItem n (group_tree g ts) old r new
@@ -225,7 +225,7 @@ inside_tells n g ts old mid (Err reason') new reason by m h e =
     ap (λ (k : ℕ). first_reason k (places_of (group_tree g ts))) room_for_one
     ∙ ap (first_reason (suc (n - length mid))) (places-group g ts) ∙ e ∙ ap Some (sym by.1)
 
--- a group was put
+-- a group was appended
 pub group_put : (n : ℕ) (g : Group) (ts : Trees) (old opened mid new : List Step) → opened ≡ old ++ step.Group g 0 ∷ []
     → (is : List Item) × (ts ≡ trees_of (items_of is)) × (mid ≡ opened ++ flat is) × (length mid ≤ n)
     → new ≡ slice_set mid (length old) (step.Group g (length mid - length old - 1))
@@ -238,7 +238,7 @@ group_put n g ts old opened mid new o (is, same, put, fits) s =
       omega (arith, fits, closed_length old mid new g is m s),
     )
 
--- The trees have so many steps at most, and a place for each of them.
+-- The trees have at most that many steps, and a place for each of them.
 abbrev Row : Trees → ℕ → Type 0
 Row ts most = (ss : List Step) × (places_of_all ts ≡ there ss) × (length ss ≤ most)
 
@@ -289,7 +289,7 @@ abbrev inside_of : Tree → Trees
 inside_of (sequence ts) = ts
 inside_of _ = no_trees
 
--- Where there is a reason, no row of steps that there is room for has the trees.
+-- If there is a reason, no row of steps that fits has the trees.
 refused_rows : (n : ℕ) (ts : Trees) (reason : Unprepared) → first_reason n (places_of_all ts) ≡ Some reason → HasNoSteps n ts
 unfolding trees_in
 refused_rows n ts reason e = λ steps h same.
@@ -297,7 +297,7 @@ refused_rows n ts reason e = λ steps h same.
     let all : places_of_all ts ≡ there row.0 = sym (ap (λ (t : Tree). places_of_all (inside_of t)) same) ∙ row.1 in
     none-some reason (sym (ap (first_reason n) all ∙ room row.0 n (omega (arith, h, row.2))) ∙ e)
 
--- steps that were put into none
+-- steps that were appended to an empty list
 pub prepares : (n : ℕ) (ts : Trees) (old steps result : List Step) → old ≡ []
     → (is : List Item) × (ts ≡ trees_of (items_of is)) × (steps ≡ old ++ flat is) × (length steps ≤ n) → result ≡ steps
     → Prepares n ts (Ok result)
@@ -308,7 +308,7 @@ prepares n ts old steps result none_yet (is, same, put, fits) e =
       ap steps_shape are ∙ steps_shape-flat is ∙ ap sequence (sym same),
     )
 
--- a reason, where none was there
+-- an error of appending to an empty list
 pub unprepared : (n : ℕ) (ts : Trees) (old : List Step) (r : Result (List Step) Unprepared) (reason : Unprepared) → old ≡ []
     → IsErr r × IsErrAnd r (λ e. e ≡ reason) → first_reason (n - length old) (places_of_all ts) ≡ Some reason → Prepares n ts r
 unprepared n ts old (Ok x) reason none_yet by e = absurd (false≢true by.0)

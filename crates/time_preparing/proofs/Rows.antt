@@ -1,4 +1,4 @@
--- Rows of steps, and what is read at once in them.
+-- Rows of steps, and the joined steps in them.
 use Rattle.std.specs.Prelude.{◌==◌, min}
 use Rattle.std.proofs.Common.{◌≡◌, ℕ, zero, suc, ◌+◌, ◌-◌, ◌≤◌, ◌<◌, List, [], ◌∷◌, ◌++◌, length, take, drop, get_or, inl, inr, refl, ap, sym, ◌∙◌, arith, false, true, length-take, length-drop, subst, append_assoc, length-append}
 use Rattle.std.proofs.lemmas.List.{take_all, take-append-drop, drop_all}
@@ -129,7 +129,7 @@ plain_row (step.Component c ∷ front) after p e =
     first_step (step.Component c) (front ++ after) ∙ ap (more (component false c)) (plain_row front after p e)
 plain_row (step.Group g len ∷ front) after p e = absurd p
 
--- steps that are bytes and components, and nothing after them
+-- steps that are bytes and components, with none after them
 pub plain_alone : (steps : List Step) → AllPlain steps → steps_trees steps ≡ leaves steps
 plain_alone steps p =
     ap steps_trees (sym (append_nil steps)) ∙ plain_row steps [] p refl
@@ -150,7 +150,7 @@ second_row b p after =
     ∙ ap (λ ts. more (optional (sequence ts)) (steps_trees after))
     (plain_row second (fraction_parts p) tt refl ∙ ap (followed_by (leaves second)) fraction)
 
--- A literal's further bytes are as many as stand there.
+-- A literal's further bytes are as many as follow it.
 further_within : (steps : List Step) → length (further steps) ≤ length steps
 further_within [] = omega arith
 further_within (step.Literal b ∷ steps) = omega arith
@@ -221,13 +221,13 @@ item_alone (step.Group g len) behind =
     ∙ ap (λ ys. more (group_tree g (steps_trees ys)) (steps_trees (drop len (take n behind)))) (take_twice len behind)
     ∙ ap (more (group_tree g (steps_trees (take len behind)))) (drop_end len (take n behind) (omega (arith, length-take n behind)))
 
--- a first step and those behind it, as a pattern has them
+-- a first step and those after it, as a pattern has them
 pub first_and_behind : (left : List Step) (x : Step) → 1 ≤ length left → x ≡ get_or left 0 x → left ≡ x ∷ behind_first left
 first_and_behind [] x within is = absurd (omega arith)
 first_and_behind (s ∷ left) x within is =
     ap (λ y. y ∷ left) (sym is) ∙ ap (λ ys. x ∷ ys) (sym (behind_is (s ∷ left) (omega arith)))
 
--- steps that are cut after as many as stand in front
+-- steps that are split after as many as are in front
 pub begins_so : (front steps first behind : List Step) → first ≡ take (length front) steps → behind ≡ drop (length front) steps →
     first ≡ front → further behind ≡ [] → BeginsWith front steps
 begins_so front steps first behind is is' same e = (
@@ -275,7 +275,7 @@ module _ (left : List Step) (x : Step) (some : 1 ≤ length left) (is : x ≡ ge
       ∙ ap (λ ys. more (group_tree g (steps_trees ys)) (steps_trees (drop len behind))) front'
       ∙ ap (λ ys. more (group_tree g (steps_trees inside)) (steps_trees ys)) back'
 
--- a byte or a component, and no step behind it
+-- a byte or a component, with no step after it
 pub lone_row : (steps : List Step) (x y : Step) → 1 ≤ length steps → x ≡ get_or steps 0 x → x ≡ y → AllPlain (y ∷ []) →
     (length (behind_first steps) == 0) ≡ true → steps_trees steps ≡ leaves (y ∷ [])
 lone_row steps x y some is of plain alone =
@@ -286,7 +286,7 @@ lone_row steps x y some is of plain alone =
     nothing [] e = refl
     nothing (z ∷ ys) e = absurd (omega (arith, eqb-true (length (z ∷ ys)) 0 e))
 
--- ---- A row of steps that is gone over from its beginning
+-- ---- A walk over a row of steps from its beginning
 
 pub kept_more : (steps kept left : List Step) (x : Step) → steps ≡ kept ++ left → 1 ≤ length left → x ≡ get_or left 0 x →
     steps ≡ (kept ++ x ∷ []) ++ behind_first left

@@ -52,7 +52,7 @@ pub made : {V : Type 0} (o : Option Refusal) (P : V → Type 0) (v : V) → Cons
 made None P v h = h
 made (Some e) P v h = absurd h
 
--- the same as a record's conversion has it
+-- the constructed value in the form of a record's conversion
 constructed : {V : Type 0} (o : Option Refusal) (P : V → Type 0) (v : V) → Constructs o P (Ok v) → IsConstructed o P (Ok v)
 constructed None P v h = h
 constructed (Some e) P v h = absurd h
@@ -84,14 +84,14 @@ module _ (t : Time) (exact : IsWholeSecond t) where
   is_plain d p same_date same_time =
       inr (d, ((refl, refl, refl), d.year_in), inr (t, timed_by (dated d empty) refl, (same_date, same_time)))
 
-  -- in a year that is known
+  -- a date and time in a known year
   pub is_plain_in : (r : Record) (d : Date) (p : PlainDateTime) → r.year ≡ Some (Dates.year d) → r.ordinal ≡ None → r.subsecond ≡ None →
       plain_date p ≡ d → plain_time p ≡ t → IsPlain greatest_year (timed t (in_year d r)) (Ok p)
   unfolding IsPlain IsDated
   is_plain_in r d p same_year no_ordinal no_fraction same_date same_time =
       inr (d, rw (same_year, no_ordinal) ((refl, refl, refl), d.year_in), inr (t, timed_by (in_year d r) no_fraction, (same_date, same_time)))
 
-  -- and an offset
+  -- a date, a time and an offset
   module _ (d : Date) (n : OffsetNumbers) (o : UtcOffset) (of : IsOf n o) where
     is_offset : IsOffset (with_offset n (timed t (dated d empty))) (Ok o)
     unfolding IsOffset
@@ -115,7 +115,7 @@ module _ (t : Time) (exact : IsWholeSecond t) where
           ),
         )
 
--- a time by the halves of the day
+-- a time of the 12-hour clock
 abbrev ShowsClock : Time → Option Clock → Type 0
 ShowsClock t clock = MatchOption clock (Ok t ≡ Err insufficient)
     (λ c. IsConstructed (time_refusal c.hour c.minute c.second c.nanosecond) (HasClock c.hour c.minute c.second c.nanosecond) (Ok t))
@@ -170,7 +170,7 @@ pub no_bytes : (b : List ℕ) → (length b == 0) ≡ true → b ≡ []
 no_bytes [] e = refl
 no_bytes (x ∷ b) e = absurd (omega (arith, eqb-true (length (x ∷ b)) 0 e))
 
--- Which steps lead.
+-- Steps that a form leads to.
 
 plain_joined : (xs ys : List Step) → AllPlain xs → AllPlain ys → AllPlain (xs ++ ys)
 plain_joined [] ys p q = q
@@ -213,7 +213,7 @@ whole_row (whole.Moment m) =
     plain_alone (dated_parts m.date ++ behind)
     (plain_joined (dated_parts m.date) behind (plain_date_form m.date) (plain_end m.before_offset m.in_offset))
 
--- what the trees of the form read, these steps read
+-- these steps read what the trees of the form read
 reads_form : (w : Whole) (steps : List Step) → steps ≡ whole_parts w → (b : List ℕ) (r : Record) (rest : List ℕ) (new : Record) →
     ReadsAll greatest_year (whole_trees w) b r rest new → Reads greatest_year (steps_shape steps) b r rest new
 unfolding Reads
@@ -229,11 +229,11 @@ leads (whole.Plain form between t) list steps is led =
     λ b r rest new h. led b r rest new (reads_form (whole.Plain form between t) list is b r rest new h)
 leads (whole.Moment m) list steps is led = λ b r rest new h. led b r rest new (reads_form (whole.Moment m) list is b r rest new h)
 
--- The form leads its own steps.
+-- The form leads to its own steps.
 pub own : (w : Whole) → Leads w (whole_parts w)
 own w = leads w (whole_parts w) (whole_parts w) refl (λ b r rest new h. h)
 
--- the use of it
+-- the readings of a form that leads to the steps
 pub led : (w : Whole) (steps : List Step) → Leads w steps → w ≢ whole.Nothing → (b : List ℕ) (r : Record) (rest : List ℕ) (new : Record) →
     ReadsAll greatest_year (whole_trees w) b r rest new → Reads greatest_year (steps_shape steps) b r rest new
 led whole.Nothing steps leads some = absurd (some refl)

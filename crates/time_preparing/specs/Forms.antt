@@ -1,4 +1,4 @@
--- The steps of forms whose parts stand at fixed places, and the records that their numbers make.
+-- The steps of forms whose parts are at fixed places, and the records with their numbers.
 use Rattle.std.specs.Prelude.{ℕ, List, [], ◌∷◌, ◌++◌, Option, None, Some, ◌≡◌, ◌≤◌, ◌<◌, length}
 use Rattle.std.specs.Int.NonZero.{non_zero_u8_get}
 use Rattle.time_components.specs.declared.format_description.Component.{Component}
@@ -29,7 +29,7 @@ year_first_parts year b =
 abbrev pub date_parts : ℕ → List Step
 date_parts b = year_first_parts (CalendarYearFullExtendedRange YEAR) b
 
--- the same with a year of four digits at most
+-- a year of four digits at most, a month and a day
 abbrev pub standard_date_parts : ℕ → List Step
 standard_date_parts b = year_first_parts (CalendarYearFullStandardRange STANDARD_YEAR) b
 
@@ -52,7 +52,7 @@ time_parts b =
     ∷ step.Component (Minute MINUTE) ∷ step.Literal b
     ∷ step.Component (Second SECOND) ∷ []
 
--- a byte that may be there
+-- an optional byte
 abbrev pub bytes_of : Option ℕ → List ℕ
 bytes_of None = []
 bytes_of (Some b) = b ∷ []
@@ -70,47 +70,47 @@ offset_parts b =
 abbrev pub with_date : DateNumbers → Record → Record
 with_date n r = record r { year = Some n.year; month = Some n.month; day = Some (non_zero_u8_get n.day) }
 
--- with an hour, a minute and a second
+-- the record with an hour, a minute and a second
 abbrev pub with_clock : ClockNumbers → Record → Record
 with_clock n r = record r { hour_24 = Some n.hour; minute = Some n.minute; second = Some n.second }
 
--- with an offset's hour and its sign, and its minute
+-- the record with an offset's hour and its sign, and its minute
 abbrev pub with_offset : OffsetNumbers → Record → Record
 with_offset n r =
     record r { offset_hour = Some n.hour; offset_is_negative = n.is_negative; offset_minute = Some n.minute }
 
--- with nanoseconds of the second, where there are any
+-- the record with nanoseconds of the second, if there are any
 abbrev pub with_subsecond : Option ℕ → Record → Record
 with_subsecond None r = r
 with_subsecond (Some n) r = record r { subsecond = Some n }
 
--- with a second and its nanoseconds, where there is one
+-- the record with a second and its nanoseconds, if there is one
 abbrev pub with_second : Option (ℕ × Option ℕ) → Record → Record
 with_second None r = r
 with_second (Some (s, n)) r = with_subsecond n (record r { second = Some s })
 
--- with an hour of a half day, a minute, a second where there is one, and the half
+-- the record with an hour of the 12-hour clock, a minute, a second if there is one, and the half
 abbrev pub with_half : HalfNumbers → Record → Record
 with_half n r =
     let hour = record r { hour_12 = Some n.hour; minute = Some n.minute } in
     record (with_second n.second hour) { hour_12_is_pm = Some (is_pm n.half) }
 
--- ---- Which steps of a description are read at once
+-- ---- Which steps of a description are joined
 
 -- the short name of a month, and a day
 abbrev pub month_day_parts : ℕ → List Step
 month_day_parts b =
     step.Component (MonthShort MONTH_NAME) ∷ step.Literal b ∷ step.Component (Day SPACED_DAY) ∷ []
 
--- a fraction of a second, which may be missing
+-- an optional fraction of a second
 abbrev pub fraction_parts : ℕ → List Step
 fraction_parts p = step.Group Optional 2 ∷ step.Literal p ∷ step.Component (Subsecond SUBSECOND) ∷ []
 
--- a second, which may be missing, with a fraction, which may be missing too
+-- an optional second with an optional fraction
 abbrev pub second_parts : ℕ → ℕ → List Step
 second_parts b p = step.Group Optional 5 ∷ step.Literal b ∷ step.Component (Second SECOND) ∷ fraction_parts p
 
--- the steps that are read at once
+-- the steps that a joined step replaces
 abbrev pub parts : Joined → List Step
 parts joined.Nothing = []
 parts (joined.Byte b) = step.Literal b ∷ []
@@ -122,15 +122,15 @@ parts (joined.Time b) = time_parts b
 parts (joined.Fraction p) = fraction_parts p
 parts (joined.Seconds b p) = second_parts b p
 
--- The steps begin with these, and no literal goes on after them.
+-- The steps begin with the front, and no literal continues after it.
 abbrev pub BeginsWith : List Step → List Step → Type 0
 BeginsWith front steps = (after : List Step) × (steps ≡ front ++ after) × (further after ≡ [])
 
--- The steps begin with those that are read at once, if there are some and there are enough steps.
+-- The steps begin with the joined ones, if there are joined ones and enough steps.
 abbrev pub Says : Joined → List Step → Type 0
 Says j steps = 0 < length (parts j) → length (parts j) ≤ length steps → BeginsWith (parts j) steps
 
--- each of the steps with those after it
+-- each joined step is at the position of its steps
 abbrev pub Fits : List Joined → List Step → Type 0
 Fits [] steps = Unit {0}
 Fits (j ∷ js) [] = Unit {0}

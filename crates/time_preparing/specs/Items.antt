@@ -1,4 +1,4 @@
--- The steps of items that were put together by hand, or what stands in their way.
+-- The steps of items that were built by hand, or why they can't be prepared.
 use Rattle.std.specs.Prelude.{◌≡◌, ◌≢◌, ◌≤◌, ℕ, zero, suc, List, [], ◌∷◌, ◌++◌, codes, length, map, Option, None, Some, Result, Ok, Err}
 use Rattle.time_components.specs.Tree.{steps_shape, Tree, Trees, literal, component, sequence, optional, first_of, none, more}
 use Rattle.time_components.specs.declared.inspect.Group.{Group}
@@ -8,7 +8,7 @@ use Rattle.time_components.specs.declared.inspect.Step.TheVariants as step
 use Rattle.time_preparing.specs.declared.items.Unprepared.{Unprepared}
 use Rattle.time_preparing.specs.declared.items.Unprepared.TheVariants.{EmptyLiteral, OptionalNotCompound, TooLong}
 
--- a step, or why there is none in this place
+-- a step, or why this place has none
 abbrev pub Place : Type 0
 Place = Result Step Unprepared
 
@@ -21,12 +21,12 @@ abbrev pub literal_places : List ℕ → List Place
 literal_places [] = Err EmptyLiteral ∷ []
 literal_places (b ∷ bytes) = Ok (step.Literal b) ∷ further_places bytes
 
--- a group of what stands inside it
+-- a group of the places inside it
 abbrev pub group_places : Group → List Place → List Place
 group_places g inside = Ok (step.Group g (length inside)) ∷ inside
 
 abbrev mutual
-  -- the steps of a tree in their order, and in the place of what has none the reason
+  -- the steps of a tree in their order; a part without a step has the reason instead
   pub places_of : Tree → List Place
   places_of (literal bytes) = literal_places bytes
   places_of (component whole c) = Ok (step.Component c) ∷ []
@@ -34,17 +34,17 @@ abbrev mutual
   places_of (optional t) = optional_places_of t
   places_of (first_of ts) = group_places groups.First (places_of_all ts)
 
-  -- of a tree that may be missing
+  -- the places of an optional tree
   pub optional_places_of : Tree → List Place
   optional_places_of (sequence ts) = group_places groups.Optional (places_of_all ts)
   optional_places_of _ = Err OptionalNotCompound ∷ []
 
-  -- of trees in turn
+  -- the places of trees in turn
   pub places_of_all : Trees → List Place
   places_of_all none = []
   places_of_all (more t ts) = places_of t ++ places_of_all ts
 
--- what stands in the way first, where there is room for n steps
+-- the first reason why places can't be prepared, if there is room for n steps
 abbrev pub first_reason : ℕ → List Place → Option Unprepared
 first_reason n [] = None
 first_reason n (Err reason ∷ places) = Some reason
@@ -55,13 +55,13 @@ first_reason (suc n) (Ok s ∷ places) = first_reason n places
 abbrev pub HasNoSteps : ℕ → Trees → Type 0
 HasNoSteps n ts = (steps : List Step) → length steps ≤ n → steps_shape steps ≢ sequence ts
 
--- The steps are those of the trees, at most n, and have these trees; or the first reason is told, and no such row of
--- steps has them.
+-- The steps are those of the trees, at most n, and have these trees; or this is the first reason, and no row of at most
+-- n steps has them.
 abbrev pub Prepares : ℕ → Trees → Result (List Step) Unprepared → Type 0
 Prepares n ts (Ok steps) = (places_of_all ts ≡ map Ok steps) × (length steps ≤ n) × (steps_shape steps ≡ sequence ts)
 Prepares n ts (Err reason) = (first_reason n (places_of_all ts) ≡ Some reason) × HasNoSteps n ts
 
--- what is printed
+-- the text that is printed
 abbrev pub unprepared_text : Unprepared → List ℕ
 unprepared_text EmptyLiteral = codes "a literal is empty"
 unprepared_text OptionalNotCompound = codes "an optional item is no compound"

@@ -1,4 +1,4 @@
--- What a walk over trees in turn does. `Y` is the greatest year.
+-- What a walk over trees in turn reads. `Y` is the greatest year.
 use Rattle.std.specs.Prelude.{◌≡◌, ◌<◌, ◌≤◌, ◌⊎◌, ℕ, List, [], ◌∷◌, ◌++◌, drop, length, min, Option, Some, None, Result, Ok, Err, false}
 use Rattle.std.specs.Borrow.{Bor}
 use Rattle.time_values.specs.Refusal.{Refusal, refusal_of_description}
@@ -14,7 +14,7 @@ use Rattle.time_preparing.specs.Forms.{parts}
 use Rattle.time_preparing.specs.declared.joined.Joined.{Joined}
 use Rattle.time_preparing.specs.declared.forms.TheConstants.{SECOND, SUBSECOND}
 
--- trees, and then further trees
+-- trees, followed by further trees
 abbrev pub followed_by : Trees → Trees → Trees
 followed_by none us = us
 followed_by (more t ts) us = more t (followed_by ts us)
@@ -27,45 +27,45 @@ leaves (step.More b ∷ steps) = more (literal (b ∷ [])) (leaves steps)
 leaves (step.Component c ∷ steps) = more (component false c) (leaves steps)
 leaves (step.Group g len ∷ steps) = leaves steps
 
--- a fraction of a second after this byte, which may be missing
+-- an optional fraction of a second after this byte
 abbrev pub fraction_tree : ℕ → Tree
 fraction_tree p =
     optional (sequence (more (literal (p ∷ [])) (more (component false (Subsecond SUBSECOND)) none)))
 
--- a second after the first byte, which may be missing, and then such a fraction
+-- an optional second after the first byte, with its optional fraction
 abbrev pub seconds_tree : ℕ → ℕ → Tree
 seconds_tree b p =
     optional (sequence (more (literal (b ∷ [])) (more (component false (Second SECOND)) (more (fraction_tree p) none))))
 
--- the rest and the record of a reading; or nothing is said, and the record is as it was
+-- the rest and the record of a reading; or nothing is known, and the record is unchanged
 abbrev pub MayReadAll : ℕ → Trees → List ℕ → Record → Option (Bor (List ℕ)) → Record → Type 0
 MayReadAll Y ts bytes r (Some rest) r' = ReadsAll Y ts bytes r rest.now r'
 MayReadAll Y ts bytes r None r' = r' ≡ r
 
--- the rest and the record of the tree's reading; or its fault, and nothing is said of the record
+-- the rest and the record of the tree's reading; or its error, and any record
 abbrev pub Tells : ℕ → Tree → List ℕ → Record → Result (Bor (List ℕ)) ParseFromDescription → Record → Type 0
 Tells Y t bytes r (Ok rest) r' = Reads Y t bytes r rest.now r'
 Tells Y t bytes r (Err e) r' = Refuses Y t bytes r (refusal_of_description e)
 
--- What the trees that are left answer, all of them answer: those before them were read.
+-- A result of the trees that are left is a result of all trees, since those before them were read.
 pub record Goes (Y : ℕ) (all : Trees) (b0 : List ℕ) (r0 : Record) (left : Trees) (b : List ℕ)
     (r : Record) : Type 0 where
   pub reads : (rest : List ℕ) (q : Record) → ReadsAll Y left b r rest q → ReadsAll Y all b0 r0 rest q
   pub refuses : (e : Refusal) → RefusesAll Y left b r e → RefusesAll Y all b0 r0 e
 
--- In front of any steps that don't go on a literal, so many of those that are read at once are read.
+-- At the front of any steps that don't continue a literal, that many of the joined ones are read.
 abbrev pub ReadsFront : Joined → ℕ → List ℕ → Record → List ℕ → Record → Type 0
 ReadsFront j n bytes r rest r' =
     (after : List Step) → further after ≡ []
     → Goes greatest_year (steps_trees (parts j ++ after)) bytes r (steps_trees (drop n (parts j ++ after))) rest r'
 
--- So many are read, where that many steps are left; or none.
+-- That many of the joined steps are read, and there are enough steps left for all of them; or none is read.
 abbrev pub MayReadFront : Joined → ℕ → ℕ → List ℕ → Record → List ℕ → Record → Type 0
 MayReadFront j left n bytes r rest r' =
     ((n ≡ 0) × (rest ≡ bytes) × (r' ≡ r))
     ⊎ ((0 < length (parts j)) × (length (parts j) ≤ left) × ReadsFront j n bytes r rest r')
 
--- how many of the steps behind this one belong to its item
+-- how many of the steps after this one belong to its item
 abbrev pub item_length : Step → List Step → ℕ
 item_length (step.Literal b) behind = length (further behind)
 item_length (step.More b) behind = length (further behind)

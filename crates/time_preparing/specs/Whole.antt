@@ -1,4 +1,4 @@
--- Descriptions whose texts have one form each, from their first byte to their last.
+-- Descriptions whose whole texts each have one form.
 use Rattle.std.specs.Prelude.{◌≡◌, ◌≢◌, ℕ, List, [], ◌∷◌, ◌++◌, pos, Ok, Option, None, Some, unwrap_or, false}
 use Rattle.time_components.specs.Tree.{steps_shape, Trees, component, literal, none, more}
 use Rattle.time_components.specs.declared.format_description.Component.TheVariants.{Hour12, Minute, Period}
@@ -24,13 +24,13 @@ use Rattle.time_preparing.specs.Walk.{leaves, seconds_tree}
 use Rattle.time_preparing.specs.declared.whole.Whole.{Whole}
 use Rattle.time_preparing.specs.declared.whole.Whole.TheVariants as whole
 
--- the steps of a time by the halves of the day
+-- the steps of a time of the 12-hour clock
 abbrev pub half_parts : InHalf → List Step
 half_parts h =
     step.Component (Hour12 HOUR_12) ∷ step.Literal h.in_time ∷ step.Component (Minute MINUTE)
     ∷ (second_parts h.before_second h.point ++ step.Literal h.before_half ∷ step.Component (Period h.half) ∷ [])
 
--- and their trees
+-- the trees of a time of the 12-hour clock
 abbrev pub half_trees : InHalf → Trees
 half_trees h =
     more (component false (Hour12 HOUR_12)) (more (literal (h.in_time ∷ [])) (more (component false (Minute MINUTE))
@@ -53,29 +53,29 @@ whole_parts (whole.Moment m) =
     dated_parts m.date ++ step.Literal m.between
     ∷ (time_parts m.in_time ++ (byte_parts m.before_offset ++ offset_parts m.in_offset))
 
--- and their trees
+-- the trees of the form
 abbrev pub whole_trees : Whole → Trees
 whole_trees (whole.Half h) = half_trees h
 whole_trees w = leaves (whole_parts w)
 
--- What the list of these steps reads, the list of the others reads.
+-- Each reading by the list is also a reading by the steps.
 abbrev pub IsLed : List Step → List Step → Type 0
 IsLed list steps = (bytes : List ℕ) (r : Record) (rest : List ℕ) (new : Record)
     → Reads greatest_year (steps_shape list) bytes r rest new → Reads greatest_year (steps_shape steps) bytes r rest new
 
--- What the steps of the form read in turn, the tree of the steps reads.
+-- Each reading by the form's trees in turn is also a reading by the steps' tree.
 abbrev pub Leads : Whole → List Step → Type 0
 Leads whole.Nothing steps = Unit {0}
 Leads w steps = (bytes : List ℕ) (r : Record) (rest : List ℕ) (new : Record)
     → ReadsAll greatest_year (whole_trees w) bytes r rest new
     → Reads greatest_year (steps_shape steps) bytes r rest new
 
--- The form reads the whole of the bytes over the first record, and the other one has that property then.
+-- The form reads all bytes over the first record, and the resulting record has that property.
 abbrev pub ReadsOver : Whole → List ℕ → Record → (Record → Type 0) → Type 0
 ReadsOver w bytes begin P =
     (w ≢ whole.Nothing) × (r : Record) × ReadsAll greatest_year (whole_trees w) bytes begin [] r × P r
 
--- the same over an empty record
+-- the form reads all bytes over an empty record, and the resulting record has that property
 abbrev pub ReadsWhole : Whole → List ℕ → (Record → Type 0) → Type 0
 ReadsWhole w bytes P = ReadsOver w bytes empty P
 
@@ -83,15 +83,15 @@ ReadsWhole w bytes P = ReadsOver w bytes empty P
 abbrev pub dated : Date → Record → Record
 dated d r = record r { year = Some (Dates.year d); month = Some (Dates.month d); day = Some (Dates.day d) }
 
--- with a month and a day alone
+-- the record with a month and a day alone
 abbrev pub in_year : Date → Record → Record
 in_year d r = record r { month = Some (Dates.month d); day = Some (Dates.day d) }
 
--- with a time up to its second
+-- the record with a time up to its second
 abbrev pub timed : Time → Record → Record
 timed t r = record r { hour_24 = Some (Times.hour t); minute = Some (Times.minute t); second = Some (Times.second t) }
 
--- a second and its nanosecond, which are 0 where they are missing
+-- a second and its nanosecond, which are 0 if they are missing
 abbrev pub clock_second : Option (ℕ × Option ℕ) → ℕ × ℕ
 clock_second None = (0, 0)
 clock_second (Some (s, n)) = (s, unwrap_or n 0)
@@ -100,7 +100,7 @@ clock_second (Some (s, n)) = (s, unwrap_or n 0)
 abbrev pub IsWholeSecond : Time → Type 0
 IsWholeSecond t = Times.nanosecond t ≡ 0
 
--- The offset is made of these numbers, where its minute takes the sign that was read.
+-- The offset has these numbers, and its minute has the sign that was read.
 abbrev pub IsOf : OffsetNumbers → UtcOffset → Type 0
 IsOf n o =
     let m = signed_by n.is_negative n.minute in

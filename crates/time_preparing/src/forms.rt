@@ -1,4 +1,4 @@
-//! Forms of dates, times and offsets whose parts stand at fixed places, and the steps that each is written by.
+//! Forms of dates, times and offsets whose parts are at fixed places, and the steps of each.
 ghost use Rattle.std.specs.Prelude.{◌≡◌, IsTrue, Some, None};
 ghost use Rattle.time_preparing.specs.Forms.{date_parts, day_first_parts, offset_parts, standard_date_parts, time_parts, year_first_parts};
 
@@ -13,7 +13,7 @@ use time_values::Month;
 pub enum Dated {
     /// A year of four digits, a month and a day, as `2021-03-04`.
     YearFirst(u8),
-    /// The same by a description that takes no year of more digits.
+    /// A year of four digits, a month and a day, by a description that accepts no year of more digits.
     StandardYearFirst(u8),
     /// A day, the short name of a month and a year of four digits, as `04/Mar/2021`.
     DayFirst(u8),
@@ -34,7 +34,8 @@ pub struct InMoment {
     pub in_offset: Option<u8>,
 }
 
-/// A time by the halves of the day, as `1:05:09.25 PM`; the second with its fraction, and the fraction, may be missing.
+/// A time of the 12-hour clock, as `1:05:09.25 PM`; the second with its fraction, or the fraction alone, may be
+/// missing.
 #[derive(Clone, Copy, Debug, PartialEq, Eq)]
 pub struct InHalf {
     /// The byte before the minute.
@@ -76,7 +77,7 @@ pub(crate) struct ClockNumbers {
     pub second: u8,
 }
 
-/// The numbers of a time by the halves of the day. A second has its nanoseconds beside it, if there are any.
+/// The numbers of a time of the 12-hour clock. A second has its nanoseconds beside it, if there are any.
 #[derive(Clone, Copy)]
 pub(crate) struct HalfNumbers {
     pub hour: u8,
@@ -150,7 +151,7 @@ pub(crate) const OFFSET_MINUTE: modifier::OffsetMinute = modifier::OffsetMinute 
     padding: Padding::Zero,
 };
 
-// The steps of a date whose year, which this component reads, stands first.
+// The steps of a date that begins with its year, which this component reads.
 fn year_first_steps(year: Component, between: u8) -> [Step; 5]
     ensures { result ≡ year_first_parts year between }
 {
@@ -163,14 +164,14 @@ fn year_first_steps(year: Component, between: u8) -> [Step; 5]
     ]
 }
 
-/// The steps of a date whose year stands first.
+/// The steps of a date that begins with its year.
 pub(crate) fn date_steps(between: u8) -> [Step; 5]
     ensures { result ≡ date_parts between }
 {
     year_first_steps(Component::CalendarYearFullExtendedRange(YEAR), between)
 }
 
-/// The same with a year of four digits at most.
+/// The steps of a date that begins with its year, of four digits at most.
 pub(crate) fn standard_date_steps(between: u8) -> [Step; 5]
     ensures { result ≡ standard_date_parts between }
 {
@@ -180,7 +181,7 @@ pub(crate) fn standard_date_steps(between: u8) -> [Step; 5]
     )
 }
 
-/// The steps of a date whose day stands first.
+/// The steps of a date that begins with its day.
 pub(crate) fn day_first_steps(between: u8) -> [Step; 5]
     ensures { result ≡ day_first_parts between }
 {
@@ -216,7 +217,7 @@ pub(crate) fn offset_steps() -> [Step; 2]
     ]
 }
 
-/// The same with a byte between them.
+/// The steps of an offset with a sign, and a byte between its hour and minute.
 pub(crate) fn parted_steps(between: u8) -> [Step; 3]
     ensures { result ≡ offset_parts (Some between) }
 {
@@ -227,7 +228,7 @@ pub(crate) fn parted_steps(between: u8) -> [Step; 3]
     ]
 }
 
-/// Whether these are the same steps.
+/// Whether both rows have equal steps.
 pub(crate) fn are_same(steps: &[Step], others: &[Step]) -> bool
     ensures { IsTrue result → steps.now ≡ others.now }
 {
@@ -240,7 +241,7 @@ pub(crate) fn are_same(steps: &[Step], others: &[Step]) -> bool
     }
 }
 
-/// Whether a step is this one of those that are joined.
+/// Whether a step equals one of the joined steps.
 pub(crate) fn is_same(step: &Step, part: &Step) -> bool
     ensures { IsTrue result → step.now ≡ part.now }
 {
@@ -271,7 +272,7 @@ macro_rules! is_variant {
     };
 }
 
-// Whether a component is this one of those that are joined.
+// Whether a component equals one of the joined steps' components.
 fn is_same_component(component: &Component, other: &Component) -> bool
     ensures { IsTrue result → component.now ≡ other.now }
 {

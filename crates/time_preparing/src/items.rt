@@ -1,4 +1,4 @@
-//! The steps of items that were put together by hand.
+//! The steps of items that were built by hand.
 ghost use Rattle.std.specs.Prelude.{◌≡◌, ◌<◌, ◌≤◌, ◌+◌, ◌-◌, ◌++◌, ◌∷◌, [], length, map, IfErr, OnOk, Some, false, slice_set};
 ghost use Rattle.time_components.specs.Tree.{borrowed_shape, group_tree, literal, optional, trees};
 ghost use Rattle.time_components.specs.Tree as tree;
@@ -11,15 +11,15 @@ use arrayvec::ArrayVec;
 use std::fmt;
 use time_components::{BorrowedFormatItem, Component, Group, Step};
 
-/// Why items are not prepared.
+/// Why items can't be prepared.
 #[derive(Clone, Copy, Debug, PartialEq, Eq)]
 pub enum Unprepared {
-    /// A literal has no byte, and no step stands for it.
+    /// A literal is empty, so no step represents it.
     EmptyLiteral,
-    /// An optional item is no `Compound`. Steps are optional as a list alone: in a `Compound` of its own the item
+    /// An optional item is no `Compound`. Only a list of steps can be optional: in a `Compound` of its own the item
     /// parses as it does by itself.
     OptionalNotCompound,
-    /// There are more steps than there is room for.
+    /// There is no room for all steps.
     TooLong,
 }
 
@@ -37,7 +37,7 @@ impl fmt::Display for Unprepared {
 
 impl std::error::Error for Unprepared {}
 
-// One more step, if there is room.
+// Appends a step, if there is room.
 fn put<const N: usize>(steps: &mut ArrayVec<Step, N>, step: Step) -> Result<(), Unprepared>
     ensures ok { OnOk result (steps.new.items ≡ steps.old.items ++ step ∷ []) }
     ensures room { OnOk result (length steps.new.items ≤ N) }
@@ -49,7 +49,7 @@ fn put<const N: usize>(steps: &mut ArrayVec<Step, N>, step: Step) -> Result<(), 
     }
 }
 
-// The further bytes of a literal, if there is room.
+// Appends the further bytes of a literal, if there is room.
 fn put_further<const N: usize>(
     bytes: &[u8],
     steps: &mut ArrayVec<Step, N>,
@@ -64,7 +64,7 @@ fn put_further<const N: usize>(
     Ok(())
 }
 
-// The steps of a literal of these bytes, if there is room.
+// Appends the steps of a literal of these bytes, if there is room.
 #[tactic(auto, using(crate::proofs::Placing::puts_bytes))]
 fn put_bytes<const N: usize>(
     first: u8,
@@ -78,7 +78,7 @@ fn put_bytes<const N: usize>(
     put_further(further, steps)
 }
 
-// The steps of a literal, if it has any and there is room.
+// Appends the steps of a literal, if it has any and there is room.
 fn put_literal<const N: usize>(
     bytes: &[u8],
     steps: &mut ArrayVec<Step, N>,
@@ -92,7 +92,7 @@ fn put_literal<const N: usize>(
     }
 }
 
-// The step of a component, if there is room.
+// Appends the step of a component, if there is room.
 #[tactic(auto, using(crate::proofs::Placing::puts_component))]
 fn put_component<const N: usize>(
     component: Component,
@@ -104,7 +104,7 @@ fn put_component<const N: usize>(
     put(steps, Step::Component(component))
 }
 
-// The steps of an item, if it has any and there is room.
+// Appends the steps of an item, if it has any and there is room.
 #[cycle(items)]
 fn put_item<const N: usize>(
     item: &BorrowedFormatItem<'_>,
@@ -123,7 +123,7 @@ fn put_item<const N: usize>(
     }
 }
 
-// The steps of an item that may be missing, if it has any and there is room.
+// Appends the steps of an optional item, if it has any and there is room.
 #[cycle(items)]
 fn put_optional<const N: usize>(
     item: &BorrowedFormatItem<'_>,
@@ -138,7 +138,7 @@ fn put_optional<const N: usize>(
     }
 }
 
-// Lets the group at the index have all steps after it.
+// Makes all steps after the index belong to the group at the index.
 fn close_group<const N: usize>(steps: &mut ArrayVec<Step, N>, group: Group, index: usize)
     requires { index < length steps.old.items }
     ensures { steps.new.items ≡ slice_set steps.old.items index
@@ -148,7 +148,7 @@ fn close_group<const N: usize>(steps: &mut ArrayVec<Step, N>, group: Group, inde
     steps[index] = Step::Group(group, len);
 }
 
-// The steps of a group of these items, if they have any and there is room.
+// Appends the steps of a group of these items, if they have any and there is room.
 #[cycle(items)]
 fn put_group<const N: usize>(
     group: Group,
@@ -165,7 +165,7 @@ fn put_group<const N: usize>(
     Ok(())
 }
 
-/// Puts the steps of items in turn, if they have any and there is room.
+/// Appends the steps of items in turn, if they have any and there is room.
 #[cycle(items)]
 pub(crate) fn put_items<const N: usize>(
     items: &[BorrowedFormatItem<'_>],

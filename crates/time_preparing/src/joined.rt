@@ -1,4 +1,4 @@
-//! Steps of a description that are read at once.
+//! Joined steps: several steps of a description that are parsed together.
 ghost use Rattle.std.specs.Prelude.{◌≡◌, [], IfSome, IsTrue, false};
 ghost use Rattle.time_components.specs.Tree.{further};
 ghost use Rattle.time_preparing.specs.Forms.{BeginsWith, fraction_parts, month_day_parts, Says, second_parts};
@@ -8,10 +8,10 @@ use crate::forms::{
 };
 use time_components::{Component, Group, Step};
 
-/// The steps from one on that are read at once, with no walk over them.
+/// The steps at an index that are parsed together, without a walk over them.
 #[derive(Clone, Copy, Debug, PartialEq, Eq)]
 pub(crate) enum Joined {
-    /// None: what stands here is read step by step.
+    /// None: the step at this index is parsed on its own.
     Nothing,
     /// A literal of this one byte.
     Byte(u8),
@@ -21,7 +21,7 @@ pub(crate) enum Joined {
     Date(u8),
     /// A day, the short name of a month and a year of four digits, with this byte between them.
     DayFirst(u8),
-    /// The short name of a month and a day, where a space may stand for its first digit, with this byte between them.
+    /// The short name of a month and a day, whose first digit may be a space, with this byte between them.
     MonthDay(u8),
     /// An hour up to 23, a minute and a second, with this byte between them.
     Time(u8),
@@ -51,7 +51,7 @@ fn month_day_steps(between: u8) -> [Step; 3]
     ]
 }
 
-// The steps of a fraction that may be missing.
+// The steps of an optional fraction.
 fn fraction_steps(point: u8) -> [Step; 3]
     ensures { result ≡ fraction_parts point }
 {
@@ -62,7 +62,7 @@ fn fraction_steps(point: u8) -> [Step; 3]
     ]
 }
 
-// The steps of a second and its fraction that may be missing.
+// The steps of an optional second with its optional fraction.
 fn second_steps(between: u8, point: u8) -> [Step; 6]
     ensures { result ≡ second_parts between point }
 {
@@ -76,7 +76,7 @@ fn second_steps(between: u8, point: u8) -> [Step; 6]
     ]
 }
 
-// Whether these steps stand in front of the others, and no literal goes on after them.
+// Whether the steps begin with `front`, and no literal continues after it.
 fn begins(steps: &[Step], front: &[Step]) -> bool
     ensures { IsTrue result → BeginsWith front.now steps.now }
 {
@@ -87,7 +87,7 @@ fn begins(steps: &[Step], front: &[Step]) -> bool
     are_same(first, front) && !goes_on(behind)
 }
 
-// Whether a literal before these steps goes on in them.
+// Whether a literal before these steps continues in them.
 fn goes_on(steps: &[Step]) -> bool
     ensures { result ≡ false → further steps.now ≡ [] }
 {
@@ -97,7 +97,7 @@ fn goes_on(steps: &[Step]) -> bool
     }
 }
 
-/// The steps in front of these that are read at once.
+/// The joined steps at the front of these.
 pub(crate) fn joined_at(steps: &[Step]) -> Joined
     ensures { Says result steps.now }
 {
@@ -107,7 +107,7 @@ pub(crate) fn joined_at(steps: &[Step]) -> Joined
     }
 }
 
-// Several steps in front of these, of which the second is a literal of one byte. This is no second way of reading.
+// Joined steps at the front of these, if the second is a literal of one byte. This is no second way of reading.
 fn several_at(steps: &[Step]) -> Option<Joined>
     ensures { IfSome result (λ joined. Says joined steps.now) }
 {
@@ -127,7 +127,7 @@ fn several_at(steps: &[Step]) -> Option<Joined>
     }
 }
 
-// Three steps in front of these, of which the second is a literal of this byte. This is no second way of reading.
+// Three joined steps at the front of these, if the second is a literal of this byte. This is no second way of reading.
 fn three_at(steps: &[Step], byte: u8) -> Option<Joined>
     ensures { IfSome result (λ joined. Says joined steps.now) }
 {
@@ -146,7 +146,7 @@ fn three_at(steps: &[Step], byte: u8) -> Option<Joined>
     }
 }
 
-// A literal of one byte or a component in front of these steps.
+// A literal of one byte or a component at the front of these steps.
 fn alone_at(steps: &[Step]) -> Joined
     ensures { Says result steps.now }
 {

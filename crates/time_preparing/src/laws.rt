@@ -1,4 +1,4 @@
-//! The law of prepared descriptions. Its statement is that of equal trees.
+//! The law of prepared descriptions. It is stated by equal trees.
 ghost use Rattle.time_values.specs.Calendar.{greatest_year};
 ghost use Rattle.time_components.specs.Tree.{steps_shape};
 ghost use Rattle.time_descriptions.specs.Description.{shape};

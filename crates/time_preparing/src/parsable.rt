@@ -1,7 +1,7 @@
 //! Prepared descriptions as formats.
 //!
-//! `fast` makes a value of the numbers of a whole text, with no record, and is asked first where there are no defaults:
-//! what it doesn't answer is read over the record.
+//! If there are no defaults, `fast` is tried first: it makes a value directly from the numbers of a whole text. A text
+//! that `fast` doesn't parse is parsed over the record.
 ghost use Rattle.std.specs.Prelude.{◌≡◌, ◌≢◌, ◌⊎◌, [], Ok, Err, MatchResult};
 ghost use Rattle.time_values.specs.Calendar.{greatest_year};
 ghost use Rattle.time_values.specs.Refusal.{refusal_of_parsed, trailing};
@@ -21,7 +21,7 @@ use time_record::Parsed;
 use time_values::error::{Parse, TryFromParsed};
 use time_values::{Date, OffsetDateTime, PlainDateTime, Time};
 
-// The value of the whole input, read over a record that begins with the defaults.
+// The value of the whole input, parsed over a record that begins with the defaults.
 #[inline(never)]
 fn over_record<const N: usize, V: TryFrom<Parsed, Error = TryFromParsed> + Drop>(
     format: &Prepared<N>,
@@ -36,7 +36,7 @@ fn over_record<const N: usize, V: TryFrom<Parsed, Error = TryFromParsed> + Drop>
         ⊎ ((r : Record) × Reads greatest_year (steps_shape format.now) input.now (begun defaults.now) [] r
         × ((f : TryFromParsed_) × V.try_from_gives r (Err f) × (e ≡ refusal_of_parsed f)))) }
 {
-    // `begin` would copy what may be there before it looks.
+    // `begin` would copy the defaults before it inspects them.
     let mut parsed = Parsed::new();
     if let Some(known) = defaults {
         parsed = *known;

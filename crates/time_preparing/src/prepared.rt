@@ -21,8 +21,8 @@ use time_values::error::ParseFromDescription;
 
 /// A description of at most `N` steps that is prepared for many texts.
 ///
-/// It is the steps of the description, in their order. Beside each it knows which steps from there on are read at once,
-/// and of all of them whether their texts have one form.
+/// It has the steps of the description, in their order. It stores for each step which steps from there on are parsed
+/// together, and whether all whole texts have one known form.
 #[derive(Drop)]
 pub struct Prepared<const N: usize> {
     steps: ArrayVec<Step, N>,
@@ -45,15 +45,15 @@ impl<const N: usize> Model for Prepared<N> {
 }
 
 impl<const N: usize> Prepared<N> {
-    /// Prepares a description that was read from a text.
+    /// Prepares a description that was parsed from a text.
     pub fn new(description: &Description<N>) -> Prepared<N>
         ensures { result ≡ description.now.steps.items }
     {
         prepare(description.steps())
     }
 
-    /// Prepares the steps of a description, as [`Description::steps`](time_descriptions::Description::steps) gives them.
-    /// `None` exactly where there are more than `N`.
+    /// Prepares the steps of a description, which [`Description::steps`](time_descriptions::Description::steps)
+    /// returns. `None` if and only if there are more than `N`.
     pub fn from_steps(steps: &[Step]) -> Option<Prepared<N>>
         ensures { MatchOption result (N < length steps.now) (λ p. p ≡ steps.now) }
     {
@@ -63,14 +63,15 @@ impl<const N: usize> Prepared<N> {
         Some(prepare(steps))
     }
 
-    /// Prepares items in turn, as of a description that was put together by hand. There is a step for each component,
-    /// for each byte of a literal, and for each `Compound`, `Optional` and `First` beside those inside it.
+    /// Prepares items in turn, those of a description that was built by hand. There is a step for each component, for
+    /// each byte of a literal, and for each `Compound`, `Optional` and `First` in addition to those inside it.
     ///
     /// # Errors
     ///
-    /// The first reason against it in the order of the items: [`Unprepared::EmptyLiteral`] at a literal of no byte,
-    /// [`Unprepared::OptionalNotCompound`] at an `Optional` of anything but a `Compound`, and [`Unprepared::TooLong`] where
-    /// step `N + 1` would begin. There is one exactly where no steps, or more than `N`, have the tree of the items.
+    /// The first failure in the order of the items: [`Unprepared::EmptyLiteral`] at an empty literal,
+    /// [`Unprepared::OptionalNotCompound`] at an `Optional` of anything but a `Compound`, and [`Unprepared::TooLong`]
+    /// at the item with step `N + 1`. There is an error if and only if no steps, or more than `N`, have the tree of the
+    /// items.
     pub fn from_items(items: &[BorrowedFormatItem<'_>]) -> Result<Prepared<N>, Unprepared>
         ensures { Prepares N (trees (map borrowed_shape items.now)) result }
     {
@@ -94,7 +95,7 @@ impl<const N: usize> Prepared<N> {
         &self.whole
     }
 
-    // Reads a front of the input into the record. After a refusal the record may have changed.
+    // Parses a front of the input into the record. After an error the record may have changed.
     #[inline(always)]
     pub(crate) fn walk_into<'a>(
         &self,
@@ -106,8 +107,8 @@ impl<const N: usize> Prepared<N> {
         walk(self.steps.as_slice(), self.joined.as_slice(), parsed, input)
     }
 
-    /// Parses a front of the input into the record, and answers the unread rest. A refusal names what does not stand
-    /// there, and leaves the record as it was.
+    /// Parses a front of the input into the record, and returns the unread rest. An error names what isn't there, and
+    /// leaves the record unchanged.
     pub fn parse_front_into<'a>(
         &self,
         input: &'a [u8],
@@ -126,7 +127,7 @@ impl<const N: usize> Prepared<N> {
     }
 }
 
-// The steps, with what is read at once beside each.
+// The steps, with the joined steps at each index.
 #[tactic(auto, using(crate::proofs::Rows::kept_all, crate::proofs::Rows::room))]
 fn prepare<const N: usize>(steps: &[Step]) -> Prepared<N>
     requires { length steps.now ≤ N }

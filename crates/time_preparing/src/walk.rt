@@ -1,7 +1,7 @@
-//! The walk over the steps of a prepared description.
+//! Walks the steps of a prepared description.
 //!
-//! It reads what is read at once, as far as that goes. The item at which it stops is read on its own, over the record at
-//! hand, and after it what is read at once again. So no step is read again that was read before.
+//! It parses joined steps, as far as they match. Then it parses the item at which they stop on its own, over the record
+//! so far, and after that joined steps again. So no step is parsed twice.
 mod fast;
 mod front;
 
@@ -17,8 +17,8 @@ use time_components::{Group, Step};
 use time_record::Parsed;
 use time_values::error::ParseFromDescription;
 
-// Reads what is read at once, as far as it goes, and answers how many steps that were, and the rest. It is called, so that
-// the readers of steps stand in one place, in line.
+// Parses joined steps as far as they match, and returns how many steps were parsed, and the rest. It is a call of its
+// own, so that the inlined parsers of steps occur once.
 #[inline(never)]
 fn read_joined<'a>(
     steps: &[Step],
@@ -45,7 +45,7 @@ fn read_joined<'a>(
     (next, rest)
 }
 
-/// Reads the steps in front of the input as a list. After a refusal the record may have changed.
+/// Parses the steps at the front of the input as a list. After an error the record may have changed.
 #[cycle(walk)]
 #[inline(always)]
 pub(crate) fn walk<'a>(
@@ -80,7 +80,7 @@ pub(crate) fn walk<'a>(
     }
 }
 
-// The same, with no frame of its own where it is called.
+// Calls `walk`, but isn't inlined, so that its caller's frame doesn't grow.
 #[cycle(walk)]
 #[inline(never)]
 fn walk_list<'a>(
@@ -96,7 +96,7 @@ fn walk_list<'a>(
     walk(steps, joined, parsed, input)
 }
 
-// Reads the steps of one item. After a refusal the record may have changed.
+// Parses the steps of one item. After an error the record may have changed.
 #[cycle(walk)]
 #[inline(always)]
 fn walk_item<'a>(
@@ -125,7 +125,7 @@ fn walk_item<'a>(
     }
 }
 
-// Reads a group of these steps. After a refusal the record may have changed.
+// Parses a group of these steps. After an error the record may have changed.
 #[cycle(walk)]
 #[inline(always)]
 fn walk_group<'a>(
@@ -146,7 +146,7 @@ fn walk_group<'a>(
     }
 }
 
-// Reads steps that may be missing.
+// Parses optional steps.
 #[cycle(walk)]
 #[inline(always)]
 #[tactic(auto, unfolding(time_record::specs::Reading::Reads))]
@@ -170,7 +170,7 @@ fn walk_optional<'a>(
     }
 }
 
-// Reads the first item that reads. Where none does, the fault is the first one's, and the record as it was.
+// Parses the first item that matches. If none does, the error is the first item's, and the record is unchanged.
 #[cycle(walk)]
 fn walk_first<'a>(
     steps: &[Step],
@@ -204,7 +204,7 @@ fn walk_first<'a>(
     }
 }
 
-// How many of the steps behind this one belong to its item.
+// How many of the steps after this one belong to its item.
 #[inline(always)]
 fn item_len(step: &Step, behind: &[Step]) -> usize
     ensures len { result ≡ item_length step.now behind.now }
@@ -217,7 +217,7 @@ fn item_len(step: &Step, behind: &[Step]) -> usize
     }
 }
 
-// How many of the steps in front are further bytes of a literal.
+// How many of the steps at the front are further bytes of a literal.
 fn further_len(steps: &[Step]) -> usize
     ensures len { result ≡ length (further steps.now) }
     ensures within { result ≤ length steps.now }

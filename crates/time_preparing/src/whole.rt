@@ -1,4 +1,4 @@
-//! Descriptions whose texts have one form each, from their first byte to their last.
+//! Descriptions whose whole texts each have one form.
 ghost use Rattle.time_preparing.specs.Whole.{Leads};
 
 pub mod fast;
@@ -9,17 +9,17 @@ use time_components::Step;
 /// The form of a whole text.
 #[derive(Clone, Copy, Debug, PartialEq, Eq)]
 pub enum Whole {
-    /// None of these.
+    /// None of the known forms.
     Nothing,
     /// A date.
     Date(Dated),
     /// A time with this byte between its parts.
     Time(u8),
-    /// A time by the halves of the day.
+    /// A time of the 12-hour clock.
     Half(InHalf),
     /// A date without its year, and a time.
     InYear(InYear),
-    /// A date, this byte, and a time.
+    /// A date, the first byte, and a time with the second byte between its parts.
     Plain(Dated, u8, u8),
     /// A date, a time and an offset.
     Moment(InMoment),

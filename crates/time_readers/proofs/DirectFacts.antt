@@ -33,7 +33,7 @@ month_after_the_rest = inr (codes "x", (timestamp.midnight 13 1, timestamp.month
 pub month_after_the_forms : RefusesRfc3339 greatest_year (codes "2021-13-01T00:00:00Z") (range (codes "month") false)
 month_after_the_forms = inr ([], (timestamp.midnight 13 1, timestamp.month_13_has_the_form [], inl refl))
 
--- the minute of the offset has its range at its place
+-- the range of the offset's minute is checked at its place
 pub offset_minute_before_the_rest : RefusesRfc3339 greatest_year (codes "2021-01-02T03:04:05+05:60x") (range (codes "minutes") false)
 offset_minute_before_the_rest = inr (codes "x", (timestamp.past_range, timestamp.minute_60_has_the_form (codes "x"), refl))
 
@@ -82,7 +82,7 @@ rest_is_not_checked_before_the_offset_minute p =
 
 -- ---- A second of 60
 
--- the numbers of a text that has one, of 1990-12-31 in UTC
+-- the numbers of a text with a second of 60, on 1990-12-31 in UTC
 abbrev pub sixtieth : ℕ → Numbers
 sixtieth h = record (timestamp.at_clock (timestamp.dated 1990 12 31) h 59 60) { is_utc = true }
 
@@ -160,7 +160,7 @@ rest_after_a_zone = inr (codes "x", (mail.front, mail.rest_after_a_zone, refl))
 pub hour_after_the_forms : RefusesRfc2822 greatest_year (codes "02 Jan 2021 24:00 GMT") (range (codes "hour") false)
 hour_after_the_forms = inr ([], (mail.at_clock (mail.dated 2 2021 true) 24 0 None, mail.hour_24_has_the_form, inl refl))
 
--- bytes that remain come before the hour's range
+-- trailing bytes are reported before the hour's range
 pub rest_before_the_hour : RefusesRfc2822 greatest_year (codes "02 Jan 2021 24:00 GMTx") trailing
 rest_before_the_hour = inr (codes "x", (mail.at_clock (mail.dated 2 2021 true) 24 0 None, mail.rest_after_hour_24, refl))
 

@@ -1,4 +1,4 @@
--- Each piece of ISO 8601, as a function, finds exactly the cut that spells what it says.
+-- Each piece of ISO 8601, as a function, finds exactly the prefix that spells its value.
 use Rattle.std.proofs.Common.{◌≡◌, ℕ, ℤ, pos, List, [], ◌∷◌, ◌++◌, length, take, drop, ◌&&◌, false, refl, ap, sym, ◌∙◌, subst, inl, inr, arith, append_assoc, Option, Some, None}
 use Rattle.std.specs.Prelude.{nat_le, nat_eq, option_map}
 use Rattle.std.proofs.lemmas.Bool.{leb-true, and_parts, cases_Bool, eqb-true, both_ways}
@@ -43,7 +43,7 @@ leading-all (c ∷ s) = elim (cases_Bool (is_digit c)) [
   | inr e ↦ rw e tt
 ]
 
--- the digits in front of a text that doesn't begin with one
+-- the digits in front of a text that doesn't begin with a digit
 pub leading-front : (ds rest : List ℕ) → AllDigits ds → NoDigitFirst rest → leading_digits (ds ++ rest) ≡ ds
 leading-front [] [] all ends = refl
 leading-front [] (c ∷ rest) all ends = elim (cases_Bool (is_digit c)) [
@@ -68,7 +68,7 @@ unfolding point byte
 point-some c s (inl e) = rw e refl
 point-some c s (inr e) = rw e refl
 
--- a cut is found
+-- the function finds each prefix that the relation allows
 pub number-found : (s rest : List ℕ) (n : Number) → Cut IsNumber s rest n → number s ≡ Some (rest, n)
 unfolding number
 number-found s rest (plain v) cut =
@@ -83,7 +83,7 @@ number-found s rest (fraction v (d ∷ ds)) cut =
     let back = drop-append_seam (d ∷ ds) rest in
     rw (whole, point-some f.mark ((d ∷ ds) ++ rest) f.is_point, front, back) refl
 
--- what a function found is a cut
+-- the relation allows each prefix that the function finds
 leading-after : (s : List ℕ) → s ≡ leading_digits s ++ drop (length (leading_digits s)) s
 leading-after [] = refl
 leading-after (c ∷ s) = elim (cases_Bool (is_digit c)) [
@@ -154,7 +154,7 @@ number-tells s rest n e =
     option_and_then_some (λ f. after_whole f.1 f.0 (point f.0)) (digits 2 s) (rest, n) e
     (λ x d h. whole-after s x.0 rest x.1 n (point x.0) (digits-tells 2 s x.0 x.1 d) refl h)
 
--- so many digits, whose number says something
+-- n digits, whose number has a value
 said_by : {A : Type 0} (n : ℕ) (says : ℕ → Option A) (s mid rest : List ℕ) (v : ℕ) (a : A) (o : Option A)
     → digits n s ≡ Some (mid, v) → says v ≡ o → option_map {U = List ℕ × A} (λ b. (mid, b)) o ≡ Some (rest, a)
     → Cut (IsSaid n says) s rest a
@@ -242,7 +242,7 @@ year_of s rest text v sg n e is (inr (free, plus, run)) =
 pub year-found : (s rest : List ℕ) (v : ℤ) → Cut IsYear s rest v → year s ≡ Some (rest, v)
 year-found s rest v cut = year_of s rest cut.0 v cut.2.0.0 cut.2.0.1 cut.1 cut.2.1 cut.2.2
 
--- each piece finds exactly a cut
+-- each piece finds exactly the prefixes that its relation allows
 pub pieces-are_cuts : IsoPiecesAreCuts
 unfolding month weekday positive up_to
 pieces-are_cuts = record {

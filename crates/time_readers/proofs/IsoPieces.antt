@@ -1,4 +1,4 @@
--- The pieces as functions are what the cuts of their relations say.
+-- The functions of the pieces agree with their relations.
 use Rattle.std.proofs.Common.{◌≡◌, ℕ, zero, suc, get_or, ◌-◌, ◌<◌, ◌≤◌, ◌⊎◌, List, [], ◌∷◌, ◌++◌, length, length-append, take, drop, true, ◌&&◌, refl, ap, sym, ◌∙◌, subst, inl, inr, arith, ◌^◌, Option, Some, None, IfSome, Ok, Err}
 use Rattle.std.specs.Prelude.{nat_le, nat_eq}
 use Rattle.std.proofs.lemmas.Bool.{le-leb, leb-true, leb-false, eq-eqb, eqb-true, and_parts, and_from, cases_Bool}
@@ -35,7 +35,7 @@ pub all_digits-tells : (s : List ℕ) → all_digits s ≡ true → AllDigits s
 all_digits-tells [] e = tt
 all_digits-tells (c ∷ s) e = let both = and_parts (is_digit c) (all_digits s) e in (is_digit-tells c both.0, all_digits-tells s both.1)
 
--- a run of exactly so many digits is the front of the bytes, and what follows it the rest
+-- a run of exactly n digits is the first n bytes, and the bytes after them are the rest
 module _ (n : ℕ) (s rest : List ℕ) (v : ℕ) (cut : Cut (IsDigitRun n n) s rest v) where
   cut-long : length cut.0 ≡ n
   cut-long = omega (arith, cut.2.enough, cut.2.within)
@@ -49,7 +49,7 @@ module _ (n : ℕ) (s rest : List ℕ) (v : ℕ) (cut : Cut (IsDigitRun n n) s r
   cut-room : n ≤ length s
   cut-room = omega (arith, cut-long, ap length cut.1, length-append cut.0 rest)
 
--- and it is found
+-- `digits` finds a run of exactly n digits
 pub digits-cut : (n : ℕ) (s rest : List ℕ) (v : ℕ) → Cut (IsDigitRun n n) s rest v → digits n s ≡ Some (rest, v)
 unfolding digits
 digits-cut n s rest v cut =
@@ -58,7 +58,7 @@ digits-cut n s rest v cut =
     let all : all_digits (take n s) ≡ true = ap all_digits front ∙ all_digits-true cut.0 cut.2.digits in
     rw (room, all, front, cut-back n s rest v cut, cut.2.is) refl
 
--- and where none is there, none is
+-- `digits` finds nothing if there is no such run
 pub digits-no_cut : (n : ℕ) (s : List ℕ) → NoCut (IsDigitRun n n) s → digits n s ≡ None
 unfolding digits
 digits-no_cut n s none =
@@ -89,7 +89,7 @@ byte-no_cut b (c ∷ s) none =
       | inr e ↦ rw e refl
     ]
 
--- the digits that a loop has passed over are those with which the bytes begin
+-- the digits that a loop has passed are all digits at the front of the bytes
 pub leading-are : (n : ℕ) (s : List ℕ) → n ≤ length s → AllDigits (take n s)
     → (n ≡ length s) ⊎ NoDigitFirst (drop n s) → leading_digits s ≡ take n s
 leading-are zero [] h all ends = refl
@@ -125,7 +125,7 @@ pub number-plain : (s mid : List ℕ) (whole : ℕ) → digits 2 s ≡ Some (mid
 unfolding number
 number-plain s mid whole e p = rw (e, p) refl
 
--- a point without a digit
+-- a point without a digit after it isn't part of a number
 pub number-no_digit : (s mid after : List ℕ) (whole count : ℕ) → digits 2 s ≡ Some (mid, whole) → point mid ≡ Some after
     → leading_digits after ≡ take count after → count ≡ 0 → number s ≡ None
 unfolding number
@@ -160,7 +160,7 @@ pub colon-no_number : (s rest : List ℕ) → byte 58 s ≡ Some rest → number
 unfolding number digits
 colon-no_number s rest e = rw (byte-first 58 s rest e, and-false (nat_le 2 (length (58 ∷ rest)))) refl
 
--- what a cut's reader answers of a run, as the function has it
+-- the result of a parser of a run of digits is that of the function `digits`
 pub finds-digits : (n : ℕ) (s : List ℕ) (answer : Option (ParsedItem ℕ)) → Finds (IsDigitRun n n) (λ v. v) s answer
     → Gives (digits n s) answer
 finds-digits n s None none = digits-no_cut n s none
@@ -192,7 +192,7 @@ pub finds-sign : (s : List ℕ) (answer : Option (ParsedItem Sign)) → Finds Is
 finds-sign s None none = sign-no_cut s none
 finds-sign s (Some p) cut = sign-cut s p.0.now p.1 cut
 
--- the month of its number, and no month of no one's
+-- the number of a month finds that month
 pub month-numbered : (m : Month) → numbered months (month_number m) ≡ Some m
 month-numbered =
     each_month (λ m. numbered months (month_number m) ≡ Some m) (refl, refl, refl, refl, refl, refl, refl, refl, refl, refl, refl, refl)
@@ -201,7 +201,7 @@ pub numbered-past : {A : Type 0} (all : List A) (n : ℕ) → length all < n →
 numbered-past all zero h = refl
 numbered-past all (suc n) h = slice_get_past all n (omega arith)
 
--- what the number of a month's answer is
+-- the month that a constructor returned for a number is the month of that number
 pub month-answered : (n : ℕ) (m : Month) → Constructs (month_refusal n) (λ (x : Month). month_number x ≡ n) (Ok m)
     → numbered months n ≡ Some m
 month-answered n m h =
@@ -218,12 +218,12 @@ month-refused n error h =
       | inr e ↦ numbered-past months n (leb-false n 12 e)
     ]
 
--- no digit is counted
+-- a text in which 0 digits are counted doesn't begin with a digit
 none_counted : (s : List ℕ) (n : ℕ) → n ≡ 0 → (n ≡ 1) ⊎ NoDigitFirst (drop n s) → NoDigitFirst s
 none_counted s n e (inl one) = absurd (omega (arith, e, one))
 none_counted s n e (inr ends) = subst (λ k. NoDigitFirst (drop k s)) e ends
 
--- two digits and a fraction of exactly so many
+-- two digits and a fraction of exactly n digits
 fraction_parts : (n whole v : ℕ) (after rest : List ℕ) (cut : Cut (IsDigitRun n n) after rest v)
     → ◌≡◌ {A = Option (List ℕ × Number)} (Some (take (length after - n) (drop n after), fraction whole (take n after)))
     (Some (rest, fraction whole cut.0))

@@ -1,4 +1,4 @@
--- Which row of the table of times fits, from what stands in the bytes, and where none does.
+-- The row of the table of times that matches, by the parts at the front of the bytes, or that no row matches.
 use Rattle.std.specs.Prelude.{nat_le, option_and_then}
 use Rattle.std.specs.Borrow.{Bor}
 use Rattle.std.proofs.Common.{◌≡◌, ◌≤◌, ℕ, List, ◌∷◌, length, refl, arith, Option, Some, None, ◌<◌, true, false, ap, ◌∙◌}
@@ -15,7 +15,7 @@ use Rattle.time_readers.specs.declared.iso8601.TimeNumbers.{TimeNumbers}
 use Rattle.time_readers.specs.IsoTimes.{floor_of, not_basic, is_extended, basic_where_unknown, time_after, says, any_second, past_hour, past_minute}
 use Rattle.time_readers.proofs.IsoPieces.{byte-first, colon-no_number}
 
--- ---- Which row of the table of offsets fits, from what stands in the bytes, and that no other does
+-- ---- The row of the table of offsets that matches, by the parts at the front of the bytes, and that no other row does
 
 no_digits-no_minute : (s : List ℕ) → digits 2 s ≡ None → up_to 59 2 s ≡ None
 unfolding up_to
@@ -29,7 +29,7 @@ z-no_sign : (s rest : List ℕ) → byte 90 s ≡ Some rest → sign s ≡ None
 unfolding sign
 z-no_sign s rest e = rw (byte-first 90 s rest e) refl
 
--- the table says what is read one piece after another, and one row of it at most
+-- the table agrees with parsing one piece after another, and at most one row matches
 pub record Fits (kind : ExtendedKind) (b : List ℕ) : Type 0 where
   pub same : offset_text kind b ≡ offset_by_pieces kind b
   pub one : length (offset_texts kind b) ≤ 1
@@ -123,11 +123,11 @@ offset_by_pieces_is kind b = (z_or_not kind b (byte 90 b) refl).same
 pub one_offset_row : OneOffsetRow
 one_offset_row kind b = (z_or_not kind b (byte 90 b) refl).one
 
--- that text, and what follows it
+-- a time that was found, and the rest after it
 abbrev pub found : List ℕ → TimeNumbers → ExtendedKind → Option (Found TimeNumbers)
 found rest t kind = Some (record { rest = rest; value = t; kind = kind })
 
--- a number as its reader answers it
+-- a number without a fraction, from the parser's result
 pub plain_number : (s rest : List ℕ) (v : ℕ) (f : Option (Bor (List ℕ)))
     → number s ≡ Some (rest, number_of v f) → f ≡ None → number s ≡ Some (rest, plain v)
 plain_number s rest v f n e = n ∙ ap (λ (g : Option (Bor (List ℕ))). Some (rest, number_of v g)) e
@@ -143,7 +143,7 @@ no_hour Basic b n = rw n refl
 no_hour Extended b n = rw n refl
 no_hour Unknown b n = rw n refl
 
--- a number past the hours
+-- a number above 23 for the hour
 pub hour_past : (kind : ExtendedKind) (b m : List ℕ) (h : ℕ) (f : Option (Bor (List ℕ)))
     → number b ≡ Some (m, number_of h f) → 23 < h → time_after kind b ≡ None
 unfolding time_after
@@ -161,7 +161,7 @@ pub hour_and_fraction_stand : (kind : ExtendedKind) (b m d : List ℕ) (h : ℕ)
 unfolding time_after
 hour_and_fraction_stand kind b m d h n l = rw (n, le-leb h 23 l) refl
 
--- A whole hour, and what stands after it.
+-- A whole hour, and the parts after it.
 module _ (b m : List ℕ) (h : ℕ) (hour : number b ≡ Some (m, plain h)) (small : h ≤ 23) where
   -- nothing more
   pub hour_alone : (kind : ExtendedKind) → byte 58 m ≡ None → number m ≡ None
@@ -171,7 +171,7 @@ module _ (b m : List ℕ) (h : ℕ) (hour : number b ≡ Some (m, plain h)) (sma
   hour_alone Extended c n = rw (hour, le-leb h 23 small, c, n) refl
   hour_alone Unknown c n = rw (hour, le-leb h 23 small, c, n) refl
 
-  -- a number past the minutes
+  -- a number above 59 for the minute
   pub minute_past : (kind : ExtendedKind) (r : List ℕ) (w : ℕ) (f : Option (Bor (List ℕ)))
       → byte 58 m ≡ None → number m ≡ Some (r, number_of w f) → 59 < w → time_after kind b ≡ None
   unfolding time_after
@@ -192,7 +192,7 @@ module _ (b m : List ℕ) (h : ℕ) (hour : number b ≡ Some (m, plain h)) (sma
   minute_and_fraction_stand Extended r d w c n l = rw (hour, le-leb h 23 small, c, n, le-leb w 59 l) refl
   minute_and_fraction_stand Unknown r d w c n l = rw (hour, le-leb h 23 small, c, n, le-leb w 59 l) refl
 
-  -- A whole minute, and what stands after it, without separators: a number,
+  -- A whole minute without separators, and after it: a number,
   basic_number : (kind : ExtendedKind) (r q : List ℕ) (w : ℕ) (s : Number) (t : Option TimeNumbers)
       → is_extended kind ≡ false → byte 58 m ≡ None → number m ≡ Some (r, plain w) → w ≤ 59
       → number r ≡ Some (q, s) → says any_second s (hour_and_minute h w) ≡ t
@@ -215,7 +215,7 @@ module _ (b m : List ℕ) (h : ℕ) (hour : number b ≡ Some (m, plain h)) (sma
   minute_basic Extended r w None k c n l e = absurd (true≢false k)
   minute_basic Unknown r w None k c n l e = rw (hour, le-leb h 23 small, c, n, le-leb w 59 l, e) refl
 
-  -- With separators: a colon and a number,
+  -- A whole minute in an extended text, and after it: a colon and a number,
   extended_number : (kind : ExtendedKind) (r x q : List ℕ) (w : ℕ) (s : Number) (t : Option TimeNumbers)
       → is_extended kind ≡ true → byte 58 m ≡ None → number m ≡ Some (r, plain w) → w ≤ 59
       → byte 58 r ≡ Some x → number x ≡ Some (q, s) → says any_second s (hour_and_minute h w) ≡ t
@@ -258,7 +258,7 @@ module _ (b m : List ℕ) (h : ℕ) (hour : number b ≡ Some (m, plain h)) (sma
   colon_basic Extended y k c = absurd (true≢false k)
   colon_basic Unknown y k c = absurd (true≢false k)
 
-  -- or with no number after it
+  -- or in another text, with no number after it
   pub colon_no_minute : (kind : ExtendedKind) (y : List ℕ)
       → not_basic kind ≡ true → byte 58 m ≡ Some y → number y ≡ None → time_after kind b ≡ None
   unfolding time_after
@@ -266,7 +266,7 @@ module _ (b m : List ℕ) (h : ℕ) (hour : number b ≡ Some (m, plain h)) (sma
   colon_no_minute Extended y k c n = rw (hour, le-leb h 23 small, c, colon-no_number m y c, n) refl
   colon_no_minute Unknown y k c n = rw (hour, le-leb h 23 small, c, colon-no_number m y c, n) refl
 
-  -- or a number past the minutes
+  -- or with a number above 59 after it
   pub colon_minute_past : (kind : ExtendedKind) (y r : List ℕ) (w : ℕ) (f : Option (Bor (List ℕ)))
       → not_basic kind ≡ true → byte 58 m ≡ Some y → number y ≡ Some (r, number_of w f) → 59 < w
       → time_after kind b ≡ None

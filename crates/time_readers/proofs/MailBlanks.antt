@@ -1,4 +1,4 @@
--- The readers of blanks and comments take bytes, and how each goes on where a part of it reads or refuses.
+-- The readers of blanks and comments consume bytes, and how each continues after a part of it succeeds or rejects.
 use Rattle.std.proofs.Common.{◌≡◌, ℕ, zero, suc, List, [], ◌++◌, ◌<◌, length, ap, sym, ◌∙◌, arith, Bool, true, false, Some, None, if◌then◌else◌, option_and_then, ◌==◌, is_some, ◌≤◌, ◌∷◌, take, refl, subst, append_assoc, Option, Bor, option_copied}
 use Rattle.std.proofs.lemmas.Option.{same_Some, none-some}
 use Rattle.time_values.specs.declared.weekday.Weekday.{Weekday}
@@ -36,7 +36,7 @@ no_crlf-leaves : Leaves no_crlf
 unfolding no_crlf
 no_crlf-leaves s r e = no_crlf_cut (is_some (crlf s)) s r e
 
--- what follows the first blanks of a run that isn't folded at its start
+-- the folds after the first blanks of a run that doesn't begin with a fold
 abbrev pub more_lines : Reader
 more_lines = zero_or_more line_fold then no_crlf
 
@@ -68,7 +68,7 @@ line-shorter s l r e b =
     let more = takes-shorter blanks blanks-takes l r b in
     omega arith
 
--- no blank stands after the end of a line
+-- a line's end without a blank after it
 pub more_lines-stop : (s l : List ℕ) → crlf s ≡ Some l → blanks l ≡ None → more_lines s ≡ None
 unfolding line_fold no_crlf
 more_lines-stop s l e b =
@@ -105,7 +105,7 @@ unfolding comment
 comment-takes zero s r e = absurd (none-some r e)
 comment-takes (suc n) s r e = then-takes (char "(") (comment_end (comment n)) (one_of-takes _) (comment_end-leaves (comment n) (comment-takes n)) s r e
 
--- what is left of a comment where blanks stand
+-- blanks in a comment are skipped
 pub comment_end-blanks : (inner : Reader) (s r : List ℕ) → fws s ≡ Some r → comment_end inner s ≡ comment_end inner r
 unfolding comment_end
 comment_end-blanks inner s r e = ap (option_and_then (zero_or_more (part inner) then char ")")) (zero_or_more-more fws fws-takes s r e)
@@ -118,7 +118,7 @@ no_blanks : (inner : Reader) (s : List ℕ) → fws s ≡ None → comment_end i
 unfolding comment_end
 no_blanks inner s e = ap (option_and_then (parts inner)) (zero_or_more-none fws s e)
 
--- where a part stands
+-- a part in a comment is skipped
 pub comment_end-part : (inner : Reader) → Takes inner → (s r : List ℕ) → fws s ≡ None → content inner s ≡ Some r → comment_end inner s ≡ comment_end inner r
 unfolding comment_end
 comment_end-part inner t s r f e =
@@ -127,7 +127,7 @@ comment_end-part inner t s r f e =
     no_blanks inner s f ∙ ap (option_and_then (char ")")) (zero_or_more-more (part inner) (part-takes inner t) s blanks.0 step)
     ∙ sym (ap (option_and_then (parts inner)) blanks.1)
 
--- where no part stands
+-- without blanks or a part the comment must end
 pub comment_end-last : (inner : Reader) (s : List ℕ) → fws s ≡ None → content inner s ≡ None → comment_end inner s ≡ char ")" s
 comment_end-last inner s f e =
     no_blanks inner s f ∙ ap (option_and_then (char ")")) (zero_or_more-none (part inner) s (then-none (content inner) (zero_or_more fws) s e))
@@ -151,19 +151,19 @@ unfolding opt_cfws_colon_opt_cfws
 colon-leaves =
     then-leaves opt_cfws (char ":" then opt_cfws) opt_cfws-leaves (then-leaves (char ":") opt_cfws (takes-leaves (char ":") (one_of-takes _)) opt_cfws-leaves)
 
--- ---- The places of a mail date, as their readers answer them
+-- ---- The places of a mail date, by the results of their readers
 
 pub Reads-none : {V : Type 0} (S : Form V) (bytes : List ℕ) (answer : Option (Bor (List ℕ))) (v : V) → answer ≡ None → NoCut S bytes
     → Reads S bytes answer v
 Reads-none S bytes answer v e none = subst (λ o. Reads S bytes o v) (sym e) none
 
--- what a reader takes
+-- the text that a reader consumes
 pub read-cut : (p : Reader) → Leaves p → (s r : List ℕ) → p s ≡ Some r → (text : List ℕ) × (s ≡ text ++ r) × IsRead p text r
 read-cut p l s r e =
     let cut = l s r e in
     (cut.0, cut.1, subst (λ t. p t ≡ Some r) cut.1 e)
 
--- what a reader answers, at a place that has no value
+-- a reader's result at a place that has no value
 pub read-answer : {N : Type 0} (p : Reader) → Leaves p → (s : List ℕ) (answer : Option (Bor (List ℕ))) (n : N) → option_copied answer ≡ p s
     → Reads (λ text after m. IsRead p text after × (m ≡ n)) s answer n
 read-answer p l s None n e = λ text rest m cut is. none-some rest (e ∙ ap p cut ∙ is.0)
@@ -171,7 +171,7 @@ read-answer p l s (Some r) n e =
     let cut = read-cut p l s r.now (sym e) in
     (cut.0, cut.1, (cut.2, refl))
 
--- a reader's rest is one
+-- a reader has one rest
 pub read-same : (p : Reader) (s r text rest : List ℕ) → p s ≡ Some r → s ≡ text ++ rest → IsRead p text rest → r ≡ rest
 read-same p s r text rest e cut is = same_Some r rest (sym e ∙ ap p cut ∙ is)
 

@@ -87,7 +87,7 @@ whole check after rest m others =
     Stand-append (Asks check) (to_month_places ++ clock_places) end_places nothing_read front m (codes "02 Jan 2021 03:04" ++ after) after rest
     (to_minute check after) others
 
--- ---- Dates of the form
+-- ---- Dates that match
 
 pub weekday_and_second : HasForm true (codes "Mon, 02 Jan 2021 03:04:05 +0607") []
     (record (at_clock (dated 2 2021 true) 3 4 (Some 5)) { weekday = Some Monday; offset_sign = Some Positive; offset_hour = pos 6; offset_minute = pos 7 })
@@ -128,7 +128,7 @@ two_digit_year_and_a_zone = form_of (
     ([], refl, (refl, refl)) next
     ([], refl, (refl, refl)) next done)
 
--- an obsolete date of the standard's appendix, and its numbers
+-- an obsolete date of the RFC's appendix, and its numbers
 abbrev pub obsolete : Numbers
 obsolete = at_clock (record nothing_read { day = 21; month = November; year = 1997 }) 9 55 (Some 6)
 
@@ -214,7 +214,7 @@ pub rest_after_hour_24 : HasForm false (codes "02 Jan 2021 24:00 GMTx") (codes "
 unfolding opt_cfws cfws fws blanks line_fold no_crlf comment comment_end zero_or_more repeat zone_literal hours_of
 rest_after_hour_24 = hour_24 (codes "x") refl refl
 
--- ---- Dates without it, by the first place that doesn't match
+-- ---- Dates that don't match, by the first place that doesn't match
 
 pub weekday_without_a_comma : (check : Bool) → FailsAt check (codes "Mon 02 Jan 2021 03:04 +0000") WeekdayName
 unfolding opt_cfws cfws fws blanks line_fold no_crlf comment comment_end zero_or_more repeat

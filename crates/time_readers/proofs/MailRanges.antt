@@ -1,4 +1,4 @@
--- The numbers of a mail date lie in the ranges of their places.
+-- The numbers of a mail date are in the ranges of their places.
 use Rattle.std.specs.Prelude.{MatchResult, IsTrue, ◌↔◌, codes}
 use Rattle.std.proofs.Common.{◌≡◌, ◌∙◌, ◌<◌, ◌≤◌, Bool, true, ℕ, ℤ, List, [], pos, false, refl, sym, ap, inr, subst, Option, Some, None, Result, Ok, Err, zero, suc, ◌⊎◌, ◌∷◌, ◌++◌, take, drop, inl, arith, rules, IfSome, unsigned_abs}
 use Rattle.std.proofs.lemmas.Bool.{le-leb, lt-leb}
@@ -33,7 +33,7 @@ use Rattle.time_readers.proofs.Walking.{Alone, Ignores, said, said_after}
 use Rattle.time_readers.proofs.MailOffset.{zone-near}
 use Rattle.time_readers.proofs.ToSecond.{within}
 
--- ---- What a constructor's answer says of its refusal
+-- ---- The error of a moment, by the results of its constructors
 
 -- the error of the month is the error of the date
 pub month_refused : (Y : ℕ) (s : Said) (e : ComponentRange) → Constructs (month_refusal s.month) (λ m. month_number m ≡ s.month) (Err e)
@@ -47,7 +47,7 @@ parts_said s m None (Err e) is h = h
 parts_said s m (Some f) (Ok v) is h = h
 parts_said s m (Some f) (Err e) is h = h
 
--- a date of the month of that number is the one that is said
+-- the date that is made from the month of that number has the numbers' year, month and day
 pub date_made : (Y : ℕ) (s : Said) (y : ℤ) (m : Month) (r : Result Date ComponentRange) → y ≡ pos s.year
     → Constructs (month_refusal s.month) (λ m. month_number m ≡ s.month) (Ok m)
     → Constructs (calendar_date_refusal Y y (month_number m) s.day) (Dates.HasParts y m s.day) r
@@ -58,7 +58,7 @@ date_made Y s y m r year month made =
     let parts = subst (λ y. Constructs (calendar_date_refusal Y y (month_number m) s.day) (Dates.HasParts y m s.day) r) year made in
     rw h.0 (parts_said s m (refusal s.month) r h.1 (subst (λ n. Constructs (refusal n) (Dates.HasParts (pos s.year) m s.day) r) h.1 parts))
 
--- the first part that is refused is what the moment is refused for
+-- the error of the first rejected part is the error of the moment
 pub date_first : (Y : ℕ) (s : Said) (e : ComponentRange) → Constructs (date_refusal Y s) (HasDate s) (Err e)
     → first_refusal Y s ≡ Some (refusal_of_range e)
 date_first Y s e date = rw (Constructs-Err (date_refusal Y s) (HasDate s) e date) refl
@@ -91,7 +91,7 @@ offset_first Y s d t e date clock offset =
       Constructs-Err (offset_refusal hours minutes (pos 0)) (HasOffset hours minutes (pos 0)) e offset,
     ) refl
 
--- a moment of accepted parts is the one that is said
+-- a moment of accepted parts is the moment of the numbers
 pub of_parts : (Y : ℕ) (s : Said) (d : Date) (t : Time) (o : UtcOffset) (v : OffsetDateTime)
     → offset_date v ≡ d → offset_time v ≡ t → offset_of v ≡ o
     → Constructs (date_refusal Y s) (HasDate s) (Ok d)
@@ -116,7 +116,7 @@ of_parts Y s d t o v is_date is_time is_offset date clock offset =
       },
     )
 
--- what is answered after all places, of which the last refuses nothing
+-- the result after all places match and the last place's range is kept
 pub after : {P N : Type 0} (form : Form N) (fails : List ℕ → P → Type 0) (fault : P → Refusal) (last : N → Option Refusal)
     (says : N → Said) (Y : ℕ) (bytes rest : List ℕ) (n : N) (result : Result OffsetDateTime Parse)
     → form bytes rest n → last n ≡ None
@@ -128,20 +128,20 @@ after form fails fault last says Y bytes rest n (Ok v) stands none made =
     (n, subst (λ r. form bytes r n) made.0 stands, none, made.1)
 after form fails fault last says Y bytes rest n (Err e) stands none refused = inr (rest, (n, stands, rw none refused))
 
--- the range of a minute of an offset
+-- an offset's minute up to 59 is in range
 pub minute_stands : (n : Numbers) → n.offset_minute ≤ 59 → minute_refusal n ≡ None
 minute_stands n h = rw (le-leb n.offset_minute 59 h) refl
 
 pub minute_past : (n : Numbers) → 59 < n.offset_minute → minute_refusal n ≡ Some (range (codes "minutes") false)
 minute_past n h = rw (lt-leb n.offset_minute 59 h) refl
 
--- a leap second that may not stand
+-- the error of a leap second where none may be
 pub not_made : (Y : ℕ) (s : Said) (v : OffsetDateTime) (b : Bool) → (first_refusal Y s ≡ None) × IsMoment s v
     → (IsTrue b ↔ LeapSecondMayStand Y s v) → b ≡ false → IsNotMade Y s (range (codes "second") true)
 not_made Y s v b shown tells is =
     inr (shown.0, refl, (v, shown.1, λ stands. let h : false ≡ true = sym is ∙ tells.1 stands in cc))
 
--- the numbers n with what place p may say taken from m
+-- the numbers n with those that place p may set taken from m
 abbrev pub with_place : Place → MailNumbers → MailNumbers → MailNumbers
 with_place WeekdayName n m = record n { weekday = m.weekday }
 with_place Day n m = record n { day = m.day }
@@ -217,7 +217,7 @@ minute_within check_ranges (Some sign) n m text after none a =
     let same : m.offset_minute ≡ signed_by (is_negative sign) (pos a.0) = ap (λ x. x.offset_minute) a.2 in
     subst (λ v. IsWithin check_ranges 0 59 (unsigned_abs v)) (sym same) (signed_within check_ranges (is_negative sign) 59 a.0 a.1.1)
 
--- what is known of the numbers of a text, more where ranges are asked
+-- bounds of the numbers of a text, tighter with range checks
 pub record InPlaces (check_ranges : Bool) (n : MailNumbers) : Type 0 where
   pub day : IsWithin check_ranges 1 31 n.day
   pub year : (1900 ≤ n.year) × (n.year ≤ 9999)
@@ -227,7 +227,7 @@ pub record InPlaces (check_ranges : Bool) (n : MailNumbers) : Type 0 where
   pub offset_hour : IsWithin check_ranges 0 25 (unsigned_abs n.offset_hour)
   pub offset_minute : IsWithin check_ranges 0 59 (unsigned_abs n.offset_minute)
 
--- what a place tells of its number holds of the number of a whole text
+-- a property of a place's number holds of that number of the whole text
 told : {X : Type 0} (f : MailNumbers → X) (Q : X → Type 0) (check_ranges : Bool) (before : List Place) (p : Place) (after : List Place)
     (n : MailNumbers) (bytes rest : List ℕ) → Stand (Asks check_ranges) (before ++ p ∷ after) nothing_read bytes rest n
     → Ignores with_place f before → Ignores with_place f after
@@ -235,7 +235,7 @@ told : {X : Type 0} (f : MailNumbers → X) (Q : X → Type 0) (check_ranges : B
 told f Q check_ranges before p after n bytes rest s =
     said (Asks check_ranges) with_place f Q (alone check_ranges) before p after nothing_read n bytes rest s
 
--- the numbers of a text lie in the ranges of their places
+-- the numbers of a text are in the ranges of their places
 pub HasForm-in_places : (check_ranges : Bool) (bytes rest : List ℕ) (n : MailNumbers) → HasForm check_ranges bytes rest n → InPlaces check_ranges n
 HasForm-in_places check_ranges bytes rest n s = record {
   day =

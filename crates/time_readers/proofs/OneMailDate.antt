@@ -22,11 +22,11 @@ use Rattle.time_readers.specs.declared.rfc2822.Place.{Place}
 use Rattle.time_readers.specs.declared.rfc2822.Place.TheVariants.{WeekdayName, Day, DayBlanks, MonthName, MonthBlanks, Year, YearBlanks, Hour, HourColon, Minute, Second, TimeBlanks, OffsetHour, OffsetMinute, EndBlanks}
 use Rattle.time_readers.proofs.Repeats.{AtMostOneEach}
 
--- no digits say nothing
+-- the fraction without digits is 0
 pub floor_none : (unit : ℕ) → IsFloor [] unit 0
 floor_none unit = record { low = omega arith; high = omega arith }
 
--- the bounds of one digit more, at the power of ten of the others
+-- the bounds with one more digit, scaled by the power of ten of the others
 low_more : (d w unit carry next power : ℕ) → carry * power ≤ w * unit → next * 10 ≤ d * unit + carry
     → next * (10 * power) ≤ (d * power + w) * unit
 low_more d w unit carry next power low h =
@@ -47,8 +47,8 @@ high_more d w unit carry next power high h =
     let right = mul_assoc (next + 1) 10 power in
     omega arith
 
--- One digit before those whose floor is carried. The tenth part of a whole number and a fraction has the floor of
--- the tenth part of that number and the fraction's floor.
+-- One digit before those whose floor is carried. A tenth of a whole number plus a fraction has the floor of a tenth of
+-- that number plus the fraction's floor.
 pub floor_more : (c : ℕ) (digits : List ℕ) (unit carry next : ℕ) → IsFloor digits unit carry → next ≡ ((c - 48) * unit + carry) / 10
     → IsFloor (c ∷ digits) unit next
 floor_more c digits unit carry next floor is =
@@ -63,7 +63,7 @@ floor_more c digits unit carry next floor is =
           (high_more (c - 48) (digits_value digits) unit carry next power floor.high (omega arith));
     }
 
--- the same at a place of a text, from its end
+-- one digit before those whose floor is carried, at index i of a text
 pub floor_at : (s : List ℕ) (i unit carry next : ℕ) → i < length s → IsFloor (drop (i + 1) s) unit carry
     → next ≡ ((get_or s i 0 - 48) * unit + carry) / 10 → IsFloor (drop i s) unit next
 floor_at s i unit carry next h floor is =
@@ -75,11 +75,11 @@ digit_at [] i h all = absurd (omega arith)
 digit_at (c ∷ s) zero h all = all.0
 digit_at (c ∷ s) (suc i) h all = digit_at s i (omega arith) all.1
 
--- a digit's share and the carry are less than ten units
+-- a digit times the unit, plus the carry, is less than ten units
 pub carry_below : (d unit carry : ℕ) → d ≤ 9 → carry < unit → d * unit + carry < 10 * unit
 carry_below d unit carry nine below = let share : d * unit ≤ 9 * unit = mul-le-mul_right unit nine in omega arith
 
--- half of the double's floor and one is the number rounded
+-- the floor of twice the fraction, plus one, halved is the rounded fraction
 pub rounded : (digits : List ℕ) (unit double m : ℕ) → IsFloor digits (2 * unit) double → m ≡ (double + 1) / 2 → IsRounded digits unit m
 rounded digits unit double m floor is =
     let power = 10 ^ length digits in
@@ -103,7 +103,7 @@ ten_pow-pos : (n : ℕ) → 0 < 10 ^ n
 ten_pow-pos zero = omega arith
 ten_pow-pos (suc n) = omega (arith, pow-suc 10 n, ten_pow-pos n)
 
--- and from below
+-- the lower bound of the rounded fraction
 below_twice : (m power x : ℕ) → m * (2 * power) ≤ x + power → (2 * m - 1) * power ≤ x
 below_twice zero power x h = omega arith
 below_twice (suc m) power x h =
@@ -112,7 +112,7 @@ below_twice (suc m) power x h =
     let right = add-mul (2 * m + 1) 1 power in
     rw one (omega arith)
 
--- the number cut is the quotient
+-- the truncated fraction is the quotient `floor_of`
 pub floor-is : (digits : List ℕ) (unit m : ℕ) → IsFloor digits unit m → m ≡ floor_of digits unit
 floor-is digits unit m is =
     let power = 10 ^ length digits in
@@ -130,7 +130,7 @@ floor-there digits unit =
 pub floor-one : (digits : List ℕ) (unit m : ℕ) → IsFloor digits unit m ↔ (m ≡ floor_of digits unit)
 floor-one digits unit m = (floor-is digits unit m, λ is. subst (IsFloor digits unit) (sym is) (floor-there digits unit))
 
--- and the number rounded the quotient of the doubles
+-- the rounded fraction is the quotient `round_of`
 pub round-is : (digits : List ℕ) (unit m : ℕ) → IsRounded digits unit m → m ≡ round_of digits unit
 round-is digits unit m is =
     let power = 10 ^ length digits in
@@ -157,7 +157,7 @@ round-there digits unit =
 pub round-one : (digits : List ℕ) (unit m : ℕ) → IsRounded digits unit m ↔ (m ≡ round_of digits unit)
 round-one digits unit m = (round-is digits unit m, λ is. subst (IsRounded digits unit) (sym is) (round-there digits unit))
 
--- as many digits as the unit has places say a whole number of it
+-- the rounded fraction of n digits of the unit 10 ^ n is the digits' decimal value
 pub round_whole : (digits : List ℕ) (unit : ℕ) → 10 ^ length digits ≡ unit → digits_value digits ≡ round_of digits unit
 round_whole digits unit e =
     let w = digits_value digits in
@@ -171,9 +171,9 @@ round_whole digits unit e =
       high = subst (λ u. 2 * w * u < (2 * w + 1) * power) e above;
     })
 
--- ---- A text has one reading by the places of a mail date, or one place that doesn't stand
+-- ---- A mail date has one parse, or one first place that doesn't match
 
--- what follows a reader's text
+-- a reader has one rest
 reader_one : (p : Reader) (a b x y : List ℕ) → IsRead p a x → IsRead p b y → a ++ x ≡ b ++ y → x ≡ y
 reader_one p a b x y s t e = same_Some x y (sym s ∙ ap p e ∙ t)
 
@@ -293,6 +293,6 @@ asks_one check_ranges OffsetHour n a b x y m k p q e = hour_one check_ranges n a
 asks_one check_ranges OffsetMinute n a b x y m k p q e = minute_one check_ranges n.offset_sign n a b x y m k p q e
 asks_one check_ranges EndBlanks n a b x y m k p q e = blanks_one opt_cfws n a b x y m k p q e
 
--- each place of a mail date has at most one cut
+-- each place of a mail date matches at most one prefix
 pub MailAsks-unique : (check_ranges : Bool) → AtMostOneEach (Asks check_ranges)
 MailAsks-unique check_ranges p n input x y m k s t = asks_one check_ranges p n s.0 t.0 x y m k s.2 t.2 (sym s.1 ∙ t.1)

@@ -1,4 +1,4 @@
--- Comments in one another, as their count goes up and down.
+-- Nested comments, by the count of those that are open.
 use Rattle.std.proofs.Common.{◌≡◌, ℕ, zero, suc, ◌+◌, ◌-◌, ◌<◌, ◌≢◌, List, [], ◌∷◌, refl, ap, sym, ◌∙◌, subst, arith, inl, inr, Some, None, if◌then◌else◌, option_and_then, ◌⊎◌, ◌≤◌, length, drop, get_or, Bool, true, false, ◌||◌, ◌==◌}
 use Rattle.std.proofs.lemmas.Option.{none-some}
 use Rattle.std.proofs.lemmas.Bool.Decides.{eqb_tells}
@@ -7,7 +7,7 @@ use Rattle.time_readers.specs.MailBlanks.{fws, is_text, quoted_pair, comment_end
 use Rattle.time_readers.proofs.Repeats.{then-some, then-none, or-some, or-none, none_or_some, zero_or_more-none}
 use Rattle.time_readers.proofs.MailBlanks.{comment-takes, comment_end-blanks, comment_end-part, comment_end-last, fws-none, fws-blanks, more_lines-end, blanks_or_comment}
 
--- the ends of the open comments, where the innermost may have comments so many deep
+-- the ends of n open comments, if comments in the innermost may be nested that many levels deep
 unfoldable pub ends : ℕ → ℕ → Reader
 ends zero levels = Some
 ends (suc n) levels = comment_end (comment levels) then ends n (suc levels)
@@ -66,7 +66,7 @@ ends-open n l s t f p e =
           ∙ sym (then-some (comment_end (comment l)) more t x.0 x.1)
     ]
 
--- so many comments are open, and the rest of the bytes is to end them
+-- that many comments are open, and the rest of the bytes must end them
 abbrev pub IsOpen : ℕ → List ℕ → List ℕ → Type 0
 IsOpen count rest input = (levels : ℕ) × (count + levels ≡ 31) × (ends count levels rest ≡ comment 31 input)
 
@@ -84,7 +84,7 @@ pub open-plain : (count : ℕ) (s r input : List ℕ) → 0 < count → fws s �
 open-plain zero s r input h f e i = absurd (omega arith)
 open-plain (suc n) s r input h f e i = (i.0, i.1, sym (ends-plain n i.0 s r f e) ∙ i.2)
 
--- one more is opened
+-- a comment opens
 pub open-more : (count : ℕ) (s t input : List ℕ) → 0 < count → count ≢ 31 → fws s ≡ None → plain s ≡ None
     → char "(" s ≡ Some t → IsOpen count s input → IsOpen (count + 1) t input
 open-more zero s t input h few f p e i = absurd (omega arith)
@@ -93,7 +93,7 @@ open-more (suc n) s t input h few f p e (suc l, all, is) =
     let one : suc (suc n) ≡ suc n + 1 = omega arith in
     (l, omega arith, subst (λ k. ends k l t ≡ comment 31 input) one (sym (ends-open n l s t f p e) ∙ is))
 
--- one more would be too many
+-- a comment opens at the deepest level, and is rejected
 pub open-most : (count : ℕ) (s t input : List ℕ) → count ≡ 31 → fws s ≡ None → plain s ≡ None
     → char "(" s ≡ Some t → IsOpen count s input → comment 31 input ≡ None
 unfolding comment
@@ -101,7 +101,7 @@ open-most zero s t input most f p e i = absurd (omega arith)
 open-most (suc n) s t input most f p e (suc l, all, is) = absurd (omega arith)
 open-most (suc n) s t input most f p e (zero, all, is) = sym is ∙ ends-last n 0 s f p refl ∙ ap (option_and_then (ends n 1)) (not_both s t e)
 
--- the innermost ends
+-- the innermost comment ends
 pub open-less : (count : ℕ) (s t input : List ℕ) → 0 < count → fws s ≡ None → plain s ≡ None → char "(" s ≡ None → char ")" s ≡ Some t → IsOpen count s input
     → IsOpen (count - 1) t input
 open-less zero s t input h f p o e i = absurd (omega arith)
@@ -110,19 +110,19 @@ open-less (suc n) s t input h f p o e i =
     let is : ends n (suc i.0) t ≡ comment 31 input = sym (ends-last n i.0 s f p (no_inner i.0 s o) ∙ ap (option_and_then (ends n (suc i.0))) e) ∙ i.2 in
     (suc i.0, omega arith, subst (λ k. ends k (suc i.0) t ≡ comment 31 input) one is)
 
--- nothing that a comment may hold
+-- the bytes begin with nothing that a comment may contain
 pub open-stop : (count : ℕ) (s input : List ℕ) → 0 < count → fws s ≡ None → plain s ≡ None → char "(" s ≡ None → char ")" s ≡ None → IsOpen count s input
     → comment 31 input ≡ None
 open-stop zero s input h f p o e i = absurd (omega arith)
 open-stop (suc n) s input h f p o e i = sym i.2 ∙ ends-last n i.0 s f p (no_inner i.0 s o) ∙ ap (option_and_then (ends n (suc i.0))) e
 
--- the outermost has ended
+-- the outermost comment has ended
 pub open-end : (count : ℕ) (s input : List ℕ) → count ≡ 0 → IsOpen count s input → comment 31 input ≡ Some s
 unfolding ends
 open-end zero s input none i = sym i.2
 open-end (suc n) s input none i = absurd (omega arith)
 
--- ---- What the first bytes say of blanks
+-- ---- Blanks by the first bytes
 
 short_other : (c d : ℕ) → c ≢ d → (c == d) ≡ false
 short_other c d ne = elim (eqb_tells c d) [ inl same ↦ absurd (ne same.1) | inr differ ↦ differ.0 ]
@@ -185,7 +185,7 @@ colon_one : (c : ℕ) (s : List ℕ) → 41 ≤ c → opt_cfws_colon_opt_cfws (5
 unfolding opt_cfws_colon_opt_cfws
 colon_one c s h = then-some opt_cfws (char ":" then opt_cfws) (58 ∷ c ∷ s) (58 ∷ c ∷ s) (opt_cfws_none 58 (c ∷ s) (omega arith)) ∙ opt_cfws_none c s h
 
--- after one blank
+-- the bytes begin with one blank, and no blank or carriage return follows
 abbrev pub IsOneBlank : List ℕ → Type 0
 IsOneBlank s = ((get_or s 0 0 ≡ 32) ⊎ (get_or s 0 0 ≡ 9)) × (get_or s 1 0 ≢ 32) × (get_or s 1 0 ≢ 9) × (get_or s 1 0 ≢ 13)
 

@@ -1,4 +1,4 @@
--- Texts of RFC 3339 with ranges are those without, whose numbers lie in the ranges.
+-- Texts of RFC 3339 with range checks are those without them whose numbers are in range.
 use Rattle.std.proofs.Common.{◌≡◌, ◌≢◌, ℕ, ◌≤◌, List, [], ◌∷◌, ◌++◌, take, drop, ap, sym, ◌∙◌, subst, inl, inr, arith, rules, Bool, true, false, Option, Some, None, IfSome}
 use Rattle.time_digits.specs.Digits.{IsDigitRun}
 use Rattle.time_digits.proofs.Runs.{IsDigitRun-below}
@@ -11,9 +11,9 @@ use Rattle.time_readers.specs.Rfc3339.{Asks, HasForm, IsSubsecond, IsOffsetMinut
 use Rattle.time_readers.specs.Laws.{RangedForms}
 use Rattle.time_readers.proofs.Walking.{Alone, Ignores, said, Back, along, back_by}
 
--- ---- The numbers of a text lie in the ranges of their places: a later place leaves an earlier number alone
+-- ---- The numbers of a text are in the ranges of their places, since a later place doesn't change an earlier number
 
--- the numbers n with what place p may say taken from m
+-- the numbers n with those that place p may set taken from m
 abbrev pub with_place : Place → Numbers → Numbers → Numbers
 with_place Year n m = record n { year = m.year }
 with_place Month n m = record n { month = m.month }
@@ -31,7 +31,7 @@ minute_alone : (check_ranges utc : Bool) (n m : Numbers) (text after : List ℕ)
 minute_alone check_ranges true n m text after a = a.1 ∙ ap (λ x. record n { offset_minute = x.offset_minute }) (sym a.1)
 minute_alone check_ranges false n m text after a = a.2 ∙ ap (λ x. record n { offset_minute = x.offset_minute }) (sym a.2)
 
--- a place says no more than its own number
+-- a place sets only its own number
 pub alone : (check_ranges : Bool) → Alone (Asks check_ranges) with_place
 alone check_ranges Year n m text after a = a.2 ∙ ap (λ x. record n { year = x.year }) (sym a.2)
 alone check_ranges YearDash n m text after a = a.1
@@ -52,7 +52,7 @@ alone check_ranges OffsetHour n m text after (inr s) =
 alone check_ranges OffsetColon n m text after a = a.1
 alone check_ranges OffsetMinute n m text after a = minute_alone check_ranges n.is_utc n m text after a
 
--- what a place tells of its number holds of the number of a whole text
+-- a property of a place's number holds of that number of the whole text
 told : {X : Type 0} (f : Numbers → X) (Q : X → Type 0) (check_ranges : Bool) (before : List Place) (p : Place) (after : List Place)
     (n : Numbers) (bytes rest : List ℕ) → Stand (Asks check_ranges) (before ++ p ∷ after) nothing_read bytes rest n
     → Ignores with_place f before → Ignores with_place f after
@@ -77,7 +77,7 @@ minute_within check_ranges true n m text after none a =
     subst (IsWithin check_ranges 0 59) (sym (ap (λ x. x.offset_minute) a.1 ∙ none)) (zero_within check_ranges)
 minute_within check_ranges false n m text after none a = subst (IsWithin check_ranges 0 59) (sym (ap (λ x. x.offset_minute) a.2)) a.1.1
 
--- what is known of the numbers of a text, more where ranges are asked
+-- bounds of the numbers of a text, tighter with range checks
 pub record InPlaces (check_ranges : Bool) (n : Numbers) : Type 0 where
   pub year : n.year ≤ 9999
   pub month_not_zero : n.month ≢ 0
@@ -90,7 +90,7 @@ pub record InPlaces (check_ranges : Bool) (n : Numbers) : Type 0 where
   pub offset_hour : n.offset_hour ≤ 23
   pub offset_minute : IsWithin check_ranges 0 59 n.offset_minute
 
--- the numbers of a text lie in the ranges of their places
+-- the numbers of a text are in the ranges of their places
 pub HasForm-in_places : (check_ranges : Bool) (bytes rest : List ℕ) (n : Numbers) → HasForm check_ranges bytes rest n → InPlaces check_ranges n
 HasForm-in_places check_ranges bytes rest n s = record {
   year = told (λ x. x.year) (λ v. v ≤ 9999) check_ranges [] Year (drop 1 places) n bytes rest s (search rules) (search rules)
@@ -123,7 +123,7 @@ HasForm-in_places check_ranges bytes rest n s = record {
       (λ j k text mid start a. minute_within check_ranges j.is_utc j k text mid start a);
 }
 
--- the number of a place lies in its range
+-- the number of a place is in its range
 abbrev In : Place → Numbers → Type 0
 In Month m = IsWithin true 1 12 m.month
 In Day m = IsWithin true 1 31 m.day
@@ -138,7 +138,7 @@ minute : (utc : Bool) (n m : Numbers) (text ranged_after : List ℕ) → IsWithi
 minute true n m text ranged_after i a = a
 minute false n m text ranged_after i a = (a.0, (a.1.0, subst (IsWithin true 0 59) (ap (λ x. x.offset_minute) a.2) i), a.2)
 
--- a form with its range
+-- a text of a place without range checks matches with them, if its number is in range
 ranged_check_ranges : (p : Place) (n m : Numbers) (text ranged_after : List ℕ) → In p m → Asks false p n text ranged_after m → Asks true p n text ranged_after m
 ranged_check_ranges Year n m text ranged_after i a = a
 ranged_check_ranges YearDash n m text ranged_after i a = a
@@ -161,7 +161,7 @@ any_minute : (utc : Bool) (n m : Numbers) (text ranged_after : List ℕ)
 any_minute true n m text ranged_after a = a
 any_minute false n m text ranged_after a = (a.0, (a.1.0, tt), a.2)
 
--- a form without its range
+-- a text of a place with range checks matches without them
 formed : (p : Place) (n m : Numbers) (text ranged_after : List ℕ) → Asks true p n text ranged_after m → Asks false p n text ranged_after m
 formed Year n m text ranged_after a = a
 formed YearDash n m text ranged_after a = a
@@ -179,7 +179,7 @@ formed OffsetHour n m text ranged_after a = a
 formed OffsetColon n m text ranged_after a = a
 formed OffsetMinute n m text ranged_after a = any_minute n.is_utc n m text ranged_after a
 
--- what is after a place leaves its number alone
+-- the places after a place don't change its number
 ranged_after : {X : Type 0} (f : Numbers → X) (Q : X → Type 0) (ps : List Place) → Ignores with_place f ps
     → (k m : Numbers) (bytes rest : List ℕ) → Stand (Asks false) ps k bytes rest m → Q (f m) → Q (f k)
 ranged_after f Q = back_by (Asks false) with_place f Q (alone false)

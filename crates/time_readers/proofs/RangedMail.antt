@@ -1,4 +1,4 @@
--- Mail dates with ranges are those without, whose numbers lie in the ranges.
+-- Mail dates with range checks are those without them whose numbers are in range.
 use Rattle.std.proofs.Common.{◌⊎◌, ℕ, List, [], ◌∷◌, ap, drop, subst, inl, inr, rules, Bool, true, false, Option, Some, None, IfSome, pos, unsigned_abs}
 use Rattle.time_values.specs.Sign.{signed_by}
 use Rattle.time_digits.specs.Digits.{is_negative}
@@ -12,7 +12,7 @@ use Rattle.time_readers.specs.declared.rfc2822.Place.TheVariants.{WeekdayName, D
 use Rattle.time_readers.proofs.MailRanges.{with_place, alone, signed-abs, HasForm-in_places}
 use Rattle.time_readers.proofs.Walking.{Back, Ignores, along, back_by}
 
--- the number of a place lies in its range
+-- the number of a place is in its range
 abbrev In : Place → Numbers → Type 0
 In Day m = IsWithin true 1 31 m.day
 In Hour m = IsWithin true 0 23 m.hour
@@ -26,7 +26,7 @@ second : (text after : List ℕ) (v : Option ℕ) → IfSome v (IsWithin true 0 
 second text after None i s = s
 second text after (Some v) i s = (s.0, s.1, s.2, s.3, (s.4.0, i))
 
--- a number without its sign
+-- a number is in range if the absolute value of the signed number is
 unsigned : (most : ℕ) (b : Bool) (v : ℕ) → IsWithin true 0 most (unsigned_abs (signed_by b (pos v))) → IsWithin true 0 most v
 unsigned most b v i = subst (IsWithin true 0 most) (signed-abs b v) i
 
@@ -52,7 +52,7 @@ minute (Some s) n m text after i a =
     let within = subst (λ v. IsWithin true 0 59 (unsigned_abs v)) (ap (λ x. x.offset_minute) a.2) i in
     (a.0, (a.1.0, unsigned 59 (is_negative s) a.0 within), a.2)
 
--- a form with its range
+-- a text of a place without range checks matches with them, if its number is in range
 check_ranges : (p : Place) (n m : Numbers) (text after : List ℕ) → In p m → Asks false p n text after m → Asks true p n text after m
 check_ranges WeekdayName n m text after i a = a
 check_ranges Day n m text after i a = (a.0, a.1, subst (IsWithin true 1 31) (ap (λ x. x.day) a.3) i, a.3)
@@ -93,7 +93,7 @@ any_minute : (sign : Option Sign) (n m : Numbers) (text after : List ℕ)
 any_minute None n m text after a = a
 any_minute (Some s) n m text after a = (a.0, (a.1.0, tt), a.2)
 
--- a form without its range
+-- a text of a place with range checks matches without them
 formed : (p : Place) (n m : Numbers) (text after : List ℕ) → Asks true p n text after m → Asks false p n text after m
 formed WeekdayName n m text after a = a
 formed Day n m text after a = (a.0, a.1, tt, a.3)
@@ -111,7 +111,7 @@ formed OffsetHour n m text after a = any_hour n m text after a
 formed OffsetMinute n m text after a = any_minute n.offset_sign n m text after a
 formed EndBlanks n m text after a = a
 
--- what is after a place leaves its number alone
+-- the places after a place don't change its number
 after : {X : Type 0} (f : Numbers → X) (Q : X → Type 0) (ps : List Place) → Ignores with_place f ps
     → (k m : Numbers) (bytes rest : List ℕ) → Stand (Asks false) ps k bytes rest m → Q (f m) → Q (f k)
 after f Q = back_by (Asks false) with_place f Q (alone false)

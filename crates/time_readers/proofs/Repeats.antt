@@ -1,4 +1,4 @@
--- Readers that take bytes, and their repetition.
+-- Readers that consume bytes, and their repetition.
 use Rattle.std.specs.Char.{to_ascii_lowercase}
 use Rattle.std.specs.Option.{option_or}
 use Rattle.std.proofs.Common.{◌≡◌, ℕ, ◌⊎◌, List, [], ◌∷◌, ◌++◌, refl, sym, ◌∙◌, subst, inl, inr, length, ap, arith, Bool, true, false, Option, Some, None, ◌≤◌, ◌<◌, length-append, append_assoc, if◌then◌else◌, option_and_then}
@@ -16,9 +16,9 @@ use Rattle.time_readers.specs.declared.rfc3339.Place.{Place}
 use Rattle.time_readers.specs.declared.rfc3339.Place.TheVariants.{Year, YearDash, Month, MonthDash, Day, Separator, Hour, HourColon, Minute, MinuteColon, Second, Subsecond, OffsetHour, OffsetColon, OffsetMinute}
 use Rattle.time_readers.specs.Rfc3339.{Asks, IsSubsecond, NoDotFirst, IsZulu, IsSignedHour, IsOffsetColon, IsOffsetMinute}
 
--- ---- Places have one reading or one fault, where each place has at most one cut
+-- ---- Places have one parse or one first mismatch, if each place matches at most one prefix
 
--- at each place, after any numbers, at most one cut stands
+-- each place, after any numbers, matches at most one prefix
 abbrev pub AtMostOneEach : {P N : Type 0} → Format P N → Type 0
 AtMostOneEach {P} {N} A = (p : P) (n : N) → AtMostOneCut (A p n)
 
@@ -30,7 +30,7 @@ Stand-unique A one (p ∷ ps) n m k bytes x y s t =
     let first = one p n bytes s.0 t.0 s.1 t.1 s.2 t.2 in
     Stand-unique A one ps t.1 m k t.0 x y (subst (λ j. Stand A ps j t.0 x m) first.1 (subst (λ b. Stand A ps s.1 b x m) first.0 s.3)) t.3
 
--- the first place doesn't stand, or it does and the others stop
+-- the first place doesn't match, or it does and one of the others is the first that doesn't
 abbrev pub Stops : {P N : Type 0} → Format P N → List P → N → List ℕ → P → Type 0
 Stops A [] n bytes e = ⊥
 Stops {P} {N} A (p ∷ ps) n bytes e = ((e ≡ p) × NoCut (A p n) bytes) ⊎ ((mid : List ℕ) × (k : N) × Cut (A p n) bytes mid k × Stops A ps k mid e)
@@ -64,7 +64,7 @@ Stops-unique A one (p ∷ ps) n bytes d e (inr s) (inr t) =
     let first = one p n bytes s.0 t.0 s.1 t.1 s.2 t.2 in
     Stops-unique A one ps t.1 t.0 d e (subst (λ j. Stops A ps j t.0 d) first.1 (subst (λ b. Stops A ps s.1 b d) first.0 s.3)) t.3
 
--- bytes have one answer by the places
+-- places match bytes in one way, or there is one first place that doesn't match
 pub one_form : {P N : Type 0} (A : Format P N) → AtMostOneEach A → (ps : List P) (n : N) (bytes : List ℕ) → OneForm A ps n bytes
 one_form A one ps n bytes = record {
   one_reading = λ x y m k s t. Stand-unique A one ps n m k bytes x y s t;
@@ -72,7 +72,7 @@ one_form A one ps n bytes = record {
   never_both = λ x m p s t. Stops-none A one ps n m bytes x p s (StopsAt-stops A ps n bytes p t);
 }
 
--- ---- A text has one reading by the places of RFC 3339, or one place that doesn't stand
+-- ---- A text of RFC 3339 has one parse, or one first place that doesn't match
 
 fraction_one : (a b x y : List ℕ) (v w : ℕ) → IsFraction a x v → IsFraction b y w → a ++ x ≡ b ++ y → (x ≡ y) × (v ≡ w)
 fraction_one a b x y v w p q e =
@@ -145,11 +145,11 @@ asks_one check_ranges OffsetHour n a b x y m k p q e = hour_one n a b x y m k p 
 asks_one check_ranges OffsetColon n a b x y m k p q e = ((same_front a b x y (ap length (colon_one n.is_utc a b p.0 q.0)) e).1, p.1 ∙ sym q.1)
 asks_one check_ranges OffsetMinute n a b x y m k p q e = minute_one check_ranges n.is_utc n a b x y m k p q e
 
--- each place of RFC 3339 has at most one cut
+-- each place of RFC 3339 matches at most one prefix
 pub Asks-unique : (check_ranges : Bool) → AtMostOneEach (Asks check_ranges)
 Asks-unique check_ranges p n input x y m k s t = asks_one check_ranges p n s.0 t.0 x y m k s.2 t.2 (sym s.1 ∙ t.1)
 
--- what the reader takes stands before its rest
+-- the input is the text that the reader consumes and its rest
 abbrev pub Leaves : Reader → Type 0
 Leaves p = (s r : List ℕ) → p s ≡ Some r → (text : List ℕ) × (s ≡ text ++ r)
 
@@ -215,7 +215,7 @@ pub zero_or_more-leaves : (p : Reader) → Takes p → Leaves (zero_or_more p)
 unfolding zero_or_more
 zero_or_more-leaves p t s r e = repeat_leaves s p t s r e
 
--- an option is nothing or something
+-- an option is `None` or `Some`
 pub none_or_some : {X : Type 0} (o : Option X) → (o ≡ None) ⊎ ((x : X) × (o ≡ Some x))
 none_or_some None = inl refl
 none_or_some (Some x) = inr (x, refl)
@@ -239,7 +239,7 @@ repeat_more c cs p s r e =
     let more = repeat_some cs p r in
     ap (λ o. option_or (option_and_then (repeat cs p) o) (Some s)) e ∙ ap (λ o. option_or o (Some s)) more.1 ∙ sym more.1
 
--- a reader that takes bytes can't be repeated more often than there are bytes
+-- a reader that consumes bytes can't be repeated more often than there are bytes
 repeat_enough : (p : Reader) → Takes p → (f g s : List ℕ) → length s ≤ length f → length s ≤ length g → repeat f p s ≡ repeat g p s
 repeat_enough p t [] g s h i = elim (none_or_some (p s)) [
   | inl e ↦ repeat_none [] p s e ∙ sym (repeat_none g p s e)
@@ -256,12 +256,12 @@ repeat_enough p t (c ∷ f) (d ∷ g) s h i = elim (none_or_some (p s)) [
       repeat_more c f p s x.0 x.1 ∙ repeat_enough p t f g x.0 (omega arith) (omega arith) ∙ sym (repeat_more d g p s x.0 x.1)
 ]
 
--- where the reader refuses, it isn't repeated
+-- a reader that rejects isn't repeated
 pub zero_or_more-none : (p : Reader) (s : List ℕ) → p s ≡ None → zero_or_more p s ≡ Some s
 unfolding zero_or_more
 zero_or_more-none p s e = repeat_none s p s e
 
--- where the reader reads, it is repeated on its rest
+-- a reader that succeeds is repeated on its rest
 pub zero_or_more-more : (p : Reader) → Takes p → (s r : List ℕ) → p s ≡ Some r → zero_or_more p s ≡ zero_or_more p r
 unfolding zero_or_more
 zero_or_more-more p t [] r e = let less = takes-shorter p t [] r e in absurd (omega arith)

@@ -106,7 +106,7 @@ pub letter_j : zone_literal (codes "J") ≡ None
 unfolding zone_literal hours_of
 letter_j = refl
 
--- of three bytes or more the first three are the name
+-- the first three of three bytes or more are the name
 pub letter_before_a_comment : zone_literal (codes "Z (x)") ≡ None
 unfolding zone_literal hours_of
 letter_before_a_comment = refl

@@ -82,7 +82,7 @@ utc check n rest = form_of (
     ([], refl, (refl, refl)) next
     ([], refl, (refl, refl)) next done)
 
--- ---- Texts of the form
+-- ---- Texts that match
 
 pub text_of_the_standard : HasForm true (codes "1985-04-12T23:20:50.52Z") []
     (record (at_clock (dated 1985 4 12) 23 20 50) { subsecond = Some 520_000_000; is_utc = true })
@@ -129,7 +129,7 @@ tenth_digit_is_dropped = whole true _ _ _ (form_of (
     ([], refl, (refl, refl)) next
     ([], refl, (refl, refl)) next done))
 
--- without ranges a minute of 60 has the form
+-- without range checks a minute of 60 matches
 abbrev pub past_range : Numbers
 past_range = record front { offset_hour = 5; offset_minute = 60 }
 
@@ -167,7 +167,7 @@ month_13_has_the_form rest =
     (Stand-append (Asks false) clock_places _ (dated 2021 13 1) (at_clock (dated 2021 13 1) 0 0 0) (midnight 13 1) _ (codes "Z" ++ rest) rest
     (clock_000000 _ _) (utc false _ rest))
 
--- ---- Texts without it, by the first place that doesn't match
+-- ---- Texts that don't match, by the first place that doesn't match
 
 -- two digits out of their range
 pub outside : (least most : ℕ) (digits rest : List ℕ) (v : ℕ) → IsDigitRun 2 2 digits rest v → (v < least) ⊎ (most < v)
@@ -213,7 +213,7 @@ month_13 = record {
   stops = λ text rest m e h. outside 1 12 (codes "13") (codes "-01T00:00:00Z") 13 (search rules) (inr (omega arith)) text rest h.0 e h.1;
 }
 
--- without ranges too
+-- without range checks too
 pub month_00 : FailsAt false (codes "2021-00-01T00:00:00Z") Month
 month_00 = record {
   before = Year ∷ YearDash ∷ [];

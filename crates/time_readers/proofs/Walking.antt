@@ -1,4 +1,4 @@
--- How the answer of places follows from the answers of each.
+-- The result of places from the results of each.
 use Rattle.std.specs.Option.{ok_or}
 use Rattle.std.proofs.Common.{◌≡◌, ℕ, List, [], ◌∷◌, ◌++◌, refl, ap, sym, ◌∙◌, subst, Result, Ok, Err, Option, Some, None, Bor, append_assoc, IsErr, IsErrAnd, MatchResult, pos, inl, inr}
 use Rattle.time_values.specs.Moments.{offset_date, offset_time, offset_of}
@@ -18,7 +18,7 @@ pub Walks-none : {P N : Type 0} (A : Format P N) (n : N) (bytes : List ℕ) (res
 unfolding Stand
 Walks-none A n bytes rest e = (e, refl)
 
--- the first place stands, and the others answer
+-- the first place matches, and the others have this result
 pub Walks-more : {P N : Type 0} (A : Format P N) (p : P) (ps : List P) (n k m : N) (bytes mid : List ℕ) (result : Result (Bor (List ℕ)) P)
     → Cut (A p n) bytes mid k → Walks A ps k mid result m → Walks A (p ∷ ps) n bytes result m
 unfolding Stand
@@ -46,13 +46,13 @@ Walks-here A p ps n m bytes e (same, stops) = subst (λ q. Walks A (p ∷ ps) n 
   stops = stops;
 })
 
--- the first place doesn't stand, and `?` hands that on
+-- the first place doesn't match, and `?` returns it as the error
 pub Walks-stop : {P N : Type 0} (A : Format P N) (p : P) (ps : List P) (n m : N) (bytes : List ℕ) (result : Result (Bor (List ℕ)) P) (e : P)
     → IsErr result × IsErrAnd result (λ x. x ≡ e) → (e ≡ p) × NoCut (A p n) bytes → Walks A (p ∷ ps) n bytes result m
 Walks-stop A p ps n m bytes (Ok rest) e by stops = let h = by.0 in cc
 Walks-stop A p ps n m bytes (Err x) e by stops = Walks-here A p ps n m bytes x (by.1 ∙ stops.0, stops.1)
 
--- the last place answers
+-- the last place has this result
 pub Walks-last : {P N : Type 0} (A : Format P N) (p : P) (n m : N) (bytes : List ℕ) (result : Result (Bor (List ℕ)) P)
     → Steps A p n bytes result m → Walks A (p ∷ []) n bytes result m
 unfolding Stand
@@ -68,39 +68,39 @@ pub NoCut-byte : {N : Type 0} (Q : Form N) (c : ℕ) (bytes : List ℕ) → ((re
     → ((text after : List ℕ) (m : N) → Q text after m → text ≡ c ∷ []) → NoCut Q bytes
 NoCut-byte Q c bytes none asks text rest m e q = none rest (e ∙ ap (λ t. t ++ rest) (asks text rest m q))
 
--- what a place's reader answers, and its place where that is nothing
+-- the result of a place's parser, with the place as the error for `None`
 Steps-or : {P N : Type 0} (A : Format P N) (p : P) (n k : N) (bytes : List ℕ) (answer : Option (Bor (List ℕ)))
     (result : Result (Bor (List ℕ)) P) → Reads (A p n) bytes answer k → result ≡ ok_or answer p → Steps A p n bytes result k
 Steps-or A p n k bytes None result none e = subst (λ r. Steps A p n bytes r k) (sym e) (refl, none)
 Steps-or A p n k bytes (Some rest) result cut e = subst (λ r. Steps A p n bytes r k) (sym e) cut
 
--- the reader of the first place answers a rest, and the others answer
+-- the parser of the first place returns a rest, and the others have this result
 pub Reads-more : {P N : Type 0} (A : Format P N) (p : P) (ps : List P) (n k m : N) (bytes : List ℕ) (rest : Bor (List ℕ))
     (answer : Option (Bor (List ℕ))) (result : Result (Bor (List ℕ)) P) → Reads (A p n) bytes answer k → Ok rest ≡ ok_or answer p
     → Walks A ps k rest.now result m → Walks A (p ∷ ps) n bytes result m
 Reads-more A p ps n k m bytes rest answer result reads e others =
     Walks-more A p ps n k m bytes rest.now result (Steps-or A p n k bytes answer (Ok rest) reads e) others
 
--- the reader of the first place answers nothing, and `?` hands its place on
+-- the parser of the first place returns `None`, and `?` returns its place as the error
 pub Reads-stop : {P N : Type 0} (A : Format P N) (p : P) (ps : List P) (n k m : N) (bytes : List ℕ) (answer : Option (Bor (List ℕ)))
     (result : Result (Bor (List ℕ)) P) (e : P) → IsErr result × IsErrAnd result (λ x. x ≡ e) → Reads (A p n) bytes answer k
     → Err e ≡ ok_or answer p → Walks A (p ∷ ps) n bytes result m
 Reads-stop A p ps n k m bytes answer result e by reads is =
     Walks-stop A p ps n m bytes result e by (Steps-or A p n k bytes answer (Err e) reads is)
 
--- the reader of the last place answers
+-- the parser of the last place has this result
 pub Reads-last : {P N : Type 0} (A : Format P N) (p : P) (n m : N) (bytes : List ℕ) (answer : Option (Bor (List ℕ)))
     (result : Result (Bor (List ℕ)) P) → Reads (A p n) bytes answer m → result ≡ ok_or answer p → Walks A (p ∷ []) n bytes result m
 Reads-last A p n m bytes answer result reads e = Walks-last A p n m bytes result (Steps-or A p n m bytes answer result reads e)
 
--- the first places stand, and then the others
+-- the first places match, and then the others
 pub Stand-append : {P N : Type 0} (A : Format P N) (ps qs : List P) (n k m : N) (bytes mid rest : List ℕ) → Stand A ps n bytes mid k
     → Stand A qs k mid rest m → Stand A (ps ++ qs) n bytes rest m
 unfolding Stand
 Stand-append A [] qs n k m bytes mid rest first others = subst (λ b. Stand A qs n b rest m) first.0 (subst (λ x. Stand A qs x mid rest m) first.1 others)
 Stand-append A (p ∷ ps) qs n k m bytes mid rest first others = (first.0, first.1, first.2, Stand-append A ps qs first.1 k m first.0 mid rest first.3 others)
 
--- the first places stand, and not all of the others
+-- the first places match, and not all of the others
 pub StopsAt-after : {P N : Type 0} (A : Format P N) (ps qs : List P) (n k : N) (bytes mid : List ℕ) (e : P) → Stand A ps n bytes mid k
     → StopsAt A qs k mid e → StopsAt A (ps ++ qs) n bytes e
 StopsAt-after A ps qs n k bytes mid e first others = record {
@@ -113,7 +113,7 @@ StopsAt-after A ps qs n k bytes mid e first others = record {
   stops = others.stops;
 }
 
--- not all of the first places stand
+-- not all of the first places match
 StopsAt-append : {P N : Type 0} (A : Format P N) (ps qs : List P) (n : N) (bytes : List ℕ) (e : P) → StopsAt A ps n bytes e → StopsAt A (ps ++ qs) n bytes e
 StopsAt-append A ps qs n bytes e w = record {
   before = w.before;
@@ -125,26 +125,26 @@ StopsAt-append A ps qs n bytes e w = record {
   stops = w.stops;
 }
 
--- not all of the first places stand, and `?` hands that on
+-- not all of the first places match, and `?` returns the first mismatch
 pub StopsAt-by : {P N : Type 0} (A : Format P N) (ps qs : List P) (n : N) (bytes : List ℕ) {V : Type 0} (result : Result V P) (e : P)
     (Q : V → Type 0) → IsErr result × IsErrAnd result (λ x. x ≡ e) → StopsAt A ps n bytes e
     → MatchResult result Q (λ x. StopsAt A (ps ++ qs) n bytes x)
 StopsAt-by A ps qs n bytes (Ok v) e Q by stops = let h = by.0 in cc
 StopsAt-by A ps qs n bytes (Err x) e Q by stops = subst (λ y. StopsAt A (ps ++ qs) n bytes y) (sym by.1) (StopsAt-append A ps qs n bytes e stops)
 
--- the first places don't all stand, and `?` hands that on
+-- not all of the first places match, and `?` returns the first mismatch as the result of all places
 pub Walks-by : {P N : Type 0} (A : Format P N) (ps qs : List P) (n m : N) (bytes : List ℕ) (result : Result (Bor (List ℕ)) P) (e : P)
     → IsErr result × IsErrAnd result (λ x. x ≡ e) → StopsAt A ps n bytes e → Walks A (ps ++ qs) n bytes result m
 Walks-by A ps qs n m bytes (Ok rest) e by stops = let h = by.0 in cc
 Walks-by A ps qs n m bytes (Err x) e by stops = subst (λ y. StopsAt A (ps ++ qs) n bytes y) (sym by.1) (StopsAt-append A ps qs n bytes e stops)
 
--- the first places stand, and the others answer
+-- the first places match, and the others have this result
 pub Walks-after : {P N : Type 0} (A : Format P N) (ps qs : List P) (n k m : N) (bytes mid : List ℕ) (result : Result (Bor (List ℕ)) P)
     → Stand A ps n bytes mid k → Walks A qs k mid result m → Walks A (ps ++ qs) n bytes result m
 Walks-after A ps qs n k m bytes mid (Ok rest) first others = Stand-append A ps qs n k m bytes mid rest.now first others
 Walks-after A ps qs n k m bytes mid (Err e) first others = StopsAt-after A ps qs n k bytes mid e first others
 
--- places that stand, cut in two
+-- places that match, split into the first of them and the others
 pub Stand-split : {P N : Type 0} (A : Format P N) (ps qs : List P) (n m : N) (bytes rest : List ℕ) → Stand A (ps ++ qs) n bytes rest m
     → (mid : List ℕ) × ((k : N) × Stand A ps n bytes mid k × Stand A qs k mid rest m)
 unfolding Stand
@@ -153,7 +153,7 @@ Stand-split A (p ∷ ps) qs n m bytes rest s =
     let t = Stand-split A ps qs s.1 m s.0 rest s.3 in
     (t.0, (t.1.0, (s.0, s.1, s.2, t.1.1), t.1.2))
 
--- what follows places that stand ends the bytes
+-- the rest after places that match is a suffix of the bytes
 pub Stand-ends : {P N : Type 0} (A : Format P N) (ps : List P) (n m : N) (bytes rest : List ℕ) → Stand A ps n bytes rest m
     → (before : List ℕ) × (bytes ≡ before ++ rest)
 unfolding Stand
@@ -163,13 +163,13 @@ Stand-ends A (p ∷ ps) n m bytes rest s =
     let cut = s.2 in
     (cut.0 ++ t.0, cut.1 ∙ ap (λ r. cut.0 ++ r) t.1 ∙ sym (append_assoc cut.0 t.0 rest))
 
--- ---- What a place says holds of the numbers in the end, where no other place says it again
+-- ---- A property of a place's numbers holds of the final numbers, if no other place sets them
 
--- a place says no more than what `with` takes from the numbers after it
+-- a place sets only the numbers that `with` takes from those after it
 abbrev pub Alone : {P N : Type 0} → Format P N → (P → N → N → N) → Type 0
 Alone {P} {N} A with = (p : P) (n m : N) (text after : List ℕ) → A p n text after m → m ≡ with p n m
 
--- f looks at no number of these places
+-- f doesn't depend on the numbers of these places
 abbrev pub Ignores : {P N X : Type 0} → (P → N → N → N) → (N → X) → List P → Type 0
 Ignores with f [] = Unit {0}
 Ignores {P} {N} with f (p ∷ ps) = ((n m : N) → f (with p n m) ≡ f n) × Ignores with f ps
@@ -181,7 +181,7 @@ kept A with f alone [] n m bytes rest i s = ap f s.1
 kept A with f alone (p ∷ ps) n m bytes rest i s =
     kept A with f alone ps s.1 m s.0 rest i.1 s.3 ∙ (ap f (alone p n s.1 s.2.0 s.0 s.2.2) ∙ i.0 n s.1)
 
--- what a place tells of numbers that no later place says holds of them in the end
+-- a property of numbers that a place has set, and no later place sets, holds of the final numbers
 pub said_after : {P N X Z : Type 0} (A : Format P N) (with : P → N → N → N) (f : N → Z) (g : N → X) (Q : X → Type 0) → Alone A with
     → (before : List P) (p : P) (after : List P) (n m : N) (bytes rest : List ℕ) → Stand A (before ++ p ∷ after) n bytes rest m
     → Ignores with f before → Ignores with g after
@@ -193,19 +193,19 @@ said_after A with f g Q alone before p after n m bytes rest s i j tells =
     let start = kept A with f alone before n parts.1.0 bytes parts.0 i parts.1.1 in
     subst Q (sym (kept A with g alone after last.1 m last.0 rest j last.3)) (tells parts.1.0 last.1 last.2.0 last.0 start last.2.2)
 
--- what a place tells of its number holds of the number in the end
+-- a property of a place's number holds of the final number
 pub said : {P N X : Type 0} (A : Format P N) (with : P → N → N → N) (f : N → X) (Q : X → Type 0) → Alone A with
     → (before : List P) (p : P) (after : List P) (n m : N) (bytes rest : List ℕ) → Stand A (before ++ p ∷ after) n bytes rest m → Ignores with f before
     → Ignores with f after → ((j k : N) (text mid : List ℕ) → f j ≡ f n → A p j text mid k → Q (f k)) → Q (f m)
 said A with f Q = said_after A with f f Q
 
--- what holds of a place's numbers in the end holds of them there
+-- a property of a place's final numbers holds of its numbers right after the place
 abbrev pub Back : {P N : Type 0} → Format P N → (P → N → Type 0) → List P → Type 0
 Back A In [] = Unit {0}
 Back {P} {N} A In (p ∷ ps) =
     ((k m : N) (bytes rest : List ℕ) → Stand A ps k bytes rest m → In p m → In p k) × Back A In ps
 
--- texts that stand as one format asks stand as another does, where the numbers in the end say what that asks besides
+-- texts that match one format match another, if the final numbers have the properties that the other requires besides
 pub along : {P N : Type 0} (A B : Format P N) (In : P → N → Type 0)
     → ((p : P) (n m : N) (text after : List ℕ) → In p m → A p n text after m → B p n text after m)
     → (ps : List P) (n m : N) (bytes rest : List ℕ) → Back A In ps → ((p : P) → In p m)
@@ -220,17 +220,17 @@ along A B In asked (p ∷ ps) n m bytes rest back all s =
       along A B In asked ps s.1 m s.0 rest back.1 all s.3,
     )
 
--- the numbers that a predicate looks at are kept by the places after
+-- the places after don't change the numbers that a predicate depends on
 pub back_by : {P N X : Type 0} (A : Format P N) (with : P → N → N → N) (f : N → X) (Q : X → Type 0) → Alone A with
     → (ps : List P) → Ignores with f ps → (k m : N) (bytes rest : List ℕ) → Stand A ps k bytes rest m → Q (f m) → Q (f k)
 back_by A with f Q alone ps ignores k m bytes rest s is = subst Q (kept A with f alone ps k m bytes rest ignores s) is
 
--- ---- A direct path has one answer
+-- ---- A direct path has one result
 
 same_zoned : (v w : OffsetDateTime) → offset_date v ≡ offset_date w → offset_time v ≡ offset_time w → offset_of v ≡ offset_of w → v ≡ w
 same_zoned v w d t o = λ i. record { date = d i; time = t i; offset = o i }
 
--- what is said makes one moment
+-- the numbers make one moment
 one_moment : (s : Said) (v w : OffsetDateTime) → IsMoment s v → IsMoment s w → v ≡ w
 one_moment s v w a b =
     let month = same_month _ _ (a.date.month ∙ sym b.date.month) in

@@ -1,4 +1,4 @@
--- What the direct paths of RFC 3339 and RFC 2822 answer: a moment made of a text's numbers. `Y` is the greatest year.
+-- The results of the direct paths of RFC 3339 and RFC 2822: the moment of a text's numbers. `Y` is the greatest year.
 use Rattle.std.specs.Prelude.{◌≡◌, ◌⊎◌, ◌==◌, ℕ, pos, nat_le, true, false, if◌then◌else◌, List, [], ◌∷◌, codes, Option, Some, None, Result, MatchResult, unwrap_or}
 use Rattle.std.specs.Option.{option_or}
 use Rattle.time_values.specs.Dates as Dates
@@ -20,74 +20,74 @@ use Rattle.time_readers.specs.declared.direct.Said.{Said}
 use Rattle.time_readers.specs.declared.rfc2822.Numbers as mail
 use Rattle.time_readers.specs.declared.rfc3339.Numbers.{Numbers}
 
--- the second and the nanosecond that a clock shows, where a leap second is the last nanosecond before it
+-- the second and the nanosecond of the moment, in which a leap second is the last nanosecond before it
 abbrev pub shown_second : Said → ℕ
 shown_second s = if s.second == 60 then 59 else s.second
 
 abbrev pub shown_nanosecond : Said → ℕ
 shown_nanosecond s = if s.second == 60 then 999_999_999 else s.nanosecond
 
--- the refusal of the month's number, or else of the date
+-- the error of the month's number, or else of the date
 abbrev pub date_refusal : ℕ → Said → Option Refusal
 date_refusal Y s = option_or (month_refusal s.month) (calendar_date_refusal Y (pos s.year) s.month s.day)
 
--- the first number that is out of its range
+-- the error of the first number that is out of its range
 abbrev pub first_refusal : ℕ → Said → Option Refusal
 first_refusal Y s =
     option_or (date_refusal Y s)
     (option_or (time_refusal s.hour s.minute (shown_second s) (shown_nanosecond s))
     (offset_refusal s.offset_hour s.offset_minute (pos 0)))
 
--- the date is the one that is said
+-- the date has the year, month and day of the numbers
 pub record HasDate (s : Said) (d : Date) : Type 0 where
   pub year : Dates.year d ≡ pos s.year
   pub month : month_number (Dates.month d) ≡ s.month
   pub day : Dates.day d ≡ s.day
 
--- the moment's date, time and offset are those that are said
+-- the moment has the date, time and offset of the numbers
 pub record IsMoment (s : Said) (v : OffsetDateTime) : Type 0 where
   pub date : HasDate s (offset_date v)
   pub clock : HasClock s.hour s.minute (shown_second s) (shown_nanosecond s) (offset_time v)
   pub offset : HasOffset s.offset_hour s.offset_minute (pos 0) (offset_of v)
 
--- a leap second stands only where one may, which is where a month ends in UTC
+-- a second of 60 is the last second of a month in UTC
 unfoldable pub LeapSecondMayStand : ℕ → Said → OffsetDateTime → Type 0
 LeapSecondMayStand Y s v = s.second ≡ 60 → IsLeapSecondMoment Y (offset_instant Y v)
 
--- each number is in its range, and a leap second stands only where one may
+-- each number is in its range, the moment is that of the numbers, and a leap second is only where one may be
 abbrev pub IsMade : ℕ → Said → OffsetDateTime → Type 0
 IsMade Y s v = (first_refusal Y s ≡ None) × IsMoment s v × LeapSecondMayStand Y s v
 
--- the first number that isn't in its range is refused, or else a leap second where none may stand
+-- the error of the first number that is out of its range, or else of a leap second where none may be
 abbrev pub IsNotMade : ℕ → Said → Refusal → Type 0
 IsNotMade Y s e =
     (first_refusal Y s ≡ Some e)
     ⊎ ((first_refusal Y s ≡ None) × (e ≡ range (codes "second") true)
     × ((v : OffsetDateTime) × IsMoment s v × (¬ LeapSecondMayStand Y s v)))
 
--- The refusal once all places have their form: that of the last place's range, or else bytes that remain, or else that
--- no moment is made.
+-- The error if all places have their form: that of the last place's range, or else of trailing bytes, or else of the
+-- calendar.
 abbrev pub IsRefusedAfter : ℕ → Option Refusal → Said → List ℕ → Refusal → Type 0
 IsRefusedAfter Y (Some r) s rest e = e ≡ r
 IsRefusedAfter Y None s [] e = IsNotMade Y s e
 IsRefusedAfter Y None s (c ∷ rest) e = e ≡ trailing
 
--- the moment made of a whole text whose places have their form
+-- the moment of a whole text whose places have their form
 abbrev pub IsDirect : {N : Type 0} → Form N → (N → Option Refusal) → (N → Said) → ℕ → List ℕ → OffsetDateTime → Type 0
 IsDirect {N} form last says Y bytes v = (n : N) × form bytes [] n × (last n ≡ None) × IsMade Y (says n) v
 
--- the refusal of the first place that doesn't have its form, or else what is refused after them all
+-- the error of the first place that doesn't have its form, or else the error if all places have theirs
 abbrev pub RefusesDirectly : {P N : Type 0} → Form N → (List ℕ → P → Type 0) → (P → Refusal) → (N → Option Refusal)
     → (N → Said) → ℕ → List ℕ → Refusal → Type 0
 RefusesDirectly {P} {N} form fails fault last says Y bytes e =
     ((p : P) × fails bytes p × (e ≡ fault p))
     ⊎ ((rest : List ℕ) × ((n : N) × form bytes rest n × IsRefusedAfter Y (last n) (says n) rest e))
 
--- the range of the minute of an offset, which its place of RFC 3339 refuses
+-- the error of an offset's minute above 59, which the direct path of RFC 3339 reports for its last place
 abbrev pub minute_refusal : Numbers → Option Refusal
 minute_refusal n = if nat_le n.offset_minute 59 then None else Some (range (codes "minutes") false)
 
--- what a text of RFC 3339 says of a moment: a fraction that doesn't stand is 0
+-- the moment's numbers from those of RFC 3339: a missing fraction is 0
 abbrev pub said_rfc3339 : Numbers → Said
 said_rfc3339 n = record {
   year = n.year;
@@ -101,7 +101,7 @@ said_rfc3339 n = record {
   offset_minute = signed_by n.offset_is_negative (pos n.offset_minute);
 }
 
--- what a mail date says of a moment: a second that doesn't stand is 0
+-- the moment's numbers from those of a mail date: a missing second is 0
 abbrev pub said_rfc2822 : mail.Numbers → Said
 said_rfc2822 n = record {
   year = n.year;
@@ -115,7 +115,7 @@ said_rfc2822 n = record {
   offset_minute = n.offset_minute;
 }
 
--- RFC 3339 on the direct path: its moments, its refusals, and what is answered
+-- RFC 3339 on the direct path: its moments, its errors, and its results
 abbrev pub IsDirectRfc3339 : ℕ → List ℕ → OffsetDateTime → Type 0
 IsDirectRfc3339 = IsDirect (rfc3339.HasForm false) minute_refusal said_rfc3339
 

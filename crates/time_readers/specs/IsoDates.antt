@@ -1,4 +1,4 @@
--- The date of ISO 8601: its three forms and their faults.
+-- The date of ISO 8601: its three forms and their errors.
 use Rattle.std.specs.Prelude.{◌≡◌, ◌≢◌, ◌+◌, ◌*◌, ℕ, ℤ, pos, List, codes, Bool, true, false, Option, Some, None, option_map, Result, Ok, Err}
 use Rattle.time_values.specs.Refusal.{Refusal, literal, component}
 use Rattle.time_values.specs.declared.month.Month.{Month}
@@ -10,22 +10,22 @@ use Rattle.time_readers.specs.declared.iso8601.DateNumbers.TheVariants as number
 use Rattle.time_readers.specs.declared.iso8601.fast.CalendarDigits.{CalendarDigits}
 use Rattle.time_readers.specs.IsoPieces.{Found, year, month, months, numbered, weekday, positive, byte}
 
--- what a date says
+-- the value of a date
 pub data IsoDate : Type 0 where
   calendar : ℤ → Month → ℕ → IsoDate
   ordinal : ℤ → ℕ → IsoDate
   week : ℤ → ℕ → Weekday → IsoDate
 
--- the text of a form, or its fault
+-- the rest and the value of a form, or its error
 abbrev pub FormOrFault : Type 0
 FormOrFault = Result (List ℕ × IsoDate) Refusal
 
--- what has to stand, or else that refusal
+-- a required part, or else that error
 abbrev pub need : {A B : Type 0} → Option A → Refusal → (A → Result B Refusal) → Result B Refusal
 need None e f = Err e
 need (Some a) e f = f a
 
--- `-` where the text is extended
+-- `-` in an extended text, and nothing in a basic one
 abbrev pub dash : Bool → List ℕ → Option (List ℕ)
 dash true bytes = byte 45 bytes
 dash false bytes = Some bytes
@@ -50,40 +50,40 @@ third_form extended y bytes =
     need (weekday after) (component (codes "weekday")) (λ d.
     Ok (d.0, week y w.1 d.1))))
 
--- the first form that stands; and where none does the fault of the third where a `W` stood, and else of the first
+-- the first form that matches; if no form does, the error of the third after a `W`, and else of the first
 abbrev pub first_standing : FormOrFault → Option (List ℕ × IsoDate) → Option FormOrFault → FormOrFault
 first_standing (Ok a) second third = Ok a
 first_standing (Err e) (Some a) third = Ok a
 first_standing (Err e) None (Some third) = third
 first_standing (Err e) None None = Err e
 
--- what stands after a year
+-- the form of a date after its year
 unfoldable pub forms : Bool → ℤ → List ℕ → FormOrFault
 forms extended y bytes =
     first_standing (first_form extended y bytes) (second_form y bytes)
     (option_map (third_form extended y) (byte 87 bytes))
 
--- the text of that kind
+-- the date with its kind
 abbrev pub of_kind : ExtendedKind → FormOrFault → Result (Found IsoDate) Refusal
 of_kind kind (Err e) = Err e
 of_kind kind (Ok f) = Ok (record { rest = f.0; value = f.1; kind = kind })
 
--- `-` after a year makes the kind extended, and else it is basic
+-- the date after its year: a `-` makes the kind extended, and else it is basic
 abbrev pub after_year : ℤ → List ℕ → Option (List ℕ) → Result (Found IsoDate) Refusal
 after_year y bytes None = of_kind Basic (forms false y bytes)
 after_year y bytes (Some after) = of_kind Extended (forms true y after)
 
--- the text of a date, or its fault
+-- the date at the front of the bytes, or its error
 unfoldable pub date_text : List ℕ → Result (Found IsoDate) Refusal
 date_text bytes = need (year bytes) (component (codes "year")) (λ y. after_year y.1 y.0 (byte 45 y.0))
 
--- what a reader's numbers say
+-- the value of a parser's numbers
 abbrev pub iso_date : DateNumbers → IsoDate
 iso_date (numbers.Calendar y m d) = calendar y m d.value
 iso_date (numbers.Ordinal y d) = ordinal y d.value
 iso_date (numbers.Week y w d) = week y w.value d
 
--- the text begins with the date of these digits, if they say a month and a day
+-- the text begins with the date of these digits, if their month is 1 to 12 and their day isn't 0
 abbrev pub AreCalendarDigits : List ℕ → CalendarDigits → Type 0
 AreCalendarDigits text d =
     (m : Month) → numbered months d.month ≡ Some m → d.day ≢ 0

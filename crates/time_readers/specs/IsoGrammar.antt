@@ -1,6 +1,6 @@
 -- No public contract rests on this file.
 --
--- What the readers of single pieces and parts of ISO 8601 answer.
+-- The results of the parsers of single pieces and parts of ISO 8601.
 use Rattle.std.specs.Prelude.{◌≡◌, ℕ, List, if◌then◌else◌, Option, Some, None, Result, Ok, Err, option_map, option_and_then, ◌≤◌, ◌+◌, ◌*◌, ◌-◌, true}
 use Rattle.std.specs.Borrow.{Bor}
 use Rattle.time_values.specs.Refusal.{Refusal, refusal_of_description}
@@ -18,12 +18,12 @@ use Rattle.time_readers.specs.IsoOffsets.{numbers_of}
 use Rattle.time_readers.specs.IsoDates.{AreCalendarDigits}
 use Rattle.time_readers.specs.declared.iso8601.fast.dates_and_times.FirstSixteen.{FirstSixteen}
 
--- the reader of a byte answers what is left
+-- the parser of a byte returns the rest
 abbrev pub Leaves : Option (List ℕ) → Option (Bor (List ℕ)) → Type 0
 Leaves found None = found ≡ None
 Leaves found (Some rest) = found ≡ Some rest.now
 
--- the reader of a form answers what is left, and in that view the value; or the fault
+-- the parser of a form returns the rest and the value as viewed, or the error
 abbrev pub GivesForm : {V W : Type 0} → (V → W) → Result (List ℕ × W) Refusal
     → Result (ParsedItem V) ParseFromDescription → Type 0
 GivesForm view found (Err e) = found ≡ Err (refusal_of_description e)
@@ -33,21 +33,21 @@ GivesForm view found (Ok p) = found ≡ Ok (p.0.now, view p.1)
 abbrev pub hour_and_minute : ℕ → ℕ → TimeNumbers
 hour_and_minute h m = record nothing_given { hour = h; minute = m }
 
--- a second, of whose number the rest and what it says are given
+-- the time with a second, from the number parsed for it and the rest
 abbrev pub second_found : TimeNumbers → ExtendedKind → (List ℕ × Number) → Option (Found TimeNumbers)
 second_found t kind f = option_map (λ u. record { rest = f.0; value = u; kind = kind }) (says any_second f.1 t)
 
--- what stands after an hour and a minute without separators: a second, or nothing
+-- the rest of a time after an hour and a minute without separators: a second, or nothing
 abbrev pub basic_second : TimeNumbers → List ℕ → Option (List ℕ × Number) → Option (Found TimeNumbers)
 basic_second t bytes None = Some (record { rest = bytes; value = t; kind = Basic })
 basic_second t bytes (Some f) = second_found t Basic f
 
--- what stands after them with separators: a colon and a second, or nothing
+-- the rest of a time after an hour and a minute with separators: a colon and a second, or nothing
 abbrev pub extended_second : TimeNumbers → List ℕ → Option (List ℕ) → Option (Found TimeNumbers)
 extended_second t bytes None = Some (record { rest = bytes; value = t; kind = Extended })
 extended_second t bytes (Some after) = option_and_then (second_found t Extended) (number after)
 
--- a minute of an offset without a colon: where two digits stand they have to be one, and else it is 0
+-- a minute of an offset without a colon: two digits must be 0 to 59, and without two digits the minute is 0
 abbrev pub minute_or_none : List ℕ → Option (List ℕ × ℕ) → Option (List ℕ × ℕ)
 minute_or_none bytes None = Some (bytes, 0)
 minute_or_none bytes (Some f) = up_to 59 2 bytes
@@ -56,7 +56,7 @@ minute_or_none bytes (Some f) = up_to 59 2 bytes
 abbrev pub with_kind : {V : Type 0} → ExtendedKind → (List ℕ × V) → Found V
 with_kind kind p = record { rest = p.0; value = p.1; kind = kind }
 
--- a minute after a colon, where one stands, or without
+-- a minute after a colon if there is one, or without a colon
 abbrev pub minute_after : ExtendedKind → List ℕ → Option (List ℕ) → Option (Found ℕ)
 minute_after kind bytes (Some after) = option_map (with_kind Extended) (up_to 59 2 after)
 minute_after kind bytes None = option_map (with_kind kind) (minute_or_none bytes (digits 2 bytes))
@@ -65,11 +65,11 @@ minute_after kind bytes None = option_map (with_kind kind) (minute_or_none bytes
 abbrev pub colon_of : ExtendedKind → List ℕ → Option (List ℕ)
 colon_of kind bytes = if not_basic kind then byte 58 bytes else None
 
--- the minute of an offset, 0 where none stands
+-- the minute of an offset, 0 if it is missing
 unfoldable pub offset_minute : ExtendedKind → List ℕ → Option (Found ℕ)
 offset_minute kind bytes = minute_after kind bytes (colon_of kind bytes)
 
--- what stands after a sign and its hour
+-- the rest of an offset after its sign and hour
 abbrev pub after_hour : ExtendedKind → Sign → (List ℕ × ℕ) → Option (Found OffsetNumbers)
 after_hour kind s h =
     option_map (λ m. record { rest = m.rest; value = numbers_of (Some s) h.1 m.value; kind = m.kind })
@@ -84,19 +84,19 @@ offset_after kind bytes None =
 unfoldable pub offset_by_pieces : ExtendedKind → List ℕ → Option (Found OffsetNumbers)
 offset_by_pieces kind bytes = offset_after kind bytes (byte 90 bytes)
 
--- ---- What the short forms of ISO 8601 are
+-- ---- The short forms of ISO 8601
 
 -- the number of two digits
 abbrev pub two_digits : ℕ → ℕ → ℕ
 two_digits tens ones = (tens - 48) * 10 + (ones - 48)
 
--- the number says such a second, and so many nanoseconds of it
+-- the number is that second of a time, with that many nanoseconds
 abbrev pub SaysSecond : Number → ℕ → ℕ → Type 0
 SaysSecond n second nanoseconds =
     (h m : ℕ) → says any_second n (hour_and_minute h m)
     ≡ Some (record { hour = h; minute = m; second = second; subsecond = nanoseconds })
 
--- after the date of these digits stand `T`, that hour and that minute, and then a second makes it a time
+-- after the date of these digits come `T`, that hour and that minute, and with a second after them they are a time
 abbrev pub IsClock : FirstSixteen → Type 0
 IsClock f =
     (n : Number) (rest : List ℕ) (s nanoseconds : ℕ) → f.hour ≤ 23

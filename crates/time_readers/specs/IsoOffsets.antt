@@ -1,4 +1,4 @@
--- The offset of ISO 8601: a table of the texts that say one.
+-- The offset of ISO 8601: a table of its texts.
 use Rattle.std.specs.Prelude.{ℕ, List, [], ◌∷◌, Bool, ◌&&◌, is_none, Option, Some, None, option_map}
 use Rattle.time_digits.specs.declared.Sign.{Sign}
 use Rattle.time_readers.specs.declared.iso8601.ExtendedKind.{ExtendedKind}
@@ -7,7 +7,7 @@ use Rattle.time_readers.specs.declared.iso8601.OffsetNumbers.TheVariants.{Zulu, 
 use Rattle.time_readers.specs.IsoPieces.{Found, Piece, digits, up_to, sign, with_sign, byte}
 use Rattle.time_readers.specs.IsoTimes.{any, is_basic, not_basic, as_before, extended, Row, row, anything, no_colon, Stands, first_fitting, fitting}
 
--- What stands in a text of the table: `Z`, `-` or `+`, two digits of 0 to 25, `:`, or two digits of 0 to 59.
+-- The places of a text of the table: `Z`, `-` or `+`, two digits from 0 to 25, `:`, or two digits from 0 to 59.
 pub data OffsetPlace : Type 0 where
   z : OffsetPlace
   plus_or_minus : OffsetPlace
@@ -15,14 +15,14 @@ pub data OffsetPlace : Type 0 where
   colon : OffsetPlace
   minute : OffsetPlace
 
--- what follows a text
+-- tests of the bytes after a text
 abbrev pub no_digits : List ℕ → Bool
 no_digits bytes = is_none (digits 2 bytes)
 
 abbrev pub no_colon_no_digits : List ℕ → Bool
 no_colon_no_digits bytes = no_colon bytes && no_digits bytes
 
--- The texts of an offset. A colon makes an unknown kind extended. At most one of them fits (`law_one_offset_row`).
+-- The texts of an offset. A colon makes an unknown kind extended. At most one row matches (`law_one_offset_row`).
 abbrev pub offset_rows : List (Row OffsetPlace)
 offset_rows =
     row (z ∷ []) any anything as_before
@@ -32,7 +32,7 @@ offset_rows =
     ∷ row (plus_or_minus ∷ hour ∷ colon ∷ minute ∷ []) not_basic anything extended
     ∷ []
 
--- what the places say: an offset without a sign is `Z`, and a minute that doesn't stand is 0
+-- the values of the places: an offset without a sign is `Z`, and a missing minute is 0
 pub record OffsetParts : Type 0 where
   pub signed : Option Sign
   pub hour : ℕ
@@ -41,7 +41,7 @@ pub record OffsetParts : Type 0 where
 abbrev pub nothing_said : OffsetParts
 nothing_said = record { signed = None; hour = 0; minute = 0 }
 
--- the text of a place
+-- the match of a place: the rest, and the values with that of the place
 abbrev pub stands : Stands OffsetPlace OffsetParts
 stands z bytes o = option_map (λ rest. (rest, o)) (byte 90 bytes)
 stands plus_or_minus bytes o = option_map (λ f. (f.0, record o { signed = Some f.1 })) (sign bytes)
@@ -49,7 +49,7 @@ stands hour bytes o = option_map (λ f. (f.0, record o { hour = f.1 })) (up_to 2
 stands colon bytes o = option_map (λ rest. (rest, o)) (byte 58 bytes)
 stands minute bytes o = option_map (λ f. (f.0, record o { minute = f.1 })) (up_to 59 2 bytes)
 
--- the texts of all rows that fit
+-- the results of all rows that match
 abbrev pub offset_texts : ExtendedKind → List ℕ → List (Found OffsetParts)
 offset_texts = fitting stands nothing_said offset_rows
 
@@ -66,7 +66,7 @@ numbers_found f = record {
   kind = f.kind;
 }
 
--- the text of an offset
+-- the offset at the front of the bytes
 unfoldable pub offset_text : ExtendedKind → List ℕ → Option (Found OffsetNumbers)
 offset_text kind bytes =
     option_map numbers_found

@@ -1,5 +1,5 @@
--- The pieces of ISO 8601 texts, as functions from the bytes left: the bytes after a text with which they begin, and
--- what it says; or nothing, where no such text stands there. Each finds exactly a cut (`law_iso_pieces`).
+-- The pieces of ISO 8601 texts, as functions from bytes to the rest after a matching prefix, and its value; or to
+-- nothing, if no prefix matches. Each function finds exactly the prefix that its relation allows (`law_iso_pieces`).
 use Rattle.std.specs.Prelude.{ℕ, zero, suc, ℤ, pos, slice_get, List, [], ◌∷◌, length, take, drop, Bool, true, ◌&&◌, nat_eq, nat_le, if◌then◌else◌, Option, Some, None, option_map, option_and_then, ◌≡◌, Result, Ok, Err, ◌≤◌, ◌⊎◌, ◌↔◌, ◌++◌, false}
 use Rattle.std.specs.Borrow.{Bor}
 use Rattle.time_values.specs.Sign.{signed_by}
@@ -18,7 +18,7 @@ use Rattle.time_readers.specs.Readers.{Reader, one_of, ◌or◌}
 use Rattle.time_readers.specs.declared.iso8601.ExtendedKind.{ExtendedKind}
 use Rattle.time_readers.specs.declared.iso8601.Part.{Part}
 
--- what is left of the bytes after a text, and what the text says
+-- from bytes to the rest after a matching prefix, and its value
 abbrev pub Piece : Type 0 → Type 0
 Piece V = List ℕ → Option (List ℕ × V)
 
@@ -31,7 +31,7 @@ abbrev pub all_digits : List ℕ → Bool
 all_digits [] = true
 all_digits (c ∷ cs) = is_digit c && all_digits cs
 
--- exactly so many digits, and their decimal value
+-- exactly n digits, and their decimal value
 unfoldable pub digits : ℕ → Piece ℕ
 digits n bytes =
     if nat_le n (length bytes) && all_digits (take n bytes)
@@ -61,7 +61,7 @@ sign (c ∷ cs) =
 abbrev pub with_sign : Sign → ℕ → ℤ
 with_sign s n = signed_by (is_negative s) (pos n)
 
--- six digits after a sign, or four where no sign stands
+-- six digits after a sign, or four without a sign
 abbrev pub year_after : List ℕ → Option (List ℕ × Sign) → Option (List ℕ × ℤ)
 year_after bytes None = option_map (λ f. (f.0, pos f.1)) (digits 4 bytes)
 year_after bytes (Some s) = option_map (λ f. (f.0, with_sign s.1 f.1)) (digits 6 s.0)
@@ -81,7 +81,7 @@ abbrev pub numbered : {A : Type 0} → List A → ℕ → Option A
 numbered all zero = None
 numbered all (suc n) = slice_get all n
 
--- exactly so many digits, whose number says something
+-- exactly n digits, whose number has a value
 abbrev pub digits_saying : {A : Type 0} → ℕ → (ℕ → Option A) → Piece A
 digits_saying n says bytes = option_and_then (λ f. option_map (λ a. (f.0, a)) (says f.1)) (digits n bytes)
 
@@ -93,14 +93,14 @@ month = digits_saying 2 (numbered months)
 unfoldable pub weekday : Piece Weekday
 weekday = digits_saying 1 (numbered weekdays)
 
--- so many digits that are not all 0
+-- n digits that are not all 0
 abbrev pub not_zero : ℕ → Option ℕ
 not_zero v = if nat_eq v 0 then None else Some v
 
 unfoldable pub positive : ℕ → Piece ℕ
 positive n = digits_saying n not_zero
 
--- so many digits of a number up to the greatest
+-- n digits of a number up to the greatest
 abbrev pub at_most : ℕ → ℕ → Option ℕ
 at_most greatest v = if nat_le v greatest then Some v else None
 
@@ -112,12 +112,12 @@ pub data Number : Type 0 where
   plain : ℕ → Number
   fraction : ℕ → List ℕ → Number
 
--- a number of its whole part, of the digits after a point, and of all bytes after the point
+-- a number from its whole part, the digits after a point, and all bytes after the point
 abbrev pub after_point : ℕ → List ℕ → Piece Number
 after_point whole [] bytes = None
 after_point whole (d ∷ ds) bytes = Some (drop (length (d ∷ ds)) bytes, fraction whole (d ∷ ds))
 
--- a number of its whole part, of the bytes after that, and of those after a point, where one stands
+-- a number from its whole part, the bytes after that, and the bytes after a point if there is one
 abbrev pub after_whole : ℕ → List ℕ → Option (List ℕ) → Option (List ℕ × Number)
 after_whole whole bytes None = Some (bytes, plain whole)
 after_whole whole bytes (Some after) = after_point whole (leading_digits after) after
@@ -127,42 +127,42 @@ after_whole whole bytes (Some after) = after_point whole (leading_digits after) 
 unfoldable pub number : Piece Number
 number bytes = option_and_then (λ f. after_whole f.1 f.0 (point f.0)) (digits 2 bytes)
 
--- ---- What the readers of ISO 8601 texts answer: what their functions say, and nothing where these say nothing
+-- ---- The results of the parsers of ISO 8601 texts: those of the functions, and `None` if these find nothing
 
--- a text with which some bytes begin: the bytes after it, what it says, and the kind after it
+-- a matching prefix of the bytes: the rest after it, its value, and the kind after it
 pub record Found (V : Type 0) : Type 0 where
   pub rest : List ℕ
   pub value : V
   pub kind : ExtendedKind
 
--- a number by its whole part and the digits of its fraction, where it has one
+-- a number from its whole part and the digits of its fraction, if it has one
 abbrev pub number_of : ℕ → Option (Bor (List ℕ)) → Number
 number_of whole None = plain whole
 number_of whole (Some digits) = fraction whole digits.now
 
--- the reader of a piece answers what is left, and in that view the value
+-- the parser of a piece returns the rest and the value as viewed
 abbrev pub GivesAs : {V W : Type 0} → (V → W) → Option (List ℕ × W) → Option (ParsedItem V) → Type 0
 GivesAs view found None = found ≡ None
 GivesAs view found (Some p) = found ≡ Some (p.0.now, view p.1)
 
--- the reader of a piece answers what is left, and the value
+-- the parser of a piece returns the rest and the value
 abbrev pub Gives : {V : Type 0} → Option (List ℕ × V) → Option (ParsedItem V) → Type 0
 Gives found result = GivesAs (λ v. v) found result
 
--- the reader of a part answers what is left, the value, and the kind
+-- the parser of a part returns the rest, the value, and the kind
 abbrev pub GivesPart : {V : Type 0} → Option (Found V) → Option (Part V) → Type 0
 GivesPart found None = found ≡ None
 GivesPart found (Some p) = found ≡ Some (record { rest = p.rest.now; value = p.value; kind = p.kind })
 
--- the reader of a part answers what is left, in that view the value, and the kind; or the fault
+-- the parser of a part returns the rest, the value as viewed, and the kind; or the error
 abbrev pub GivesPartOrFault : {V W : Type 0} → (V → W) → Result (Found W) Refusal
     → Result (Part V) ParseFromDescription → Type 0
 GivesPartOrFault view found (Err e) = found ≡ Err (refusal_of_description e)
 GivesPartOrFault view found (Ok p) = found ≡ Ok (record { rest = p.rest.now; value = view p.value; kind = p.kind })
 
--- ---- The pieces of ISO 8601 texts as relations on a text, what follows it, and what it says
+-- ---- The pieces of ISO 8601 texts as relations of a text, the bytes after it, and its value
 
--- what the function finds is exactly the cut
+-- the function finds exactly the prefix that the relation allows
 abbrev pub IsCutOf : {V : Type 0} → Piece V → Form V → Type 0
 IsCutOf {V} find S = (s rest : List ℕ) (v : V) → (find s ≡ Some (rest, v)) ↔ Cut S s rest v
 
@@ -171,7 +171,7 @@ abbrev pub IsYear : Form ℤ
 IsYear text rest v =
     (a : Sign × ℕ) × (v ≡ with_sign a.0 a.1) × IsSigned false (IsDigitRun 6 6) (IsDigitRun 4 4) text rest a
 
--- so many digits, whose number says that
+-- n digits, whose number has that value
 abbrev pub IsSaid : {A : Type 0} → ℕ → (ℕ → Option A) → Form A
 IsSaid n says text rest a = (v : ℕ) × IsDigitRun n n text rest v × (says v ≡ Some a)
 
@@ -179,12 +179,12 @@ IsSaid n says text rest a = (v : ℕ) × IsDigitRun n n text rest v × (says v �
 abbrev pub IsPoint : ℕ → Type 0
 IsPoint c = (c ≡ 46) ⊎ (c ≡ 44)
 
--- the text doesn't begin with one
+-- the text doesn't begin with `.` or `,`
 abbrev pub NoPointFirst : List ℕ → Type 0
 NoPointFirst [] = Unit {0}
 NoPointFirst (c ∷ cs) = ¬ IsPoint c
 
--- two digits, a point, and one or more digits of a fraction, as many as stand there
+-- two digits, a point, and one or more digits of a fraction, up to the first byte that isn't a digit
 pub record IsFractional (text rest : List ℕ) (v : ℕ) (digits : List ℕ) : Type 0 where
   pub whole : List ℕ
   pub mark : ℕ

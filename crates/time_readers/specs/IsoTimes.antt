@@ -1,4 +1,4 @@
--- The time of ISO 8601: a table of the texts that say one.
+-- The time of ISO 8601: a table of its texts.
 use Rattle.std.specs.Prelude.{ℕ, List, [], ◌∷◌, ◌++◌, Bool, true, is_none, if◌then◌else◌, Option, Some, None, option_and_then, option_to_list, ◌+◌, ◌-◌, ◌*◌, ◌/◌, ◌^◌, ◌<◌, ◌≤◌, length, false, ◌%◌, ◌&&◌, nat_le, nat_lt, option_map, Result, Ok, Err}
 use Rattle.std.specs.Option.{option_or}
 use Rattle.time_values.specs.declared.error.ParseFromDescription.{ParseFromDescription}
@@ -10,10 +10,11 @@ use Rattle.time_readers.specs.declared.iso8601.TimeNumbers.{TimeNumbers}
 use Rattle.time_readers.specs.IsoDates.{date_text, iso_date}
 use Rattle.time_readers.specs.declared.iso8601.DateAndTime.{DateAndTime}
 
--- ---- Tables of the texts of ISO 8601: a row is a text by its places, with the kinds before it, what may follow it,
--- and the kind after it
+-- ---- Tables of the texts of ISO 8601: a row lists the places of a text, the kinds before it, what may follow it, and
+-- the kind after it
 
--- a text of a table whose places are these, the kinds before it, what may follow it, and the kind after it
+-- a row of a table: the places of a text, a test of the kind before it, a test of the bytes after it, and the kind
+-- after it
 pub record Row (P : Type 0) : Type 0 where
   pub text : List P
   pub before : ExtendedKind → Bool
@@ -23,7 +24,7 @@ pub record Row (P : Type 0) : Type 0 where
 abbrev pub row : {P : Type 0} → List P → (ExtendedKind → Bool) → (List ℕ → Bool) → (ExtendedKind → ExtendedKind) → Row P
 row text before follows after = record { text = text; before = before; follows = follows; after = after }
 
--- what follows a text
+-- tests of the bytes after a text
 abbrev pub anything : List ℕ → Bool
 anything bytes = true
 
@@ -34,16 +35,16 @@ no_colon bytes = is_none (byte 58 bytes)
 abbrev pub when : {A : Type 0} → Bool → A → Option A
 when test a = if test then Some a else None
 
--- how the texts of places are read, each after what those before it say
+-- how a place is parsed: from the bytes and the values of the places before it to the rest and the new values
 abbrev pub Stands : Type 0 → Type 0 → Type 0
 Stands P V = P → List ℕ → V → Option (List ℕ × V)
 
--- the texts of places one after another
+-- places parsed one after another
 abbrev pub all_stand : {P V : Type 0} → Stands P V → List P → List ℕ → V → Option (List ℕ × V)
 all_stand stands [] bytes v = Some (bytes, v)
 all_stand stands (p ∷ ps) bytes v = option_and_then (λ f. all_stand stands ps f.0 f.1) (stands p bytes v)
 
--- the text of a row, before whose places nothing is said
+-- the result of a row, from the values before any place is parsed
 abbrev pub fits : {P V : Type 0} → Stands P V → V → Row P → ExtendedKind → List ℕ → Option (Found V)
 fits stands nothing r kind bytes =
     if r.before kind
@@ -52,41 +53,41 @@ fits stands nothing r kind bytes =
     (all_stand stands r.text bytes nothing)
     else None
 
--- the text of the first of the rows that fits
+-- the result of the first row that matches
 abbrev pub first_fitting : {P V : Type 0} → Stands P V → V → List (Row P) → ExtendedKind → List ℕ → Option (Found V)
 first_fitting stands nothing [] kind bytes = None
 first_fitting stands nothing (r ∷ rs) kind bytes =
     option_or (fits stands nothing r kind bytes) (first_fitting stands nothing rs kind bytes)
 
--- the texts of all rows that fit
+-- the results of all rows that match
 abbrev pub fitting : {P V : Type 0} → Stands P V → V → List (Row P) → ExtendedKind → List ℕ → List (Found V)
 fitting stands nothing [] kind bytes = []
 fitting stands nothing (r ∷ rs) kind bytes =
     option_to_list (fits stands nothing r kind bytes) ++ fitting stands nothing rs kind bytes
 
--- ---- What the digits of a fraction say of a unit: n digits of value w say w * unit / 10 ^ n
+-- ---- The fraction of a unit: n digits of value w are w * unit / 10 ^ n
 
--- the number is the fraction of the unit, cut to a whole one
+-- the number is the fraction of the unit, truncated to a whole number
 pub record IsFloor (digits : List ℕ) (unit : ℕ) (m : ℕ) : Type 0 where
   pub low : m * 10 ^ length digits ≤ digits_value digits * unit
   pub high : digits_value digits * unit < (m + 1) * 10 ^ length digits
 
--- the number is the fraction of the unit, rounded to the nearest whole one, and a half up
+-- the number is the fraction of the unit, rounded to the nearest whole number, and a half up
 pub record IsRounded (digits : List ℕ) (unit : ℕ) (m : ℕ) : Type 0 where
   pub low : (2 * m - 1) * 10 ^ length digits ≤ 2 * digits_value digits * unit
   pub high : 2 * digits_value digits * unit < (2 * m + 1) * 10 ^ length digits
 
--- the one number that is the fraction cut (`law_one_fraction`)
+-- the one number that is the truncated fraction (`law_one_fraction`)
 abbrev pub floor_of : List ℕ → ℕ → ℕ
 floor_of digits unit = digits_value digits * unit / 10 ^ length digits
 
--- the one number that is the fraction rounded (`law_one_fraction`)
+-- the one number that is the rounded fraction (`law_one_fraction`)
 abbrev pub round_of : List ℕ → ℕ → ℕ
 round_of digits unit = (2 * digits_value digits * unit + 10 ^ length digits) / (2 * 10 ^ length digits)
 
 -- ---- The kind of an ISO 8601 text: with separators, or without
 
--- the kinds before a text
+-- tests of the kind before a text
 abbrev pub any : ExtendedKind → Bool
 any kind = true
 
@@ -110,7 +111,7 @@ is_extended Basic = false
 is_extended Extended = true
 is_extended Unknown = false
 
--- the kind after a text
+-- the kind after a text, from the kind before it
 abbrev pub as_before : ExtendedKind → ExtendedKind
 as_before kind = kind
 
@@ -130,7 +131,7 @@ extended_where_unknown Basic = Basic
 extended_where_unknown Extended = Extended
 extended_where_unknown Unknown = Extended
 
--- What stands in a text of the table. A whole hour or minute has no fraction, and a second has one or none.
+-- The places of a text of the table. A whole hour or minute has no fraction, and the fraction of a second is optional.
 pub data Place : Type 0 where
   whole_hour : Place
   hour_and_fraction : Place
@@ -139,14 +140,14 @@ pub data Place : Type 0 where
   any_second : Place
   colon : Place
 
--- what follows a text
+-- tests of the bytes after a text
 abbrev pub no_number : List ℕ → Bool
 no_number bytes = is_none (number bytes)
 
 abbrev pub no_colon_no_number : List ℕ → Bool
 no_colon_no_number bytes = no_colon bytes && no_number bytes
 
--- The texts of a time. At most one of them fits (`law_one_time_row`).
+-- The texts of a time. At most one row matches (`law_one_time_row`).
 abbrev pub time_rows : List (Row Place)
 time_rows =
     row (hour_and_fraction ∷ []) any anything as_before
@@ -161,11 +162,11 @@ time_rows =
     ∷ row (whole_hour ∷ colon ∷ whole_minute ∷ colon ∷ any_second ∷ []) not_basic anything extended
     ∷ []
 
--- parts that are not given are 0
+-- a missing part is 0
 abbrev pub nothing_given : TimeNumbers
 nothing_given = record { hour = 0; minute = 0; second = 0; subsecond = 0 }
 
--- so many nanoseconds after an hour, and after a minute
+-- the time that many nanoseconds after an hour, and after a minute
 abbrev pub past_hour : ℕ → TimeNumbers → TimeNumbers
 past_hour n t = record t {
   minute = n / 60_000_000_000;
@@ -176,7 +177,7 @@ past_hour n t = record t {
 abbrev pub past_minute : ℕ → TimeNumbers → TimeNumbers
 past_minute n t = record t { second = n / 1_000_000_000; subsecond = n % 1_000_000_000 }
 
--- what a number says at a place, with what those before it say; nothing where it doesn't belong there
+-- the time with the number of a place, or nothing if the place doesn't allow that number
 abbrev pub says : Place → Number → TimeNumbers → Option TimeNumbers
 says whole_hour (plain v) t = when (nat_le v 23) (record t { hour = v })
 says hour_and_fraction (fraction v d) t =
@@ -190,16 +191,16 @@ says any_second (fraction v d) t =
     (record t { second = v; subsecond = round_of d 1_000_000_000 })
 says _ _ t = None
 
--- the text of a place
+-- the match of a place: the rest, and the time with the number of the place
 abbrev pub stands : Stands Place TimeNumbers
 stands colon bytes t = option_map (λ rest. (rest, t)) (byte 58 bytes)
 stands place bytes t = option_and_then (λ f. option_map (λ u. (f.0, u)) (says place f.1 t)) (number bytes)
 
--- the texts of all rows that fit
+-- the results of all rows that match
 abbrev pub time_texts : ExtendedKind → List ℕ → List (Found TimeNumbers)
 time_texts = fitting stands nothing_given time_rows
 
--- the text of a time after its `T`
+-- the time at the front of the bytes, after its `T`
 unfoldable pub time_after : ExtendedKind → List ℕ → Option (Found TimeNumbers)
 time_after kind bytes = first_fitting stands nothing_given time_rows kind bytes
 
@@ -208,13 +209,13 @@ after_t needed kind bytes (Some rest) = time_after kind rest
 after_t true kind bytes None = None
 after_t false kind bytes None = time_after kind bytes
 
--- `T`, which may be needed, and the text of a time
+-- a time with its `T`, which is optional unless needed
 abbrev pub time_text : Bool → ExtendedKind → List ℕ → Option (Found TimeNumbers)
 time_text needed kind bytes = after_t needed kind bytes (byte 84 bytes)
 
 -- ---- A date of ISO 8601 and the time after it
 
--- the date with which the text begins and the time after it, whose `T` is needed; or the date's fault
+-- the date at the front of the text and the time after it, whose `T` is required; or the error of the date
 abbrev pub GivesDateAndTime : List ℕ → Result DateAndTime ParseFromDescription → Type 0
 GivesDateAndTime text (Err e) = GivesPartOrFault iso_date (date_text text) (Err e)
 GivesDateAndTime text (Ok p) =

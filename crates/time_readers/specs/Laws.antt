@@ -10,23 +10,23 @@ use Rattle.time_readers.specs.IsoOffsets.{offset_texts}
 use Rattle.time_readers.specs.IsoPieces as IsoPieces
 use Rattle.time_readers.specs.declared.iso8601.ExtendedKind.{ExtendedKind}
 
--- the bytes have one reading by the places or one first place that doesn't stand, and never both
+-- the places match the bytes in one way, or there is one first place that doesn't match, and never both
 pub record OneForm {P N : Type 0} (A : Format P N) (ps : List P) (start : N) (bytes : List ℕ) : Type 0 where
   pub one_reading : (x y : List ℕ) (n m : N)
       → Stand A ps start bytes x n → Stand A ps start bytes y m → (x ≡ y) × (n ≡ m)
   pub one_place : (p q : P) → StopsAt A ps start bytes p → StopsAt A ps start bytes q → p ≡ q
   pub never_both : (x : List ℕ) (n : N) (p : P) → Stand A ps start bytes x n → ¬ StopsAt A ps start bytes p
 
--- the reader takes a byte or more where it reads
+-- the reader consumes a byte or more whenever it succeeds
 abbrev pub Takes : Reader → Type 0
 Takes p = (s r : List ℕ) → p s ≡ Some r → (c : ℕ) × (text : List ℕ) × (s ≡ c ∷ (text ++ r))
 
--- the reader is repeated until it refuses
+-- the reader is repeated until it rejects
 pub record IsRepeated (p : Reader) : Type 0 where
   pub again : (s r : List ℕ) → p s ≡ Some r → zero_or_more p s ≡ zero_or_more p r
   pub ends : (s : List ℕ) → p s ≡ None → zero_or_more p s ≡ Some s
 
--- each piece of ISO 8601 finds exactly the cut that spells what it says
+-- each piece of ISO 8601 finds exactly the prefix that spells its value
 pub record IsoPiecesAreCuts : Type 0 where
   pub digits : (n : ℕ) → IsCutOf (IsoPieces.digits n) (IsDigitRun n n)
   pub sign : IsCutOf IsoPieces.sign IsSign
@@ -37,25 +37,25 @@ pub record IsoPiecesAreCuts : Type 0 where
   pub up_to : (greatest n : ℕ) → IsCutOf (IsoPieces.up_to greatest n) (IsSaid n (IsoPieces.at_most greatest))
   pub number : IsCutOf IsoPieces.number IsNumber
 
--- at most one row of the table of times fits
+-- at most one row of the table of times matches
 abbrev pub OneTimeRow : Type 0
 OneTimeRow = (kind : ExtendedKind) (bytes : List ℕ) → length (time_texts kind bytes) ≤ 1
 
--- at most one row of the table of offsets fits
+-- at most one row of the table of offsets matches
 abbrev pub OneOffsetRow : Type 0
 OneOffsetRow = (kind : ExtendedKind) (bytes : List ℕ) → length (offset_texts kind bytes) ≤ 1
 
--- a fraction of a unit is a number, and that one alone
+-- a fraction of a unit is exactly one number
 pub record OneFraction : Type 0 where
   pub floor : (digits : List ℕ) (unit m : ℕ) → IsFloor digits unit m ↔ (m ≡ floor_of digits unit)
   pub rounded : (digits : List ℕ) (unit m : ℕ) → IsRounded digits unit m ↔ (m ≡ round_of digits unit)
 
--- a text with ranges is one without, whose numbers lie in them
+-- a text matches with range checks exactly if it matches without them and its numbers are in range
 abbrev pub RangedForms : {N : Type 0} → Form N → Form N → (N → Type 0) → Type 0
 RangedForms {N} check_ranges formed InRanges =
     (bytes rest : List ℕ) (n : N) → check_ranges bytes rest n ↔ (formed bytes rest n × InRanges n)
 
--- a direct path has one answer to a text: one moment or one refusal, and never both
+-- a direct path has one result for a text: one moment or one error, and never both
 pub record OneDirect (value : List ℕ → OffsetDateTime → Type 0) (refuses : List ℕ → Refusal → Type 0) : Type 0 where
   pub one_value : (bytes : List ℕ) (v w : OffsetDateTime) → value bytes v → value bytes w → v ≡ w
   pub one_refusal : (bytes : List ℕ) (e f : Refusal) → refuses bytes e → refuses bytes f → e ≡ f

@@ -1,6 +1,6 @@
 -- Blanks and comments between the parts of a mail date: RFC 2822, sections 3.2.1 to 3.2.3, 4.2 and 4.3.
--- By a rule of the RFC bytes may be cut in several ways. Here the first of a rule's choices that stands counts, and a
--- repetition is as long as it can be.
+-- A rule of the RFC may match bytes in several ways. Here the first alternative that matches counts, and repetitions
+-- are greedy.
 use Rattle.std.specs.Prelude.{ℕ, zero, suc, Bool, ◌||◌, ◌==◌, Some, None, if◌then◌else◌, is_some, List, [], ◌∷◌, ◌&&◌, not, ℤ, pos, neg_ℤ, codes, Option, option_map}
 use Rattle.std.specs.Int.{is_in_range}
 use Rattle.std.specs.Str.{str_to_ascii_lowercase, bytes_eq}
@@ -19,26 +19,26 @@ blanks = one_or_more (one_of is_blank)
 abbrev pub crlf : Reader
 crlf = one_of (λ c. c == 13) then one_of (λ c. c == 10)
 
--- CRLF 1*WSP, which folds a line: its end, and the blanks with which the next begins
+-- CRLF 1*WSP, which folds a line: its end, and the blanks at the start of the next
 unfoldable pub line_fold : Reader
 line_fold = crlf then blanks
 
--- no CRLF stands next
+-- no CRLF comes next
 unfoldable pub no_crlf : Reader
 no_crlf s = if is_some (crlf s) then None else Some s
 
 -- FWS (section 3.2.3): [*WSP CRLF] 1*WSP, which is blanks and one fold at most, or obs-FWS (section 4.2), which is
--- blanks and any number of folds. A fold needs its blanks: no CRLF follows that isn't one.
+-- blanks and any number of folds. A fold needs its blanks: no CRLF follows that isn't part of a fold.
 unfoldable pub fws : Reader
 fws = line_fold or blanks then zero_or_more line_fold then no_crlf
 
--- ctext (section 3.2.3): NO-WS-CTL of section 3.2.1, or what is printed, but for brackets and the backslash
+-- ctext (section 3.2.3): NO-WS-CTL of section 3.2.1, or a printable character except parentheses and the backslash
 abbrev pub is_text : ℕ → Bool
 is_text c =
     is_in_range 1 8 c || c == 11 || c == 12 || is_in_range 14 31 c || is_in_range 33 39 c || is_in_range 42 91 c
     || is_in_range 93 127 c
 
--- text (section 3.2.1): an ASCII character that is no NUL, CR or LF
+-- text (section 3.2.1): an ASCII character other than NUL, CR and LF
 abbrev pub is_quotable : ℕ → Bool
 is_quotable c = is_in_range 1 9 c || c == 11 || c == 12 || is_in_range 14 127 c
 
@@ -46,20 +46,20 @@ is_quotable c = is_in_range 1 9 c || c == 11 || c == 12 || is_in_range 14 127 c
 abbrev pub quoted_pair : Reader
 quoted_pair = char "\\" then one_of is_quotable
 
--- ccontent (section 3.2.3): ctext, a quoted-pair or a comment, where the comments inside are these
+-- ccontent (section 3.2.3): ctext, a quoted-pair or a comment, which the reader `inner` defines
 abbrev pub content : Reader → Reader
 content inner = one_of is_text or quoted_pair or inner
 
--- comment (section 3.2.3) after its `(`: ccontent with FWS around it or none, and `)`
+-- comment (section 3.2.3) after its `(`: ccontent with optional FWS around it, and `)`
 unfoldable pub comment_end : Reader → Reader
 comment_end inner = zero_or_more fws then zero_or_more (content inner then zero_or_more fws) then char ")"
 
--- comment (section 3.2.3), with comments in it at most so deep that it counts as one more. The RFC has no such bound.
+-- comment (section 3.2.3), nested at most n deep, counting the outermost. The RFC has no such bound.
 unfoldable pub comment : ℕ → Reader
 comment zero s = None
 comment (suc n) s = (char "(" then comment_end (comment n)) s
 
--- CFWS (section 3.2.3): FWS and comments, one or more, where comments stand in one another 31 deep at most
+-- CFWS (section 3.2.3): FWS and comments, one or more, with comments nested at most 31 deep
 unfoldable pub cfws : Reader
 cfws = one_or_more (fws or comment 31)
 
@@ -72,8 +72,8 @@ opt_cfws = optional cfws
 unfoldable pub opt_cfws_colon_opt_cfws : Reader
 opt_cfws_colon_opt_cfws = opt_cfws then char ":" then opt_cfws
 
--- ---- Zone names of mail dates: obs-zone of RFC 2822, section 4.3, which stands where section 3.3 has zone. Its
--- texts are read in any case, as in all of the RFC's grammar.
+-- ---- Zone names of mail dates: obs-zone of RFC 2822, section 4.3, which is an alternative to zone of section 3.3.
+-- They match in any case, as all of the RFC's grammar.
 
 -- The names of three letters with their hours from UTC: four zones of North America, each by standard and by daylight
 -- time, and Greenwich.
@@ -85,7 +85,7 @@ zone_hours =
     ∷ (codes "pst", neg_ℤ (pos 8)) ∷ (codes "pdt", neg_ℤ (pos 7))
     ∷ (codes "gmt", pos 0) ∷ []
 
--- the number beside the name, where it stands in the table
+-- the number beside the name in the table
 abbrev pub beside : List ℕ → List (List ℕ × ℤ) → Option ℤ
 beside name [] = None
 beside name (row ∷ rows) = if bytes_eq name row.0 then Some row.1 else beside name rows
@@ -94,12 +94,12 @@ beside name (row ∷ rows) = if bytes_eq name row.0 then Some row.1 else beside 
 unfoldable pub hours_of : List ℕ → Option ℤ
 hours_of name = beside (str_to_ascii_lowercase name) zone_hours
 
--- the names of one letter, which are those of military zones: each letter but `j`
+-- the names of one letter, which are those of military zones: each letter except `j`
 abbrev pub is_military : ℕ → Bool
 is_military c = is_ascii_lowercase c && not (c == 106)
 
--- A military zone. Such letters have been used with either sign, so by section 4.3 a name of them says no more than
--- -0000 does: the time in UTC.
+-- A military zone. Such letters have been used with either sign, so by section 4.3 they mean no more than -0000: the
+-- time in UTC.
 abbrev pub military_zone : List ℕ → Option (ℤ × List ℕ)
 military_zone [] = None
 military_zone (c ∷ rest) = if is_military (to_ascii_lowercase c) then Some (pos 0, rest) else None
@@ -108,8 +108,8 @@ military_zone (c ∷ rest) = if is_military (to_ascii_lowercase c) then Some (po
 abbrev pub short_zone : List ℕ → Option (ℤ × List ℕ)
 short_zone s = if bytes_eq (str_to_ascii_lowercase s) (codes "ut") then Some (pos 0, []) else military_zone s
 
--- obs-zone (section 4.3): the hours from UTC of the zone name with which the bytes begin, and the rest. The RFC lets a
--- name stand before any bytes. Here where three bytes or more are left the name is one of three letters.
+-- obs-zone (section 4.3): the hours from UTC of the zone name at the front of the bytes, and the rest. The RFC allows
+-- any bytes after a name. Here, if there are three bytes or more, the name must have three letters.
 unfoldable pub zone_literal : List ℕ → Option (ℤ × List ℕ)
 zone_literal (a ∷ b ∷ c ∷ rest) = option_map (λ hours. (hours, rest)) (hours_of (a ∷ b ∷ c ∷ []))
 zone_literal s = short_zone s

@@ -1,22 +1,22 @@
 -- No public contract rests on this file.
 --
--- What the readers of places answer.
+-- The results of parsing places.
 use Rattle.std.specs.Prelude.{◌≡◌, ℕ, List, Result, Ok, Err, Option, Some, None}
 use Rattle.std.specs.Borrow.{Bor}
 use Rattle.time_digits.specs.Digits.{Form, Cut, NoCut}
 use Rattle.time_readers.specs.Readers.{Format, Stand, StopsAt}
 
--- the answer of reading one place
+-- the result of parsing one place: its text matches, or the place is the error
 abbrev pub Steps : {P N : Type 0} → Format P N → P → N → List ℕ → Result (Bor (List ℕ)) P → N → Type 0
 Steps A p n bytes (Ok rest) m = Cut (A p n) bytes rest.now m
 Steps A p n bytes (Err e) m = (e ≡ p) × NoCut (A p n) bytes
 
--- the rest of a cut of the bytes, whose value is then v, or nothing where there is none
+-- the rest after a matching prefix of value v, or nothing if no prefix matches
 abbrev pub Reads : {V : Type 0} → Form V → List ℕ → Option (Bor (List ℕ)) → V → Type 0
 Reads S bytes None v = NoCut S bytes
 Reads S bytes (Some rest) v = Cut S bytes rest.now v
 
--- the answer of reading places one after another
+-- the result of parsing places one after another: the rest, or the first place that doesn't match
 abbrev pub Walks : {P N : Type 0} → Format P N → List P → N → List ℕ → Result (Bor (List ℕ)) P → N → Type 0
 Walks A ps n bytes (Ok rest) m = Stand A ps n bytes rest.now m
 Walks A ps n bytes (Err p) m = StopsAt A ps n bytes p

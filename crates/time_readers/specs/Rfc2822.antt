@@ -28,26 +28,26 @@ IsWeekdayPart text after (Some w) =
     × IsShortWeekday name (44 ∷ (more_blanks ++ after)) w
     × IsRead opt_cfws more_blanks after
 
--- the year that two digits say
+-- the year of two digits
 abbrev pub year_of_two : ℕ → ℕ
 year_of_two v = if nat_lt v 50 then 2000 + v else 1900 + v
 
--- four digits of 1900 or later, or two where four don't stand
+-- four digits of 1900 or later, or two if there aren't four
 abbrev pub IsYear : Bool → Form ℕ
 IsYear true text after v = IsDigitRun 4 4 text after v × (1900 ≤ v)
 IsYear false text after v =
     NoCut (IsDigitRun 4 4) (text ++ after) × ((w : ℕ) × IsDigitRun 2 2 text after w × (v ≡ year_of_two w))
 
--- what a reader takes, which has no value
+-- the text that a reader consumes, without a value
 abbrev pub IsSilent : Reader → Numbers → Form Numbers
 IsSilent reader n text after m = IsRead reader text after × (m ≡ n)
 
--- blanks after a year of four digits, also comments after one of two
+-- blanks after a year of four digits, also comments after a year of two
 abbrev pub year_blanks : Bool → Reader
 year_blanks true = fws
 year_blanks false = cfws
 
--- nothing where no colon stands, or a colon between blanks and two digits
+-- nothing if there is no colon, or a colon between blanks and two digits
 abbrev pub IsSecond : Bool → Form (Option ℕ)
 IsSecond check_ranges text after None = (text ≡ []) × (opt_cfws_colon_opt_cfws after ≡ None)
 IsSecond check_ranges text after (Some v) =
@@ -60,7 +60,7 @@ IsZone n text after m =
     (hours : ℤ) × (zone_literal (text ++ after) ≡ Some (hours, after))
     × (m ≡ record n { offset_sign = None; offset_hour = hours })
 
--- where no zone name stands, a sign and two digits
+-- a sign and two digits, if there is no zone name
 pub record IsSignedHour (check_ranges : Bool) (n : Numbers) (text after : List ℕ) (m : Numbers) : Type 0 where
   pub no_zone : zone_literal (text ++ after) ≡ None
   pub sign : Sign
@@ -77,8 +77,8 @@ IsOffsetMinute check_ranges (Some sign) n text after m =
     (v : ℕ) × IsTwoDigits check_ranges 0 59 text after v
     × (m ≡ record n { offset_minute = signed_by (is_negative sign) (pos v) })
 
--- What each place asks of its text, and what the text says: its form, and where ranges are asked its range. The year
--- says whether it has four digits, and the hour of the offset whether a sign stands: the next place depends on it.
+-- The text of each place and its value: its form, and its range if ranges are checked. The year stores whether it has
+-- four digits, and the hour of the offset whether it has a sign, since the next place depends on it.
 abbrev pub Asks : Bool → Format Place Numbers
 Asks check_ranges WeekdayName n text after m =
     (v : Option Weekday) × IsWeekdayPart text after v × (m ≡ record n { weekday = v })
@@ -103,7 +103,7 @@ Asks check_ranges OffsetHour n text after m = IsZone n text after m ⊎ IsSigned
 Asks check_ranges OffsetMinute n text after m = IsOffsetMinute check_ranges n.offset_sign n text after m
 Asks check_ranges EndBlanks n text after m = IsSilent opt_cfws n text after m
 
--- the numbers before any place is read
+-- the numbers before any place is parsed
 abbrev pub nothing_read : Numbers
 nothing_read = record {
   weekday = None;
@@ -143,15 +143,15 @@ offset_places = OffsetHour ∷ OffsetMinute ∷ EndBlanks ∷ []
 abbrev pub places : List Place
 places = day_places ++ (to_offset_places ++ offset_places)
 
--- the bytes are the texts of the fifteen places, which say the numbers, and then the rest
+-- the bytes are the texts of the fifteen places, with these numbers, and then the rest
 abbrev pub HasForm : Bool → List ℕ → List ℕ → Numbers → Type 0
 HasForm check_ranges bytes rest m = Stand (Asks check_ranges) places nothing_read bytes rest m
 
--- the first of the fifteen places that doesn't stand
+-- the first of the fifteen places that doesn't match
 abbrev pub FailsAt : Bool → List ℕ → Place → Type 0
 FailsAt check_ranges bytes p = StopsAt (Asks check_ranges) places nothing_read bytes p
 
--- the refusal of a place that doesn't stand: of a number or a name a component by its name, else a literal
+-- the error of a place that doesn't match: an invalid component for a number or a name, and else an invalid literal
 abbrev pub fault : Place → Refusal
 fault Day = component (codes "day")
 fault MonthName = component (codes "month")
@@ -163,8 +163,8 @@ fault OffsetHour = component (codes "offset hour")
 fault OffsetMinute = component (codes "offset minute")
 fault _ = literal
 
--- The ranges of the numbers, in the order in which a text asks them where ranges are asked: each with the form of its
--- place, before the next place. So of a text with two numbers out of range the first place is refused.
+-- The ranges of the numbers, in the order in which they are checked: each with the form of its place, before the next
+-- place. So a text with two numbers out of range fails at the first of their places.
 pub record InRanges (n : Numbers) : Type 0 where
   pub day : (1 ≤ n.day) × (n.day ≤ 31)
   pub hour : (0 ≤ n.hour) × (n.hour ≤ 23)

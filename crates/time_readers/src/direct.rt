@@ -1,7 +1,7 @@
-//! The direct paths of RFC 3339 and RFC 2822: from a text to a moment, with no record between them.
+//! The direct paths of RFC 3339 and RFC 2822, which parse a text as a moment without a record in between.
 //!
-//! They ask each place for its form alone, and then the calendar, so that their refusals are not those of a
-//! parse over a record: `2021-13-01T00:00:00Z` is refused as a month out of range.
+//! They check the form of each place, and after that the calendar. So their errors differ from those of a parse over a
+//! record: `2021-13-01T00:00:00Z` is rejected as a month out of range.
 ghost use Rattle.std.specs.Prelude.{◌≡◌, ◌≢◌, ◌≤◌, [], MatchResult, IsTrue, ◌↔◌, Some, None, pos, unsigned_abs};
 ghost use Rattle.time_values.specs.Names.{month_number, month_refusal};
 ghost use Rattle.time_values.specs.Offsets.{HasOffset, offset_refusal};
@@ -16,9 +16,9 @@ use time_values::error::{ComponentRange, Parse, ParseFromDescription, TryFromPar
 use time_values::sign::signed;
 use time_values::{Date, Month, OffsetDateTime, Time, UtcOffset};
 
-/// What a text says of a moment.
+/// The numbers of a text, from which a direct path makes a moment.
 ///
-/// No parse answers it. It is public since the laws of parses say what both paths make of it.
+/// No parser returns it. It is public because the laws of parses state what both paths make of it.
 #[derive(Clone, Copy, Debug)]
 pub struct Said {
     /// The year, 0 to 9999.
@@ -31,7 +31,7 @@ pub struct Said {
     pub hour: u8,
     /// The minute.
     pub minute: u8,
-    /// The second, of which 60 is a leap second.
+    /// The second. 60 is a leap second.
     pub second: u8,
     /// The fraction of the second, in nanoseconds.
     pub nanosecond: u32,
@@ -43,14 +43,13 @@ pub struct Said {
 
 /// Parses a whole text of RFC 3339, section 5.6, as a moment.
 ///
-/// A missing fraction is 0. A leap second is read as the nanosecond before it.
+/// A missing fraction is 0. A leap second is parsed as the nanosecond before it.
 ///
 /// # Errors
 ///
-/// In this order: the first part that isn't there, as [`rfc3339::place_fault`] names it; `minutes`, where the
-/// minute of the offset is above 59; unexpected trailing characters; the first of `month`, `day` (conditional),
-/// `hour`, `minute` and `second` that is out of range; conditional `second`, where a leap second isn't the last
-/// second of a month in UTC.
+/// In this order: the first place that doesn't match, as [`rfc3339::place_fault`] names it; `minutes`, if the minute of
+/// the offset is above 59; unexpected trailing characters; the first of `month`, `day` (conditional), `hour`, `minute`
+/// and `second` that is out of range; conditional `second`, if a leap second isn't the last second of a month in UTC.
 pub fn rfc3339(input: &[u8]) -> Result<OffsetDateTime, Parse>
     ensures { DirectRfc3339 greatest_year input.now result }
 {
@@ -71,11 +70,13 @@ pub fn rfc3339(input: &[u8]) -> Result<OffsetDateTime, Parse>
 
 /// Parses a whole mail date of RFC 2822, section 3.3, as a moment.
 ///
-/// The first place that doesn't have its form is refused as it is by [`rfc2822::place_fault`]. Then bytes that
-/// remain are unexpected trailing characters. Then the first of `day` (conditional), `hour`, `minute`,
-/// `second`, `hours` and `minutes` is refused that is out of its range. A leap second is read as the nanosecond
-/// before it, and refused as conditional `second` unless it is in UTC the last of a month. A second that
-/// doesn't stand is 0.
+/// A missing second is 0. A leap second is parsed as the nanosecond before it.
+///
+/// # Errors
+///
+/// In this order: the first place that doesn't match, as [`rfc2822::place_fault`] names it; unexpected trailing
+/// characters; the first of `day` (conditional), `hour`, `minute`, `second`, `hours` and `minutes` that is out of
+/// range; conditional `second`, if a leap second isn't the last second of a month in UTC.
 pub fn rfc2822(input: &[u8]) -> Result<OffsetDateTime, Parse>
     ensures { DirectRfc2822 greatest_year input.now result }
 {
@@ -85,7 +86,7 @@ pub fn rfc2822(input: &[u8]) -> Result<OffsetDateTime, Parse>
     }
 }
 
-/// What the numbers of RFC 3339 say. A fraction that doesn't stand is 0.
+/// The moment's numbers from those of RFC 3339. A missing fraction is 0.
 #[inline(always)]
 pub fn said_rfc3339(numbers: rfc3339::Numbers) -> Said
     requires hour { numbers.offset_hour ≤ 23 }
@@ -105,7 +106,7 @@ pub fn said_rfc3339(numbers: rfc3339::Numbers) -> Said
     }
 }
 
-/// What the numbers of a mail date say. A second that doesn't stand is 0.
+/// The moment's numbers from those of a mail date. A missing second is 0.
 #[inline(always)]
 pub fn said_rfc2822(numbers: rfc2822::Numbers) -> Said
     ensures { result ≡ said_rfc2822 numbers }
@@ -123,7 +124,7 @@ pub fn said_rfc2822(numbers: rfc2822::Numbers) -> Said
     }
 }
 
-// The moment of a text after which nothing remains.
+// The moment of a text, or an error if bytes remain after it or its numbers make no moment.
 #[inline(always)]
 fn whole(rest: &[u8], said: Said) -> Result<OffsetDateTime, Parse>
     requires year { said.year ≤ greatest_year }
@@ -141,7 +142,7 @@ fn whole(rest: &[u8], said: Said) -> Result<OffsetDateTime, Parse>
     }
 }
 
-// The moment of the numbers.
+// The moment of the numbers, or an error if one is out of range or a leap second may not be there.
 #[inline(always)]
 fn moment(said: Said) -> Result<OffsetDateTime, ComponentRange>
     requires year { said.year ≤ greatest_year }
@@ -160,7 +161,7 @@ fn moment(said: Said) -> Result<OffsetDateTime, ComponentRange>
     })
 }
 
-// Whether a leap second is said only where one may stand.
+// Whether a second of 60, if the text has one, is the last second of a month in UTC.
 #[inline(always)]
 #[tactic(auto, unfolding(crate::specs::Direct::LeapSecondMayStand))]
 fn leap_second_may_stand(said: Said, moment: OffsetDateTime) -> bool
@@ -169,7 +170,7 @@ fn leap_second_may_stand(said: Said, moment: OffsetDateTime) -> bool
     said.second != 60 || moment.is_valid_leap_second_stand_in()
 }
 
-// The moment that a calendar and a clock show, wherever a leap second stands.
+// The moment of the numbers, with a second of 60 accepted in any minute.
 #[inline(always)]
 fn shown(said: Said) -> Result<OffsetDateTime, ComponentRange>
     requires year { said.year ≤ greatest_year }
@@ -196,7 +197,7 @@ fn date(said: Said) -> Result<Date, ComponentRange>
     Date::from_calendar_date(i32::from(said.year), month, said.day)
 }
 
-// The month of a number.
+// The month of that number.
 #[inline(always)]
 fn month(number: u8) -> Result<Month, ComponentRange>
     requires { number ≢ 0 }
@@ -208,7 +209,7 @@ fn month(number: u8) -> Result<Month, ComponentRange>
     }
 }
 
-// The time that a clock shows.
+// The time. A leap second becomes the nanosecond before it.
 #[inline(always)]
 fn clock(said: Said) -> Result<Time, ComponentRange>
     ensures { Constructs (time_refusal said.hour said.minute (shown_second said) (shown_nanosecond said))
@@ -222,7 +223,7 @@ fn clock(said: Said) -> Result<Time, ComponentRange>
     Time::from_hms_nano(said.hour, said.minute, second, nanosecond)
 }
 
-// The offset. That of UTC is a constant: a choice between two equal answers, and no second way of reading.
+// The offset. That of UTC is a constant: a choice between two equal results, and no second way of reading.
 #[inline(always)]
 fn offset(said: Said) -> Result<UtcOffset, ComponentRange>
     ensures { Constructs (offset_refusal said.offset_hour said.offset_minute (pos 0))

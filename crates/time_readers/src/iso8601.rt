@@ -1,10 +1,12 @@
 //! The texts of ISO 8601: their pieces, and the date, the time and the offset of a text.
 //!
-//! A text has separators, as `2021-01-02T03:04:05+06:07`, or none, as `20210102T030405+0607`:
-//! [`ExtendedKind`] says which of them it is, as far as that is known, and each part hands it to the next.
+//! A text is extended, with separators, as `2021-01-02T03:04:05+06:07`, or basic, without, as `20210102T030405+0607`.
+//! [`ExtendedKind`] is its kind, as far as that is known. Each part's parser takes the kind before it and returns the
+//! kind after it.
 //!
-//! `grammar` reads all of it, piece by piece. `fast` reads the commonest dates and times, many bytes in one step, and
-//! is asked first: what it doesn't answer `grammar` decides, so without it the same is read, in more steps.
+//! `grammar` parses any text, piece by piece. `fast` is tried first, and parses the commonest dates and times many
+//! bytes at once. Where it returns `None`, `grammar` decides: without `fast` the results are equal, and take more
+//! steps.
 ghost use Rattle.std.specs.Prelude.{◌≡◌, true, false, MatchOption};
 ghost use Rattle.time_readers.specs.IsoPieces.{GivesPart, GivesPartOrFault};
 ghost use Rattle.time_readers.specs.IsoDates.{iso_date, date_text};
@@ -22,16 +24,16 @@ use time_values::{Month, Weekday};
 /// Whether a text has separators.
 #[derive(Clone, Copy, Debug, PartialEq, Eq)]
 pub enum ExtendedKind {
-    /// It has none.
+    /// It is basic, without separators.
     Basic,
-    /// It has separators.
+    /// It is extended, with separators.
     Extended,
-    /// It is not known yet.
+    /// The kind isn't known yet.
     Unknown,
 }
 
 impl ExtendedKind {
-    /// Whether the kind may be the extended one: it is not the basic one.
+    /// Whether the kind may be extended: it isn't basic.
     #[inline]
     pub fn maybe_extended(self) -> bool
         ensures { result ≡ not_basic self }
@@ -39,7 +41,7 @@ impl ExtendedKind {
         matches!(self, ExtendedKind::Extended | ExtendedKind::Unknown)
     }
 
-    /// Whether the kind is the extended one.
+    /// Whether the kind is extended.
     #[inline]
     pub fn is_extended(self) -> bool
         ensures { result ≡ is_extended self }
@@ -47,7 +49,7 @@ impl ExtendedKind {
         matches!(self, ExtendedKind::Extended)
     }
 
-    /// Makes an unknown kind the basic one, and answers `Some` exactly where the kind is then that one.
+    /// Makes an unknown kind basic, and returns `Some` exactly if the kind is then basic.
     #[inline]
     pub fn coerce_basic(&mut self) -> Option<()>
         ensures kind { self.new ≡ basic_where_unknown self.old }
@@ -65,7 +67,7 @@ impl ExtendedKind {
         }
     }
 
-    /// Makes an unknown kind the extended one, and answers `Some` exactly where the kind is then that one.
+    /// Makes an unknown kind extended, and returns `Some` exactly if the kind is then extended.
     #[inline]
     pub fn coerce_extended(&mut self) -> Option<()>
         ensures kind { self.new ≡ extended_where_unknown self.old }
@@ -84,30 +86,31 @@ impl ExtendedKind {
     }
 }
 
-/// A part of a text: the unread rest, what the part says, and the kind after it.
+/// A parsed part of a text: the unparsed rest, the value, and the kind after the part.
 #[derive(Clone, Copy, Debug)]
 pub struct Part<'a, V> {
-    /// The unread rest.
+    /// The unparsed rest.
     pub rest: &'a [u8],
-    /// What the part says.
+    /// The value of the part.
     pub value: V,
     /// The kind after the part.
     pub kind: ExtendedKind,
 }
 
-/// What a date says. The values are as they stand in the text, within the ranges that two or three digits
-/// have there.
+/// The numbers of a date.
+///
+/// They are those of the text: a week or a day may be any number of its two or three digits, except 0.
 #[derive(Clone, Copy, Debug)]
 pub enum DateNumbers {
     /// A year, a month and a day.
     Calendar(i32, Month, NonZero<u8>),
-    /// A year and a day of it.
+    /// A year and a day of the year.
     Ordinal(i32, NonZero<u16>),
-    /// An ISO year, a week of it and a weekday.
+    /// An ISO year, a week of that year and a weekday.
     Week(i32, NonZero<u8>, Weekday),
 }
 
-/// What a time says. What isn't given in the text is 0.
+/// The numbers of a time. A number that the text doesn't have is 0.
 #[derive(Clone, Copy, Debug)]
 pub struct TimeNumbers {
     /// The hour, 0 to 23.
@@ -120,32 +123,35 @@ pub struct TimeNumbers {
     pub subsecond: u32,
 }
 
-/// The date of a text, and the time after it.
+/// The date of a text, and the time after it if there is one.
 #[derive(Clone, Copy, Debug)]
 pub struct DateAndTime<'a> {
-    /// The date, and all that follows it.
+    /// The date, with all bytes after it as the rest.
     pub date: Part<'a, DateNumbers>,
-    /// The time that follows the date, if one does.
+    /// The time after the date, if there is one.
     pub time: Option<Part<'a, TimeNumbers>>,
 }
 
-/// What an offset says.
+/// The numbers of an offset.
 #[derive(Clone, Copy, Debug)]
 pub enum OffsetNumbers {
     /// `Z`, for UTC.
     Zulu,
-    /// The hour, up to 25, and the minute, up to 59, both with the sign. The minute is 0 where none stands.
+    /// The hour, up to 25, and the minute, up to 59, both with the sign. A missing minute is 0.
     Numeric(i8, i8),
 }
 
-/// Reads the date of a text, which makes its kind known, or answers its fault.
+/// Parses the date of a text, which determines the kind of the text.
 ///
-/// A year stands first, four digits or a sign and six. Then `-` says that the text is extended, and else it is
-/// basic. Then a month and a day stand, with `-` between them in an extended text; or three digits of a day of
-/// the year; or `W`, two digits of a week and one of a weekday, again with `-` between them. The first of these
-/// forms that stands counts. Where none does the fault is that of the third where a `W` stands, and else that
-/// of the first: an invalid component `year`, `month`, `day`, `week` or `weekday`, or an invalid literal where
-/// `-` is missing.
+/// A date begins with a year: four digits, or a sign and six digits. If `-` follows the year, the text is extended, and
+/// else it is basic. After that the first of these forms that matches is parsed: a month and a day, with `-` between
+/// them in an extended text; three digits of a day of the year; or `W`, two digits of a week and one of a weekday, with
+/// `-` between them in an extended text.
+///
+/// # Errors
+///
+/// An invalid component `year`, `month`, `day`, `week` or `weekday`, or an invalid literal if `-` is missing. If no
+/// form matches after the year, it is the error of the third form if there is a `W`, and else of the first.
 #[inline(always)]
 pub fn date(input: &[u8]) -> Result<Part<'_, DateNumbers>, ParseFromDescription>
     ensures { GivesPartOrFault iso_date (date_text input.now) result }
@@ -156,13 +162,15 @@ pub fn date(input: &[u8]) -> Result<Part<'_, DateNumbers>, ParseFromDescription>
     }
 }
 
-/// Reads the time of a text of that kind: `T`, which may be omitted where it isn't needed, and then an hour,
-/// a minute and a second of two digits each, or fewer of them.
+/// Parses the time of a text of that kind.
 ///
-/// The last of them may have a fraction, `.` or `,` and one or more digits: of an hour or a minute it gives the
-/// parts below, cut to whole nanoseconds, and of a second the nanoseconds, rounded half up. Between the parts
-/// `:` stands in an extended text, and not in a basic one; a text of unknown kind becomes of the kind that is
-/// seen. It refuses by `None`, also a number out of its range, and a fraction of a second that rounds to 1.
+/// A time is `T`, which is optional unless `needs_t`, and an hour, a minute and a second of two digits each. The second
+/// is optional, and without it also the minute. The last of these numbers may have a fraction: `.` or `,` and one or
+/// more digits. A fraction of an hour or a minute gives the smaller units, truncated to whole nanoseconds. A fraction
+/// of a second gives the nanoseconds, rounded half up. An extended text has `:` between the numbers, and a basic one
+/// doesn't; an unknown kind becomes the kind that the text shows.
+///
+/// Returns `None` for any other text, for a number out of its range, and for a fraction of a second that rounds to 1.
 #[inline(always)]
 pub fn time<'a>(input: &'a [u8], kind: ExtendedKind, needs_t: bool) -> Option<Part<'a, TimeNumbers>>
     ensures { GivesPart (time_text needs_t kind input.now) result }
@@ -173,15 +181,16 @@ pub fn time<'a>(input: &'a [u8], kind: ExtendedKind, needs_t: bool) -> Option<Pa
     }
 }
 
-/// Reads the date of a text, and after it `T` and a time, where these stand there.
+/// Parses the date of a text, and then `T` and a time if they follow.
 ///
-/// It answers what [`date`] answers, its fault too, and what [`time`] answers of the rest that the date leaves,
-/// where its `T` is needed.
+/// The date, or its error, is that of [`date`]. The time is that of [`time`] for the rest after the date, with its `T`
+/// required.
 #[inline(always)]
 pub fn date_and_time(input: &[u8]) -> Result<DateAndTime<'_>, ParseFromDescription>
     ensures { GivesDateAndTime input.now result }
 {
-    // Two answers that are made apart: where both meet before they are used a moment takes some fifty instructions more.
+    // The two fast results are returned separately: joined before their use, they would cost a moment some fifty
+    // instructions more.
     if let Some(found) = fast::extended_date_and_time(input) {
         return Ok(found);
     }

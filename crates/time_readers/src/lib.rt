@@ -1,7 +1,7 @@
-//! Readers of the well-known formats of date-time texts, and of the parts that they share with descriptions.
+//! Parsers of the well-known date-time formats, and of the parts that they share with format descriptions.
 //!
-//! The readers of components and the types of description are those of `time_components`, the readers of digits those
-//! of `time_digits`.
+//! The parsers of components and the types of format descriptions are reexported from `time_components`, the parsers of
+//! digits from `time_digits`.
 #![tactic(auto)]
 
 pub mod block;

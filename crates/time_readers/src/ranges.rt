@@ -1,4 +1,4 @@
-//! Numbers of places, whose range is asked or not, and years of four digits.
+//! Numbers of places, with or without range checks, and years of four digits.
 ghost use Rattle.std.specs.Prelude.{IsTrue, ◌↔◌};
 ghost use Rattle.time_digits.specs.Digits.{Finds, IsDigitRun};
 ghost use Rattle.time_readers.specs.Readers.{IsTwoDigits, IsWithin};
@@ -6,7 +6,7 @@ ghost use Rattle.time_readers.specs.Readers.{IsTwoDigits, IsWithin};
 use crate::ParsedItem;
 use crate::combinator::{exactly_n_digits, two_digits};
 
-// Whether the number lies in the range, where that is asked.
+// Whether the number is in the range. Always true without `CHECK_RANGES`.
 #[inline(always)]
 pub(crate) fn is_in_range<const CHECK_RANGES: bool>(value: u8, least: u8, most: u8) -> bool
     ensures { IsTrue result ↔ IsWithin CHECK_RANGES least most value }
@@ -14,7 +14,7 @@ pub(crate) fn is_in_range<const CHECK_RANGES: bool>(value: u8, least: u8, most: 
     !CHECK_RANGES || (least <= value && value <= most)
 }
 
-// Two digits, whose number lies in the range where that is asked.
+// Parses two digits, whose number must be in the range if `CHECK_RANGES`.
 #[inline(always)]
 pub(crate) fn two_digits_in<const CHECK_RANGES: bool>(
     input: &[u8],
@@ -31,7 +31,7 @@ pub(crate) fn two_digits_in<const CHECK_RANGES: bool>(
     }
 }
 
-// Four digits.
+// Parses four digits.
 #[inline(always)]
 pub(crate) fn four_digits(input: &[u8]) -> Option<ParsedItem<'_, u16>>
     ensures { Finds (IsDigitRun 4 4) (λ v. v) input.now result }

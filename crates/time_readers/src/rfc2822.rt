@@ -1,8 +1,8 @@
 //! The mail dates of RFC 2822: blanks, comments and zone names, and the date and time by fifteen places.
 //!
-//! `grammar` reads the places, one after another, with the blanks, the comments and the zone names. `fast` reads the
-//! commonest parts at once and is asked first: what it doesn't answer `grammar` decides, so without it the same is
-//! read, in more steps.
+//! `grammar` parses one place after another, with the blanks, the comments and the zone names. `fast` is tried first,
+//! and parses the commonest parts many bytes at once. Where it returns `None`, `grammar` decides: without `fast` the
+//! results are equal, and take more steps.
 ghost use Rattle.std.specs.Prelude.{◌≡◌, MatchResult, false, option_map};
 ghost use Rattle.time_values.specs.Refusal.{refusal_of_description};
 ghost use Rattle.time_readers.specs.MailBlanks as spec;
@@ -54,10 +54,10 @@ pub enum Place {
     EndBlanks,
 }
 
-/// What the places of a text say.
+/// The numbers of the places of a text.
 #[derive(Clone, Copy, Debug)]
 pub struct Numbers {
-    /// The weekday, where one stands.
+    /// The weekday, if the text has one.
     pub weekday: Option<Weekday>,
     /// The day of the month.
     pub day: u8,
@@ -71,9 +71,9 @@ pub struct Numbers {
     pub hour: u8,
     /// The minute.
     pub minute: u8,
-    /// The second, where one stands. 60 is a leap second.
+    /// The second, if the text has one. 60 is a leap second.
     pub second: Option<u8>,
-    /// The sign of the offset, where it isn't a zone name.
+    /// The sign of the offset, or `None` for a zone name.
     pub offset_sign: Option<Sign>,
     /// The hour of the offset.
     pub offset_hour: i8,
@@ -82,7 +82,7 @@ pub struct Numbers {
 }
 
 impl Numbers {
-    /// What is said before any place is read.
+    /// The numbers before any place is parsed.
     pub const NONE: Numbers = Numbers {
         weekday: None,
         day: 0,
@@ -98,11 +98,14 @@ impl Numbers {
     };
 }
 
-/// Reads the fifteen places of a mail date: answers what they say with the unread rest, or the first
-/// place that doesn't stand.
+/// Parses the fifteen places of a mail date of RFC 2822, section 3.3, as their numbers and the unparsed rest.
 ///
-/// Each place has to have its form. With `CHECK_RANGES` the numbers also have to lie in the ranges day 1 to 31,
-/// hour 0 to 23, minute 0 to 59, second 0 to 60, hour of the offset -25 to 25, minute of the offset 0 to 59.
+/// Each place must have its form. With `CHECK_RANGES` each number must also be in its range: day 1 to 31, hour 0 to 23,
+/// minute 0 to 59, second 0 to 60, hour of the offset -25 to 25, minute of the offset 0 to 59.
+///
+/// # Errors
+///
+/// The first place that doesn't match.
 pub fn read<const CHECK_RANGES: bool>(input: &[u8]) -> Result<ParsedItem<'_, Numbers>, Place>
     ensures { MatchResult result
         (λ p. HasForm CHECK_RANGES input.now p.0.now p.1)
@@ -115,7 +118,7 @@ pub fn read<const CHECK_RANGES: bool>(input: &[u8]) -> Result<ParsedItem<'_, Num
     Ok(ParsedItem(rest, numbers))
 }
 
-// The places up to the day.
+// Parses the places up to the day.
 #[inline(always)]
 fn to_day<'a, const CHECK_RANGES: bool>(
     input: &'a [u8],
@@ -127,7 +130,7 @@ fn to_day<'a, const CHECK_RANGES: bool>(
     grammar::day::<CHECK_RANGES>(rest, numbers).ok_or(Place::Day)
 }
 
-// Blanks, and then nothing or a weekday's name, a comma and blanks.
+// Parses blanks, and then nothing or a weekday's name, a comma and blanks.
 #[inline(always)]
 fn weekday_name<'a>(input: &'a [u8], numbers: &mut Numbers) -> Option<&'a [u8]>
     ensures { Reads (Asks false place.WeekdayName numbers.old) input.now result numbers.new }
@@ -138,7 +141,7 @@ fn weekday_name<'a>(input: &'a [u8], numbers: &mut Numbers) -> Option<&'a [u8]>
     }
 }
 
-// The places from after the day to the offset.
+// Parses the places after the day, up to the offset.
 #[inline(always)]
 fn to_offset<'a, const CHECK_RANGES: bool>(
     input: &'a [u8],
@@ -152,8 +155,8 @@ fn to_offset<'a, const CHECK_RANGES: bool>(
     }
 }
 
-// The same by the grammar. With ranges to test it is called, since in place it would leave the short cut fewer
-// registers: a mail date over a record then takes 17 instructions more. Without them it takes 15 fewer in place.
+// Parses the places after the day by `grammar`. With range checks it is a call, since inlined it would leave the fast
+// path fewer registers: a mail date over a record would take 17 instructions more. Without them, inlining saves 15.
 #[inline(always)]
 fn to_offset_by_places<'a, const CHECK_RANGES: bool>(
     input: &'a [u8],
@@ -168,7 +171,7 @@ fn to_offset_by_places<'a, const CHECK_RANGES: bool>(
     }
 }
 
-// The same, not in place.
+// Parses the places after the day by `grammar`, not inlined.
 #[inline(never)]
 fn to_offset_apart<'a, const CHECK_RANGES: bool>(
     input: &'a [u8],
@@ -179,7 +182,7 @@ fn to_offset_apart<'a, const CHECK_RANGES: bool>(
     grammar::to_offset::<CHECK_RANGES>(input, numbers)
 }
 
-// The places of the offset.
+// Parses the places of the offset.
 #[inline(always)]
 fn offset<'a, const CHECK_RANGES: bool>(
     input: &'a [u8],
@@ -193,8 +196,9 @@ fn offset<'a, const CHECK_RANGES: bool>(
     }
 }
 
-/// The refusal of a text whose first place that doesn't stand is this one: an invalid component of the
-/// place's name where a number or a name should stand, else an invalid literal.
+/// The error of a text whose first place that doesn't match is this one.
+///
+/// It is an invalid component with the place's name if the place is a number or a name, and else an invalid literal.
 #[cold]
 #[inline(never)]
 pub fn place_fault(place: Place) -> ParseFromDescription
@@ -220,12 +224,11 @@ pub fn place_fault(place: Place) -> ParseFromDescription
     ParseFromDescription::InvalidComponent(name)
 }
 
-/// Reads blanks, folded over lines or not: `FWS` of RFC 2822, section 3.2.3, and answers what is left
-/// after them. A blank is a space or a tab.
+/// Parses blanks, folded over lines or not: `FWS` of RFC 2822, section 3.2.3.
 ///
-/// These are CR LF and one or more blanks; or one or more blanks, and then any number of times CR LF and one
-/// or more blanks. It refuses where neither stands first, and where, in the second form, no blank follows a
-/// CR LF. A CR or LF alone is no blank.
+/// A blank is a space or a tab. The input must begin with CR LF and one or more blanks; or with one or more blanks, and
+/// then any number of folds, each CR LF and one or more blanks. Returns the rest, or `None` if the input begins with
+/// neither form, or if no blank follows a CR LF in the second form. A CR or LF alone isn't a blank.
 #[inline(always)]
 pub fn fws(input: &[u8]) -> Option<ParsedItem<'_, ()>>
     ensures { option_map (λ p. p.0.now) result ≡ spec.fws input.now }
@@ -236,13 +239,12 @@ pub fn fws(input: &[u8]) -> Option<ParsedItem<'_, ()>>
     }
 }
 
-/// Reads blanks and comments, one or more of them: `CFWS` of RFC 2822, section 3.2.3, and answers what is
-/// left after the last.
+/// Parses blanks and comments, one or more of them: `CFWS` of RFC 2822, section 3.2.3.
 ///
-/// A comment stands in round brackets: text of ASCII characters, bytes after a backslash, blanks by [`fws`],
-/// and comments again, 31 in one another at most. The byte after a backslash is no NUL, CR, LF or byte above
-/// 127. A comment that isn't of this form isn't read. It refuses where neither blanks nor a comment stand
-/// first.
+/// A comment is in parentheses, and contains ASCII text, bytes after a backslash, blanks by [`fws`], and comments,
+/// nested 31 deep at most, counting the outermost. The byte after a backslash isn't NUL, CR, LF or above 127. A comment
+/// of another form isn't parsed. Returns the rest after the last blank or comment, or `None` if the input begins with
+/// neither.
 #[inline(always)]
 pub fn cfws(input: &[u8]) -> Option<ParsedItem<'_, ()>>
     ensures { option_map (λ p. p.0.now) result ≡ spec.cfws input.now }
@@ -253,8 +255,9 @@ pub fn cfws(input: &[u8]) -> Option<ParsedItem<'_, ()>>
     }
 }
 
-/// Reads blanks and comments where [`cfws`] does, and else nothing: `[CFWS]` of RFC 2822, section 3.2.3.
-/// Answers what is left, and never refuses.
+/// Parses blanks and comments if [`cfws`] does, and else nothing: `[CFWS]` of RFC 2822, section 3.2.3.
+///
+/// Returns the rest, and never fails.
 #[inline(always)]
 pub fn opt_cfws(input: &[u8]) -> ParsedItem<'_, ()>
     ensures { Some result.0.now ≡ spec.opt_cfws input.now }
@@ -265,8 +268,9 @@ pub fn opt_cfws(input: &[u8]) -> ParsedItem<'_, ()>
     }
 }
 
-/// Reads a colon, with the blanks and comments before and after it by [`opt_cfws`], as it stands in the
-/// time of RFC 2822, sections 3.3 and 4.3. Answers what is left after them, and refuses where no colon stands.
+/// Parses a colon, with the blanks and comments before and after it by [`opt_cfws`].
+///
+/// It separates the parts of a time of RFC 2822, sections 3.3 and 4.3. Returns the rest, or `None` without a colon.
 #[inline(always)]
 pub fn opt_cfws_colon_opt_cfws(input: &[u8]) -> Option<ParsedItem<'_, ()>>
     ensures { option_map (λ p. p.0.now) result ≡ spec.opt_cfws_colon_opt_cfws input.now }
@@ -277,12 +281,11 @@ pub fn opt_cfws_colon_opt_cfws(input: &[u8]) -> Option<ParsedItem<'_, ()>>
     }
 }
 
-/// Reads a zone name of RFC 2822, section 4.3, in any case, and answers its hours from UTC with what is left
-/// after it.
+/// Parses a zone name of RFC 2822, section 4.3, in any case, as its hours from UTC.
 ///
-/// Where three or more bytes are left, the first three have to be `EST`, `EDT`, `CST`, `CDT`, `MST`, `MDT`,
-/// `PST`, `PDT` or `GMT`. Where fewer are left, they have to be `UT` or to begin with one letter but `J`, of
-/// which the hours are 0. It refuses all else.
+/// An input of three or more bytes must begin with `EST`, `EDT`, `CST`, `CDT`, `MST`, `MDT`, `PST`, `PDT` or `GMT`. A
+/// shorter one must be `UT`, or begin with a letter other than `J`: both are 0 hours from UTC. Returns `None` for any
+/// other input.
 #[inline(always)]
 pub fn zone_literal(input: &[u8]) -> Option<ParsedItem<'_, i8>>
     ensures { option_map (λ p. (p.1, p.0.now)) result ≡ zone_literal input.now }

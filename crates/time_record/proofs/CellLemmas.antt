@@ -1,4 +1,4 @@
--- The mask and the cells of a record: what is set in them is put into the record, and what is read is in it.
+-- The mask and the cells of a record: a value set in them is stored in the record, and a value read from them is the record's.
 use Rattle.std.proofs.Common.{◌≡◌, ℕ, zero, suc, ◌+◌, ◌-◌, ◌*◌, ◌%◌, ◌^◌, ◌<◌, ◌≤◌, ◌≢◌, ⊎_elim, ℤ, pos, unsigned_abs, Bool, true, false, ◌&&◌, cond, Option, Some, None, List, length, get_or, set, eqb, ltb, refl, sym, ap, ◌∙◌, arith, subst, bit_or, bit_and}
 use Rattle.std.specs.Int.{bit_at, bit_not, w32}
 use Rattle.std.specs.Option.{option_map}
@@ -120,7 +120,7 @@ module _ (bytes shorts words : List ℤ) (stamp : ℤ) where
       ap (λ x. cond (ltb i 16) (get_or bytes i (pos 0)) (cond (ltb i 19) (get_or shorts (i - 16) (pos 0)) (word x)))
       (ap (λ b. cond b v (pos 0)) (ne_eqb i 22 apart) ∙ sym (ap (λ b. cond b stamp (pos 0)) (ne_eqb i 22 apart))))
 
--- ---- the cells stay sound
+-- ---- the invariant of the cells
 
 kept_at : (Y i : ℕ) (at there : Bool) (v w : ℤ) → (at ≡ true → InCell Y i v) → IsCell Y i there w →
     IsCell Y i (cond at true there) (cond at v w)
@@ -149,7 +149,7 @@ sound_after Y mask mask' bytes shorts words bytes' shorts' words' stamp stamp' k
   cells = cells_after Y (bit mask) (bit mask') (value_at bytes shorts words stamp) (value_at bytes' shorts' words' stamp') k v bits values put sound.cells;
 }
 
--- after a flag
+-- after a write to a flag
 pub sound_flag : (Y mask mask' : ℕ) (bytes shorts words : List ℤ) (stamp : ℤ) (k : ℕ) (on : Bool) →
     IsSound Y mask bytes shorts words stamp → mask' < 2 ^ 27 → 23 ≤ k → ((i : ℕ) → bit mask' i ≡ changed (bit mask) k on i) →
     IsSound Y mask' bytes shorts words stamp
@@ -163,7 +163,7 @@ sound_flag Y mask mask' bytes shorts words stamp k on sound fits past bits = rec
       subst (λ b. IsCell Y i b (value_at bytes shorts words stamp i)) (sym same) (sound.cells i h);
 }
 
--- ---- the record after a put
+-- ---- the record after a write to a cell
 
 typed : {T : Type 0} (f : ℤ → T) (at there : Bool) (v w : ℤ) →
     option_map f (cond (cond at true there) (Some (cond at v w)) None) ≡ cond at (Some (f v)) (option_map f (cond there (Some w) None))
@@ -213,7 +213,7 @@ pub put_is : (b b' : ℕ → Bool) (w w' : ℕ → ℤ) (k : ℕ) (v : ℤ) → 
 put_is b b' w w' k v h bits values =
     (λ j. build (option_at (λ i. bits i j) (λ i. values i j)) (λ i. bits i j)) ∙ put_changed b w k v h
 
--- ---- the record after a flag
+-- ---- the record after a write to a flag
 
 flag_changed : (b : ℕ → Bool) (w : ℕ → ℤ) (k : ℕ) (on : Bool) → 23 ≤ k →
     build (option_at (changed b k on) w) (changed b k on) ≡ put_flag k on (build (option_at b w) b)
@@ -253,7 +253,7 @@ pub flag_is : (b b' : ℕ → Bool) (w : ℕ → ℤ) (k : ℕ) (on : Bool) → 
     build (option_at b' w) b' ≡ put_flag k on (build (option_at b w) b)
 flag_is b b' w k on past bits = (λ j. build (option_at (λ i. bits i j) w) (λ i. bits i j)) ∙ flag_changed b w k on past
 
--- ---- what is read
+-- ---- the values that are read
 
 reads_wide : (k : ℕ) (option : ℕ → Option ℤ) (b : ℕ → Bool) →
     ReadsWide k (build option b) (option (suc (suc (suc (suc (suc (suc (suc (suc (suc (suc (suc (suc (suc (suc (suc (suc k)))))))))))))))))
@@ -379,7 +379,7 @@ both_ways true q there back = sym (there refl)
 both_ways false true there back = back refl
 both_ways false false there back = refl
 
--- `mask & cells == cells` tells whether the mask has the bits of three cells
+-- `mask & cells == cells` if and only if the mask has the bits of three cells
 pub three_set : (mask cells a b c : ℕ) → ((i : ℕ) → bit cells i ≡ three a b c i) →
     eqb (bit_and mask cells) cells ≡ (bit mask a && (bit mask b && bit mask c))
 three_set mask cells a b c bits = both_ways (eqb (bit_and mask cells) cells) (bit mask a && (bit mask b && bit mask c))

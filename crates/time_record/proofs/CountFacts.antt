@@ -1,5 +1,5 @@
--- Worked values of counts and of whole characters, so that a wrong rule in the specs does not check. They follow from the
--- definitions, and no code lies between. `Y` is the greatest year.
+-- Worked values of counts and of whole characters, so that a wrong rule in the specs fails the check. They follow from the definitions, without any code. `Y`
+-- is the greatest year.
 use Rattle.std.proofs.Common.{◌≡◌, ℕ, List, [], ◌∷◌, true, false, codes, refl, sym, subst, inl, inr, arith}
 use Rattle.time_components.specs.Spelling.{nothing, BeginsCharacter}
 use Rattle.time_components.specs.Tree.{component, sequence, optional, trees}
@@ -41,7 +41,7 @@ module _ (Y : ℕ) (r : Record) where
       let second : BeginsFirst Y (trees (hour ∷ [])) (codes "12x") r 1 = (1, refl, inl (codes "x", twelve, hour_reads_two_digits Y r, refl)) in
       (4, (3, (2, first, refl), inr (no_clock_at_12x Y r, 1, second, refl)), refl)
 
-  -- a list begins no member after one without a reading
+  -- a list visits no item after one without a reading
   pub four_are_begun : Begins Y clock_or_hour (codes "1x") r 4
   unfolding Begins BeginsAll BeginsFirst Reads ReadsAll
   four_are_begun =
@@ -51,7 +51,7 @@ module _ (Y : ℕ) (r : Record) where
       let second : BeginsFirst Y (trees (hour ∷ [])) (codes "1x") r 1 = (1, refl, inr (unread, 0, refl, refl)) in
       (3, (2, (1, first, refl), inr (no_clock, 1, second, refl)), refl)
 
-  -- alternatives begin none after one that reads
+  -- alternatives visit no item after one that reads
   pub five_of_a_whole_clock : Begins Y clock_or_hour (codes "12:34") r 5
   unfolding Begins BeginsAll BeginsFirst Reads ReadsAll
   five_of_a_whole_clock =

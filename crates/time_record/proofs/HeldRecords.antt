@@ -1,4 +1,4 @@
--- What the fields of a `Parsed` hold is in ranges, and each record in ranges is held. `Y` is the greatest year.
+-- The fields of a `Parsed` represent a record in range, and such fields represent each record in range. `Y` is the greatest year.
 use Rattle.std.proofs.Common.{◌≡◌, ℕ, zero, suc, ◌+◌, ◌*◌, ◌/◌, ◌^◌, ◌<◌, ◌≤◌, ◌≤ℤ◌, ℤ, pos, negsuc, neg_ℤ, unsigned_abs, Bool, true, false, cond, Option, Some, None, is_some, IfSome, List, [], ◌∷◌, length, get_or, eqb, refl, sym, ap, ◌∙◌, subst, arith, pow-suc}
 use Rattle.std.specs.Prelude.{IsTrue, nat_le, ⊤}
 use Rattle.std.specs.Int.{bit_at}
@@ -21,9 +21,9 @@ use Rattle.time_record.specs.Laws.{HeldInRanges}
 use Rattle.time_record.specs.Inverse.{record_of, fields_of, AreSound}
 use Rattle.time_record.specs.declared.parsed.Parsed.TheInside.{Inside}
 
--- ---- what is held is in ranges
+-- ---- fields represent a record in range
 
--- x lies from low to high where its bit is set: `IsCell` of a cell
+-- x lies from low to high if its bit is set: `IsCell` of a cell
 abbrev Held : ℤ → ℤ → Bool → ℤ → Type 0
 Held low high true x = (low ≤ℤ x) × (x ≤ℤ high)
 Held low high false x = x ≡ pos 0
@@ -76,7 +76,7 @@ module _ (Y mask : ℕ) (bytes shorts words : List ℤ) (stamp : ℤ) (sound : I
     unix_timestamp_nanos = of_instant Y (bit mask 22) stamp (sound.cells 22 (omega arith));
   }
 
--- ---- what is in ranges is held
+-- ---- each record in range is represented
 
 -- the bits of the number of a list of bits are the list's
 bits_below : (bits : List Bool) → from_bits bits < 2 ^ length bits
@@ -101,7 +101,7 @@ bit_of_list (false ∷ bits) (suc i) =
     let half : (from_bits bits * 2 + 0) / 2 ≡ from_bits bits = omega arith in
     ap (λ d. eqb d 1) (bit_at-suc (from_bits bits * 2 + 0) i ∙ ap (λ n. bit_at n i) half) ∙ bit_of_list bits i
 
--- an option of a record is sound as a cell
+-- an option of a record satisfies the invariant of a cell
 cell_up_to : (high : ℕ) (o : Option ℕ) → IfSome o (λ v. IsTrue (nat_le v high)) → Held (pos 0) (pos high) (is_some o) (or_zero (option_map pos o))
 cell_up_to high None h = refl
 cell_up_to high (Some v) h = let below : v ≤ high = grind (arith, nat_tests) in (omega (arith, ints), omega (arith, ints))
@@ -242,7 +242,7 @@ module _ (Y : ℕ) (r : Record) (ranges : IsInRanges Y r) where
         (each_from 23 0 (λ i. IsCell Y i (holds r i) (value i)) held_cells i h));
   }
 
--- an option comes back from its cell
+-- converting an option to its cell and back returns it
 integer_held : (o : Option ℤ) (set : Bool) → set ≡ is_some o → cond set (Some (or_zero o)) None ≡ o
 integer_held None set e = ap (λ b. cond b (Some (pos 0)) None) e
 integer_held (Some v) set e = ap (λ b. cond b (Some v) None) e

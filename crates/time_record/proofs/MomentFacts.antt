@@ -1,5 +1,5 @@
--- Moments that records make, so that a wrong rule in the definitions doesn't check. What rests on the range of years is
--- shown for the years to 9999 and to 999999.
+-- Moments that records resolve to, so that a wrong rule in the definitions fails the check. Facts that depend on the range of years are proved for the years to
+-- 9999 and to 999999.
 use Rattle.std.proofs.Common.{◌≡◌, ℕ, true, false, IsTrue, Some, None, Result, Ok, Err, refl, sym, ap, subst, ◌∙◌, inr, inl, arith, codes, ℤ, pos, neg_ℤ}
 use Rattle.std.proofs.lemmas.Bool.Decides.{not_from_Decides}
 use Rattle.std.proofs.lemmas.Bool.{false≢true}
@@ -32,28 +32,28 @@ module _ (Y : ℕ) (r : Record) (d : Date) (t : Time) (o : UtcOffset) (dated : I
   at_offset at none = inr (d, dated, inr (t, timed, inr (o, at, ((refl, refl, refl), λ leap. absurd (false≢true (sym none ∙ leap))))))
 
   module _ (at : IsOffsetOrUtc r (Ok o)) where
-    -- in UTC, where a leap second ends a month
+    -- in UTC, for a leap second at the end of a month
     in_utc : (u : UtcDateTime) → clock_nanos Y u.date u.time ≡ instant Y d t o → IsDateWithin Y u.date
         → (IsTrue (is_leap_second r) → IsLeapSecondStandIn u.date u.time) → IsUtcMomentOfParts Y r (Ok u)
     unfolding IsUtcMomentOfParts
     in_utc u is within end = inr (d, dated, inr (t, timed, inr (o, at, inr (u, (is, within), ((refl, refl), end)))))
 
-    -- beyond the dates
+    -- outside the range of dates
     beyond : (IsInstant Y (instant Y d t o) → ⊥) → IsUtcMomentOfParts Y r (Err (range (codes "year") true))
     unfolding IsUtcMomentOfParts
     beyond none = inr (d, dated, inr (t, timed, inr (o, at, inl (range (codes "year") true, (none, refl), refl))))
 
-    -- and of a leap second that doesn't end a month
+    -- and for a leap second that isn't at the end of a month
     misplaced : (u : UtcDateTime) → clock_nanos Y u.date u.time ≡ instant Y d t o → IsDateWithin Y u.date → IsTrue (is_leap_second r)
         → (IsLeapSecondStandIn u.date u.time → ⊥) → IsUtcMomentOfParts Y r (Err (range (codes "second") true))
     unfolding IsUtcMomentOfParts
     misplaced u is within leap none = inr (d, dated, inr (t, timed, inr (o, at, inr (u, (is, within), (leap, none, refl)))))
 
--- an instant beyond a range
+-- an instant outside a range
 not_within : (Y : ℕ) (n m : ℤ) → n ≡ m → (IsInstant Y m → ⊥) → IsInstant Y n → ⊥
 not_within Y n m e none within = none (subst (IsInstant Y) e within)
 
--- results that differ in a year or an offset's hours are two
+-- results that differ in a year or an offset's hours are different
 abbrev year_of_result : Result UtcDateTime Refusal → ℤ
 year_of_result (Ok u) = u.date.year
 year_of_result (Err e) = pos 0
@@ -69,7 +69,7 @@ hours_of_result (Err e) = pos 0
 Ok≢Err : {V : Type 0} (v : V) (e : Refusal) → ◌≡◌ {A = Result V Refusal} (Ok v) (Err e) → ⊥
 Ok≢Err v e h = cc
 
--- ---- Where the range of years ends
+-- ---- The ends of the range of years
 
 abbrev last_of_9999 : Record
 last_of_9999 = record empty {
@@ -103,7 +103,7 @@ last_of_9999_stays = (
       ((row_decided 999_999 refl (by_ordinal (pos 9_999) 365) y9999-12-31).0 refl) (refl, refl, refl, refl) (refl, refl, refl) refl,
 )
 
--- and in UTC one of the wider range alone, on 10000-01-01
+-- and in UTC it is a moment of the wider range alone, on 10000-01-01
 pub last_of_9999_in_utc : IsUtcMoment 9_999 last_of_9999 (Err (range (codes "year") true))
     × IsUtcMoment 999_999 last_of_9999 (Ok (record { date = y10000-01-01; time = late }))
 unfolding IsUtcMoment IsDated IsTimed IsOffsetOrUtc
@@ -128,7 +128,7 @@ y-9999-01-01 = date (neg_ℤ (pos 9_999)) January 1 refl
 abbrev y-10000-12-31 : Date
 y-10000-12-31 = date (neg_ℤ (pos 10_000)) December 31 refl
 
--- an hour ahead of UTC the year -9999 begins before that of UTC
+-- at an offset of an hour, the year -9999 begins before that of UTC
 pub first_of_-9999_in_utc : IsUtcMoment 9_999 first_of_-9999 (Err (range (codes "year") true))
     × IsUtcMoment 999_999 first_of_-9999 (Ok (record { date = y-10000-12-31; time = time 23 0 0 0 refl }))
 unfolding IsUtcMoment IsDated IsTimed IsOffsetOrUtc
@@ -168,11 +168,11 @@ second_after_9999 = (
   (refl, (instant_decided 999_999 refl after_9999).0 refl),
 )
 
--- a record of the narrower range can't hold it
+-- a record of the narrower range can't store it
 pub put_after_9999 : (put 9_999 (unix_timestamp_nanos_is after_9999) empty ≡ None) × (put 999_999 (unix_timestamp_nanos_is after_9999) empty ≡ Some stamped)
 put_after_9999 = (rw (first_is 9_999 refl, last_is 9_999 refl) refl, rw (first_is 999_999 refl, last_is 999_999 refl) refl)
 
--- and no value of the narrower one
+-- and it is no value of the narrower range
 no_stamp : IsInstant 9_999 after_9999 → ⊥
 no_stamp = not_from_Decides _ (instant_decided 9_999 refl after_9999) refl
 
@@ -211,7 +211,7 @@ y2016-12-31 = date (pos 2016) December 31 refl
 abbrev year_end : UtcDateTime
 year_end = record { date = y2016-12-31; time = last_nanosecond }
 
--- where a month ends in UTC, it is the last nanosecond before
+-- at the end of a month in UTC, it resolves to the last nanosecond before
 pub leap_second_at_month_end : IsUtcMoment 9_999 (second_60 366 23 59 (pos 0)) (Ok year_end) × IsUtcMoment 999_999 (second_60 366 23 59 (pos 0)) (Ok year_end)
 unfolding IsUtcMoment IsDated IsTimed IsOffsetOrUtc
 leap_second_at_month_end = (
@@ -225,13 +225,13 @@ leap_second_at_month_end = (
       ((year_decided 999_999 refl (pos 2016)).0 refl) (λ leap. (refl, refl)),
 )
 
--- where none is allowed the second isn't one
+-- if leap seconds aren't allowed, the second isn't one
 pub no_leap_second : IsUtcMoment 9_999 (record (second_60 366 23 59 (pos 0)) { leap_second_allowed = false }) (Err (range (codes "second") false))
 unfolding IsUtcMoment IsUtcMomentOfParts IsDated IsTimed
 no_leap_second =
     inr (y2016-12-31, (row_decided 9_999 refl (by_ordinal (pos 2016) 366) y2016-12-31).0 refl, inl (range (codes "second") false, refl, refl))
 
--- at noon, the day before, and at that time an hour ahead of UTC it is misplaced
+-- at noon, the day before, and at that time with an offset of an hour, it is an error
 pub misplaced_leap_seconds : IsUtcMoment 9_999 (second_60 366 12 0 (pos 0)) (Err (range (codes "second") true))
     × IsUtcMoment 999_999 (second_60 366 12 0 (pos 0)) (Err (range (codes "second") true))
     × IsUtcMoment 9_999 (second_60 365 23 59 (pos 0)) (Err (range (codes "second") true))
@@ -260,7 +260,7 @@ misplaced_leap_seconds =
           ((year_decided 9_999 refl (pos 2016)).0 refl) refl (λ h. omega (arith, h.0)),
     )
 
--- so no moment is made of second 60 at noon, and at a month's end it is neither refused nor the midnight after
+-- so second 60 at noon resolves to no moment, and at a month's end it is neither an error nor the midnight after
 pub not_those_leap_seconds : ((v : UtcDateTime) → IsUtcMoment 999_999 (second_60 366 12 0 (pos 0)) (Ok v) → ⊥)
     × (IsUtcMoment 999_999 (second_60 366 23 59 (pos 0)) (Err (range (codes "second") true)) → ⊥)
     × (IsUtcMoment 999_999 (second_60 366 23 59 (pos 0)) (Ok (record { date = date (pos 2017) January 1 refl; time = midnight })) → ⊥)
@@ -272,7 +272,7 @@ not_those_leap_seconds = (
 
 -- ---- Other values
 
--- at -23:59 the moment isn't one in UTC, of another year, or refused
+-- at -23:59 the moment isn't one in UTC, of another year, or an error
 pub not_those_moments : (IsMoment 999_999 last_of_9999 (Ok (record { date = y9999-12-31; time = last_nanosecond; offset = utc })) → ⊥)
     × (IsMoment 999_999 last_of_9999 (Ok (record { date = y10000-01-01; time = last_nanosecond; offset = day_behind })) → ⊥)
     × (IsMoment 999_999 last_of_9999 (Err (range (codes "year") true)) → ⊥)
@@ -282,7 +282,7 @@ not_those_moments = (
   λ h. Ok≢Err last_moment _ (IsMoment-one last_of_9999 (Ok last_moment) _ last_of_9999_stays.1 h),
 )
 
--- and in UTC it isn't of the year that its clock shows
+-- and in UTC its year isn't that of its local time
 pub not_that_moment_in_utc : IsUtcMoment 999_999 last_of_9999 (Ok (record { date = y9999-12-31; time = last_nanosecond })) → ⊥
 not_that_moment_in_utc h =
     omega (arith, ints, ap year_of_result (IsUtcMoment-one last_of_9999 _ (Ok (record { date = y10000-01-01; time = late })) h last_of_9999_in_utc.1))
@@ -293,7 +293,7 @@ year_end_stamp = record {
   in_range = (instant_decided 999_999 refl (pos 1_483_228_799_999_999_999)).0 refl;
 }
 
--- the instant of a moment in UTC, and one refusal for all of its refusals
+-- the instant of a moment in UTC, and one error in place of all of its errors
 pub timestamps : IsTimestamp 9_999 (second_60 366 23 59 (pos 0)) (Ok year_end_stamp) × IsTimestamp 9_999 last_of_9999 (Err insufficient)
     × IsTimestamp 9_999 (second_60 366 12 0 (pos 0)) (Err insufficient) × IsTimestamp 9_999 empty (Err insufficient)
 unfolding IsTimestamp IsInstantOfParts IsUtcMoment IsUtcMomentOfParts IsDated

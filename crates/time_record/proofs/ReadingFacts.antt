@@ -1,5 +1,5 @@
--- Worked values of readings and faults, so that a wrong rule in the specs does not check. They follow from the
--- definitions, and no code lies between. `Y` is the greatest year.
+-- Worked values of readings and errors, so that a wrong rule in the specs fails the check. They follow from the definitions, without any code. `Y` is the
+-- greatest year.
 use Rattle.std.proofs.Common.{◌≡◌, ℕ, ◌+◌, ◌/◌, ◌%◌, ◌<◌, List, [], ◌∷◌, ◌++◌, length, false, Option, Some, None, codes, refl, sym, ap, subst, ◌∙◌}
 use Rattle.std.proofs.Common.{inl, inr, arith}
 use Rattle.time_values.specs.Refusal.{Refusal, literal as of_literal, component as of_component, trailing}
@@ -116,7 +116,7 @@ module _ (Y : ℕ) (r : Record) where
   unfolding Reads
   literal_reads_itself = (refl, refl)
 
-  -- each tree of a list reads the rest of the one before it, over its record
+  -- each tree of a list reads the rest of the one before it, and changes its record
   pub list_reads_in_turn : Reads Y clock (codes "12:34x") r (codes "x") at_12_34
   unfolding Reads ReadsAll
   list_reads_in_turn = (
@@ -145,7 +145,7 @@ module _ (Y : ℕ) (r : Record) where
       let left : codes "x" ≡ h.3.0 = cc in
       no_minute Y h.3.1 (codes "x") (no_two_at_x []) h.3.3.0 h.3.3.1 (subst (λ b. Reads Y minute b h.3.1 h.3.3.0 h.3.3.1) (sym left) h.3.3.2)
 
-  -- an optional part that fails halfway keeps nothing: what follows begins on the old bytes and record
+  -- an optional part that fails halfway stores nothing: the next tree starts from the old bytes and record
   pub optional_keeps_no_half : Reads Y (optional clock) (codes "12:x") r (codes "12:x") r
   unfolding Reads
   optional_keeps_no_half = inr (no_clock_at_12_x, refl, refl)
@@ -154,7 +154,7 @@ module _ (Y : ℕ) (r : Record) where
   unfolding Reads
   optional_reads_its_part = inl hour_reads_two_digits
 
-  -- the second alternative reads from the beginning, where the first has no reading
+  -- the second alternative reads from the beginning, if the first has no reading
   pub second_alternative_reads : Reads Y clock_or_hour (codes "12x") r (codes "x") at_12
   unfolding Reads ReadsSome
   second_alternative_reads = inr (no_clock_at_12x, inl hour_reads_two_digits)
@@ -179,7 +179,7 @@ module _ (Y : ℕ) (r : Record) where
   pub no_literal_in_another : NoReading Y colon (codes "x") r
   no_literal_in_another = no_colon Y r []
 
-  -- a number out of range is no reading of its first digit either
+  -- for a number out of range, its first digit alone is no reading either
   pub no_minute_60 : NoReading Y minute (codes "60") r
   unfolding Reads
   no_minute_60 = λ rest q h.
@@ -204,7 +204,7 @@ module _ (Y : ℕ) (r : Record) where
   unfolding Reads
   no_alternative_takes_no_byte q h = omega (arith, ap length h.0)
 
-  -- faults
+  -- errors
 
   pub fault_of_a_literal : Refuses Y colon (codes "x") r of_literal
   unfolding IsFault
@@ -228,7 +228,7 @@ module _ (Y : ℕ) (r : Record) where
     fault = refl;
   }
 
-  -- a list has the fault of its first member without a reading
+  -- a list has the error of its first item without a reading
   pub fault_of_a_list : Refuses Y clock (codes "12:x") r (of_component (codes "minute"))
   unfolding IsFault IsFaultAll Reads
   fault_of_a_list = record {
@@ -242,7 +242,7 @@ module _ (Y : ℕ) (r : Record) where
         );
   }
 
-  -- alternatives have the fault of the first
+  -- alternatives have the error of the first
   pub fault_of_alternatives : Refuses Y (first_of (trees (minute ∷ colon ∷ []))) (codes "x") r (of_component (codes "minute"))
   unfolding Reads ReadsSome IsFault
   fault_of_alternatives = record {
@@ -264,7 +264,7 @@ module _ (Y : ℕ) (r : Record) where
       let same : of_component (codes "minute") ≡ of_literal = Refuses-unique Y clock (codes "12:x") r _ of_literal fault_of_a_list h in
       cc
 
-  -- an optional tree has no fault
+  -- an optional tree has no error
   pub no_fault_of_an_optional : (t : Tree) (bytes : List ℕ) (e : Refusal) → Refuses Y (optional t) bytes r e → ⊥
   unfolding IsFault
   no_fault_of_an_optional t bytes e h = h.fault
@@ -272,7 +272,7 @@ module _ (Y : ℕ) (r : Record) where
   pub no_fault_of_what_is_read : (e : Refusal) → Refuses Y hour (codes "12x") r e → ⊥
   no_fault_of_what_is_read e h = h.unread (codes "x") at_12 hour_reads_two_digits
 
--- an optional part that fails halfway doesn't leave its hour
+-- an optional part that fails halfway doesn't store its hour
 pub no_hour_of_a_half_read_part : (Y : ℕ) → Reads Y (optional clock) (codes "12:x") empty (codes "12:x") (record empty { hour_24 = Some 12 }) → ⊥
 no_hour_of_a_half_read_part Y h =
     let same = Reads-unique Y (optional clock) (codes "12:x") empty (codes "12:x") empty (codes "12:x") (record empty { hour_24 = Some 12 })

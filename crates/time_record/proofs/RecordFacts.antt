@@ -1,5 +1,5 @@
--- Worked values of records and puts, so that a wrong rule in the specs does not check. They follow from the
--- definitions, and no code lies between. `Y` is the greatest year.
+-- Worked values of records and setters, so that a wrong rule in the specs fails the check. They follow from the definitions, without any code. `Y` is the
+-- greatest year.
 use Rattle.std.proofs.Common.{◌≡◌, ℕ, [], ◌∷◌, pos, neg_ℤ, true, false, Option, Some, None, refl, ap}
 use Rattle.time_components.specs.Spelling.{flagged, nothing}
 use Rattle.time_components.specs.declared.format_description.Component.TheVariants as kind
@@ -22,7 +22,7 @@ module _ (Y : ℕ) (r : Record) where
   pub last_entry_counts : put_all Y (minute_is 7 ∷ minute_is 8 ∷ []) r ≡ Some (record r { minute = Some 8 })
   last_entry_counts = refl
 
-  -- the component of an offset's hour sets the flag to its minus, also at 0
+  -- the component of an offset's hour sets the flag to its minus, also for 0
   pub minus_zero_hour_sets_the_sign : (m : OffsetHour) → put_value Y (kind.OffsetHour m) (flagged (pos 0) true) r
       ≡ Some (record r { offset_hour = Some (pos 0); offset_is_negative = true })
   minus_zero_hour_sets_the_sign m = refl
@@ -31,7 +31,7 @@ module _ (Y : ℕ) (r : Record) where
       ≡ Some (record r { offset_hour = Some (pos 1); offset_is_negative = false })
   plus_hour_clears_the_sign m = refl
 
-  -- a setter of the hour leaves the flag alone
+  -- a setter of the hour doesn't change the flag
   pub set_hour_keeps_the_sign : put Y (offset_hour_is (neg_ℤ (pos 5))) r ≡ Some (record r { offset_hour = Some (neg_ℤ (pos 5)) })
   set_hour_keeps_the_sign = refl
 
@@ -45,7 +45,7 @@ module _ (Y : ℕ) (r : Record) where
   pub end_puts_nothing : (m : End) → put_value Y (kind.End m) nothing r ≡ Some r
   end_puts_nothing m = refl
 
-  -- a setter that rejects its value leaves the record
+  -- a setter that rejects its value leaves the record unchanged
   pub setter_keeps_the_record : Sets (put Y (second_is 61) r) r None r
   setter_keeps_the_record = refl
 
@@ -85,7 +85,7 @@ module _ (Y : ℕ) (r : Record) where
   pub no_record_of_second_61 : IsInRanges Y (record r { second = Some 61 }) → ⊥
   no_record_of_second_61 h = let test : false ≡ true = h.second in cc
 
--- a century's flag is its own sign, and at 0 the given one
+-- a century's flag is its own sign, and for 0 the given one
 module _ (r : Record) where
   pub century_0_takes_the_given_sign : put 9999 (year_century_is (pos 0) true) r
       ≡ Some (record r { year_century = Some (pos 0); year_century_is_negative = true })

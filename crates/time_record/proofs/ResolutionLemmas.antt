@@ -1,4 +1,4 @@
--- A record makes one value of each kind, or one refusal.
+-- A record resolves to at most one value of each kind, or to one error.
 use Rattle.std.specs.Prelude.{unwrap_or}
 use Rattle.std.proofs.Common.{◌≡◌, ℕ, ℤ, Bool, false, if◌then◌else◌, Option, Some, None, Result, Ok, Err, MatchOption, IsOkAnd, ◌⊎◌, inl, inr, sym}
 use Rattle.std.proofs.Common.{ap, subst, ◌∙◌, arith, refl}
@@ -37,7 +37,7 @@ same_Err e f h = cc
 Ok-Err : {A : Type 0} (a : A) (e : Refusal) → ◌≡◌ {A = Result A Refusal} (Ok a) (Err e) → ⊥
 Ok-Err a e h = cc
 
--- a step that gives a value, and what the next makes of it
+-- a step that returns a value, and the result of the next step for it
 pub Then-next : {A Stops : Type 0} {Gives Next : A → Type 0} (a : A) → Gives a → Next a → Stops ⊎ ((a : A) × Gives a × Next a)
 Then-next a given next = inr (a, given, next)
 
@@ -46,7 +46,7 @@ pub IsTimed-no_leap : (r : Record) (result : Result Time Refusal) → is_leap_se
 IsTimed-no_leap r result none timed =
     subst (λ (leap : Bool). IsTimed (if leap then record r { second = Some 59; subsecond = Some 999_999_999 } else r) result) (sym none) timed
 
--- steps that each have one answer have one answer together
+-- steps that each have one result have one result together
 Then-one : {A B : Type 0} (First : Result A Refusal → Type 0) (Next : A → Result B Refusal → Type 0) →
     IsOne First → ((a : A) → IsOne (Next a)) → IsOne (Then First Next)
 Then-one First Next one each r s (inl h) (inl k) = h.2 ∙ ap Err (same_Err h.0 k.0 (one (Err h.0) (Err k.0) h.1 k.1)) ∙ sym k.2
@@ -56,7 +56,7 @@ Then-one First Next one each r s (inr h) (inr k) =
     let same = same_Ok h.0 k.0 (one (Ok h.0) (Ok k.0) h.1 k.1) in
     each k.0 r s (subst (λ a. Next a r) same h.2) k.2
 
--- an answer with one value has one answer
+-- a result with a unique value or a given error is unique
 IsConstructed-one : {V : Type 0} (o : Option Refusal) (P : V → Type 0) → IsOne P → IsOne (IsConstructed o P)
 IsConstructed-one None P one (Ok v) (Ok w) h k = ap Ok (one v w h k)
 IsConstructed-one None P one (Ok v) (Err f) h k = absurd k
@@ -65,23 +65,23 @@ IsConstructed-one (Some r) P one (Ok v) s h k = absurd h
 IsConstructed-one (Some r) P one (Err e) (Ok w) h k = absurd k
 IsConstructed-one (Some r) P one (Err e) (Err f) h k = ap Err (h ∙ sym k)
 
--- and so has an answer by an option
+-- and so is a result by an option
 MatchOption-one : {X V : Type 0} (o : Option X) (P : Result V Refusal → Type 0) (Q : X → Result V Refusal → Type 0) →
     IsOne P → ((x : X) → IsOne (Q x)) → IsOne (λ r. MatchOption o (P r) (λ x. Q x r))
 MatchOption-one None P Q one each r s h k = one r s h k
 MatchOption-one (Some x) P Q one each r s h k = each x r s h k
 
--- a value of which there is one
+-- a value that is unique
 IsOkAnd-one : {V : Type 0} (P : V → Type 0) → IsOne P → IsOne (λ (r : Result V Refusal). IsOkAnd r P)
 IsOkAnd-one P one (Ok v) (Ok w) h k = ap Ok (one v w h k)
 IsOkAnd-one P one (Ok v) (Err f) h k = absurd k
 IsOkAnd-one P one (Err e) s h k = absurd h
 
--- one answer that is named
+-- a given result
 IsThat-one : {V : Type 0} (that : Result V Refusal) → IsOne (λ r. r ≡ that)
 IsThat-one that r s h k = h ∙ sym k
 
--- a row names one date
+-- a row determines one date
 HasRow-one : (row : Row) → IsOne (HasRow greatest_year row)
 HasRow-one (by_ordinal y n) a b h k = same_date_by_ordinal a b (h.0 ∙ sym k.0) (h.1 ∙ sym k.1)
 HasRow-one (by_month_and_day y m n) a b h k =
@@ -129,7 +129,7 @@ IsOffsetOrUtc-one : (r : Record) → IsOne (IsOffsetOrUtc r)
 unfolding IsOffsetOrUtc
 IsOffsetOrUtc-one r = IsOffsetOr-one (λ s. IsOkAnd s IsUtc) r (IsOkAnd-one IsUtc IsUtc-one)
 
--- values of date-times by their parts
+-- date-times are equal if their parts are
 same_plain : (a b : PlainDateTime) → a.date ≡ b.date → a.time ≡ b.time → a ≡ b
 same_plain a b d t = λ i. record { date = d i; time = t i }
 
@@ -147,7 +147,7 @@ IsPlain-one r =
     (λ t. IsOkAnd-one (λ (p : PlainDateTime). (p.date ≡ d) × (p.time ≡ t))
     (λ a b h k. same_plain a b (h.0 ∙ sym k.0) (h.1 ∙ sym k.1))))
 
--- a timestamp with a nanosecond is one date and time
+-- a timestamp and a nanosecond determine one date and time
 IsStamped-one : (n : ℤ) (k : Option ℕ) (a b : Date) (s t : Time) →
     IsStamped greatest_year n k a s → IsStamped greatest_year n k b t → (a ≡ b) × (s ≡ t)
 IsStamped-one n k a b s t g h =
@@ -155,7 +155,7 @@ IsStamped-one n k a b s t g h =
     let clock = subst (λ (x : Time). HasClock x.hour x.minute x.second (unwrap_or k x.nanosecond) s) same.1 g.2 in
     (same.0, same_time_by_clock h.0.hour h.0.minute h.0.second (unwrap_or k h.0.nanosecond) s t clock h.2)
 
--- a value that a leap second may refuse
+-- a value that a leap second may turn into an error
 Judged-one : {V : Type 0} (leap : Bool) (AtEnd : Type 0) (P : V → Type 0) → IsOne P → IsOne (Judged leap AtEnd P)
 Judged-one leap AtEnd P one (Ok v) (Ok w) h k = ap Ok (one v w h.0 k.0)
 Judged-one leap AtEnd P one (Ok v) (Err f) h k = absurd (k.1 (h.1 k.0))
@@ -226,7 +226,7 @@ IsTimestamp-one r =
 
 -- ---- The moments of timestamps
 
--- a moment as it is
+-- a moment with its own nanosecond
 pub IsStamped-none : (n : ℤ) (d : Date) (t : Time) → clock_nanos greatest_year d t ≡ n → IsStamped greatest_year n None d t
 IsStamped-none n d t e = (t, e, (refl, refl, refl, refl), d.year_in)
 
@@ -235,6 +235,6 @@ pub IsStamped-some : (n : ℤ) (k : ℕ) (from d : Date) (t time : Time) → clo
     HasClock t.hour t.minute t.second k time → IsStamped greatest_year n (Some k) d time
 IsStamped-some n k from d t time e same h = (t, ap (λ x. clock_nanos greatest_year x t) same ∙ e, h, d.year_in)
 
--- without an offset a clock shows UTC
+-- at no offset, the local time is UTC
 pub clock_nanos-utc : (n : ℤ) (d : Date) (t : Time) (o : UtcOffset) → IsUtc o → instant greatest_year d t o ≡ n → clock_nanos greatest_year d t ≡ n
 clock_nanos-utc n d t o utc e = omega (arith, ints, instant_is d t o, utc)

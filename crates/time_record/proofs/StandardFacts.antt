@@ -1,5 +1,5 @@
--- Values that the precedence of a record's components gives, so that a wrong rule in the definitions doesn't check. What
--- rests on the range of years is shown for the years to 9999 and to 999999.
+-- Values by the precedence of a record's components, so that a wrong rule in the definitions fails the check. Facts that depend on the range of years are
+-- proved for the years to 9999 and to 999999.
 use Rattle.std.proofs.Common.{◌≡◌, ℕ, ◌+◌, ◌%◌, ◌<◌, Bool, true, false, ◌&&◌, ◌==◌, Decides, Some, None, Ok, Err, refl, ap, arith, codes, ℤ, pos}
 use Rattle.std.proofs.Common.{neg_ℤ, if◌then◌else◌}
 use Rattle.std.proofs.lemmas.Bool.Decides.{Decides-and, Decides-int_eq, not_from_Decides}
@@ -82,7 +82,7 @@ ordinal_first = (
   λ h. h.0 y2024-02-29 ((row_decided 999_999 refl (by_ordinal (pos 2024) 60) y2024-02-29).0 refl),
 )
 
--- a year, a month and a day; without the day nothing is known
+-- a year, a month and a day; without the day the information is insufficient
 pub month_and_day : IsDated 9_999 by_day (Ok y2024-02-29) × IsDated 999_999 by_day (Ok y2024-02-29)
     × IsDated 9_999 (record by_day { day = None }) (Err insufficient) × (IsDated 9_999 by_day (Ok (date (pos 2024) March 1 refl)) → ⊥)
     × (IsDated 9_999 by_day (Ok (date (pos 2020) February 29 refl)) → ⊥) × (IsDated 999_999 by_day (Err insufficient) → ⊥)
@@ -164,7 +164,7 @@ monday_of_monday_week = (
 abbrev iso_saturday : ℤ → Record
 iso_saturday y = record empty { iso_year = Some y; iso_week_number = Some 52; weekday = Some Saturday }
 
--- the refusal of a weekday after the last date, where the year has 52 weeks
+-- the error of a weekday after the last date, if the year has 52 weeks
 weekday_refused : (weeks : ℕ) → weeks ≡ 52
     → range (codes "weekday") true ≡ (if is_within 1 weeks 52 then range (codes "weekday") true else range (codes "week") true)
 weekday_refused weeks e = rw e refl
@@ -204,7 +204,7 @@ year_10000 = (
 abbrev half_day : Bool → Record
 half_day is_pm = record empty { hour_12 = Some 12; hour_12_is_pm = Some is_pm; minute = Some 5 }
 
--- 12:05 AM is five past midnight, 12:05 PM five past noon; an hour of 24 comes before one of a half day
+-- 12:05 AM is five past midnight, 12:05 PM five past noon; an hour of 24 precedes one of a half day
 pub times : IsTimed (half_day false) (Ok (time 0 5 0 0 refl)) × IsTimed (half_day true) (Ok (time 12 5 0 0 refl))
     × IsTimed (record (half_day true) { hour_24 = Some 3 }) (Ok (time 3 5 0 0 refl))
     × IsTimed (record empty { hour_24 = Some 3; second = Some 1 }) (Err insufficient)
@@ -229,7 +229,7 @@ half_hour_behind = offset (pos 0) (neg_ℤ (pos 30)) (pos 0) refl
 abbrev half_hour_ahead : UtcOffset
 half_hour_ahead = offset (pos 0) (pos 30) (pos 0) refl
 
--- the flag turns the minutes of an hour 0, and the sign of another hour counts for its minutes
+-- the flag negates the minutes of an hour 0, and the sign of another hour counts for its minutes
 pub offsets : IsOffset (signed true (pos 0)) (Ok half_hour_behind) × IsOffset (signed false (pos 0)) (Ok half_hour_ahead)
     × IsOffset (signed false (neg_ℤ (pos 5))) (Ok (offset (neg_ℤ (pos 5)) (neg_ℤ (pos 30)) (pos 0) refl))
     × IsOffset (record empty { offset_minute = Some (pos 30) }) (Err insufficient) × IsOffsetOrUtc empty (Ok utc)

@@ -1,4 +1,4 @@
--- A tree has at most one reading of the same bytes over the same record. `Y` is the greatest year.
+-- A tree has at most one reading of some bytes and a record. `Y` is the greatest year.
 use Rattle.std.specs.Option.{option_or}
 use Rattle.std.proofs.Common.{◌≡◌, ℕ, List, [], ◌∷◌, ◌++◌, Bool, Some, ap, sym, ◌∙◌, subst, inl, inr, arith, ◌+◌, ◌<◌, ◌≤◌, length, drop, get_or, map, refl, Option, None, MatchOption}
 use Rattle.std.proofs.lemmas.List.{at_drop_more, at_drop_all}
@@ -51,7 +51,7 @@ module _ (Y : ℕ) where
     ReadsSome-unique (more t ts) b r x q y p (inr h) (inl k) = absurd (h.0 y p k)
     ReadsSome-unique (more t ts) b r x q y p (inr h) (inr k) = ReadsSome-unique ts b r x q y p h.1 k.1
 
-  -- a tree has at most one fault
+  -- a tree has at most one error
   mutual
     unfolding IsFault IsFaultAll
 
@@ -76,11 +76,11 @@ module _ (Y : ℕ) where
   pub Refuses-unique : (t : Tree) (b : List ℕ) (r : Record) (e f : Refusal) → Refuses Y t b r e → Refuses Y t b r f → e ≡ f
   Refuses-unique t b r e f h k = IsFault-unique t b r e f h.fault k.fault
 
-  -- where a reading is, nothing is refused
+  -- a tree with a reading has no error
   pub Reads-unrefused : (t : Tree) (b : List ℕ) (r : Record) (x : List ℕ) (q : Record) (e : Refusal) → Reads Y t b r x q → Refuses Y t b r e → ⊥
   Reads-unrefused t b r x q e h k = k.unread x q h
 
--- ---- A tree begins one number of items. `Y` is the greatest year.
+-- ---- Reading a tree visits one number of items. `Y` is the greatest year.
 
 mutual
   unfolding Begins BeginsAll BeginsFirst
@@ -116,7 +116,7 @@ mutual
       let later = one_count-first Y ts b r a c hs ks in
       omega arith
 
--- ---- How the answer of a list of items follows from those of its members. `Y` is the greatest year.
+-- ---- How the result of a list of items follows from those of its items. `Y` is the greatest year.
 
 -- the trees of the items from an index on
 abbrev pub trees_from : {X : Type 0} → (X → Tree) → ℕ → List X → Trees
@@ -130,7 +130,7 @@ module _ {X : Type 0} (f : X → Tree) (xs : List X) (i : ℕ) where
   pub trees_from-end : length xs ≤ i → trees_from f i xs ≡ none
   trees_from-end end = at_drop_all (λ ys. trees (map f ys)) xs i end
 
--- What is read after a tree that reads, or after none.
+-- The reading after a tree that reads, or after one that doesn't.
 module _ (Y : ℕ) (t : Tree) (ts : Trees) (b : List ℕ) (r : Record) where
   pub ReadsAll-more : (mid : List ℕ) (q : Record) (rest : List ℕ) (r' : Record) → Reads Y t b r mid q →
       ReadsAll Y ts mid q rest r' → ReadsAll Y (more t ts) b r rest r'
@@ -150,7 +150,7 @@ module _ (Y : ℕ) (t : Tree) (ts : Trees) (b : List ℕ) (r : Record) where
     fault = inr (mid, q, h, hs.fault);
   }
 
--- What the items from an index on answer, all of them answer: those before it were read.
+-- The result of the items from an index on is that of all: those before it were read.
 pub record Continues (Y : ℕ) {X : Type 0} (f : X → Tree) (xs : List X) (i : ℕ)
     (b0 : List ℕ) (r0 : Record) (b : List ℕ) (r : Record) : Type 0 where
   pub reads : (rest : List ℕ) (q : Record) → ReadsAll Y (trees_from f i xs) b r rest q → ReadsAll Y (trees (map f xs)) b0 r0 rest q
@@ -173,7 +173,7 @@ module _ {Y : ℕ} {X : Type 0} {f : X → Tree} {xs : List X} {i : ℕ}
               k.refuses e (subst (λ ts. RefusesAll Y ts b r e) (sym here) all);
         }
 
-    -- the next item is refused
+    -- the next item doesn't match
     pub Continues-refuses : {e : Refusal} → Refuses Y (f x) b r e → Refuses Y (sequence (trees (map f xs))) b0 r0 e
     unfolding Reads IsFault
     Continues-refuses {e} h =
@@ -191,12 +191,11 @@ module _ {Y : ℕ} {X : Type 0} {f : X → Tree} {xs : List X} {i : ℕ}
 abbrev pub NoReadingSome : ℕ → Trees → List ℕ → Record → Type 0
 NoReadingSome Y ts b r = HasNone (ReadsSome Y ts b r)
 
--- The fault that is kept is that of all the alternatives. While there is none, all are left.
+-- The error that is kept is that of all the alternatives. Before an error is kept, all are left.
 abbrev pub IsKept : ℕ → Trees → Trees → List ℕ → Record → Option ParseFromDescription → Type 0
 IsKept Y ts all b r kept = MatchOption kept (ts ≡ all) (λ e. IsFault Y (first_of all) b r (refusal_of_description e))
 
--- What the items from an index on answer as alternatives, all of them answer: none before it reads,
--- the record is as it was, and the first one's fault is kept.
+-- The result of the items from an index on as alternatives is that of all: none before it reads, the record is unchanged, and the first one's error is kept.
 pub record Keeps (Y : ℕ) {X : Type 0} (f : X → Tree) (xs : List X) (i : ℕ)
     (b : List ℕ) (r now : Record) (kept : Option ParseFromDescription) : Type 0 where
   pub same : now ≡ r
@@ -217,7 +216,7 @@ module _ (Y : ℕ) (t : Tree) (ts : Trees) (b : List ℕ) (r : Record) where
   unfolding ReadsSome
   NoReadingSome-more h k = λ rest q s. elim s [ inl a ↦ h rest q a | inr a ↦ k rest q a.1 ]
 
--- alternatives read as some of them does, where there is one
+-- alternatives read as one of them does, if there is one
 module _ (Y : ℕ) (b : List ℕ) (r : Record) where
   pub first_of-some : (ts : Trees) (rest : List ℕ) (q : Record) → ReadsSome Y ts b r rest q → Reads Y (first_of ts) b r rest q
   unfolding Reads ReadsSome
@@ -238,7 +237,7 @@ module _ (Y : ℕ) (b : List ℕ) (r : Record) where
   unfolding Reads
   Reads-first_of_none = (refl, refl)
 
--- the fault to keep after one more
+-- the error to keep after one more
 pub IsKept-more : (Y : ℕ) (t : Tree) (ts all : Trees) (b : List ℕ) (r : Record) (kept : Option ParseFromDescription)
     (e : ParseFromDescription) → IsKept Y (more t ts) all b r kept → IsFault Y t b r (refusal_of_description e) →
     IsKept Y ts all b r (option_or kept (Some e))
@@ -257,7 +256,7 @@ module _ {Y : ℕ} {X : Type 0} {f : X → Tree} {xs : List X} {i : ℕ}
         let some = ReadsSome-here Y (f x) (trees_from f (i + 1) xs) b r rest q read in
         first_of-some Y b r (trees (map f xs)) rest q (k.reads rest q (subst (λ ts. ReadsSome Y ts b r rest q) (sym here) some))
 
-    -- the next item is refused
+    -- the next item doesn't match
     pub Keeps-refuses : {now' : Record} {kept' : Option ParseFromDescription} (e : ParseFromDescription) →
         Refuses Y (f x) b now (refusal_of_description e) × (now' ≡ now) → kept' ≡ option_or kept (Some e) →
         Keeps Y f xs (i + 1) b r now' kept'
@@ -291,18 +290,18 @@ module _ {Y : ℕ} {X : Type 0} {f : X → Tree} {xs : List X} {i : ℕ}
         k.same,
       )
 
-  -- there was none
+  -- there was no item
   pub Keeps-nothing : length xs ≤ i → kept ≡ None → Reads Y (first_of (trees (map f xs))) b r b now
   Keeps-nothing end is =
       let empty : none ≡ trees (map f xs) = sym (trees_from-end f xs i end) ∙ rw is at k.fault in
       rw k.same (subst (λ a. Reads Y (first_of a) b r b r) empty (Reads-first_of_none Y b r))
 
--- What proves a walk's loops, but for the answers to an item that is refused.
+-- The lemmas for a walk's loops, except for the results after an item that doesn't match.
 pub ruleset sequence_steps = (Continues-reads, Continues-end)
 
 pub ruleset first_steps = (Keeps-reads, Keeps-fault, Keeps-nothing)
 
--- ---- A setter's answer and the record after it are determined
+-- ---- A setter's result and the record after it are determined
 
 pub Sets-one : OneSetting
 Sets-one (Some r) old (Some u) new (Some v) other h k = (refl, h ∙ sym k)

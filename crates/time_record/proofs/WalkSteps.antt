@@ -1,4 +1,4 @@
--- How the answer and the count of trees in turn follow from those of their beginnings. `Y` is the greatest year.
+-- How the result and the count of trees in turn follow from those of the first ones. `Y` is the greatest year.
 use Rattle.std.specs.Borrow.{Bor}
 use Rattle.std.proofs.Common.{◌≡◌, ℕ, zero, suc, ◌+◌, ◌-◌, ◌<◌, ◌≤◌, List, [], ◌∷◌, length, drop, get_or, map, refl, ap, sym, ◌∙◌, subst, inr, arith}
 use Rattle.std.proofs.Common.{inl, Result, Ok, Err, take, length-take, length-drop}
@@ -23,20 +23,20 @@ Begins-leaf Y (literal text) b r leaf = refl
 Begins-leaf Y (component w c) b r leaf = refl
 Begins-leaf Y t b r leaf = absurd leaf
 
--- a leaf that has no reading
+-- a leaf without a reading
 leaf_refuses : (Y : ℕ) (t : Tree) (b : List ℕ) (r : Record) (e : Refusal) → IsLeaf t → NoReading Y t b r → e ≡ leaf_refusal t → Refuses Y t b r e
 unfolding IsFault
 leaf_refuses Y (literal text) b r e leaf unread is = record { unread = unread; fault = is }
 leaf_refuses Y (component w c) b r e leaf unread is = record { unread = unread; fault = is }
 leaf_refuses Y t b r e leaf unread is = absurd leaf
 
--- the first of the trees is a leaf, and refused
+-- the first of the trees is a leaf, and doesn't match
 pub leaf_refused : {Y : ℕ} {ts : Trees} {b : List ℕ} {r q : Record} {e : Refusal} (t : Tree) (later : Trees) → ts ≡ more t later →
     IsLeaf t → Unread Y t b r q → e ≡ leaf_refusal t → RefusesLeaf Y ts b q e
 leaf_refused {Y} {ts} {b} {r} {q} {e} t later is leaf h fault =
     rw h.same (record { leaf = t; later = later; is = is; is_leaf = leaf; refuses = leaf_refuses Y t b r e leaf h.unread fault })
 
--- The item of an index is this tree.
+-- The tree is that of the item at an index.
 pub record HasItem {X : Type 0} (f : X → Tree) (xs : List X) (i : ℕ) (t : Tree) : Type 0 where
   pub item : X
   pub within : i < length xs
@@ -60,12 +60,12 @@ module _ {X : Type 0} {f : X → Tree} {xs : List X} {i : ℕ} {t : Tree} (h : H
 pub Goes-start : (Y : ℕ) (all : Trees) (b : List ℕ) (r : Record) → Goes Y all b r 0 all b r
 Goes-start Y all b r = record { reads = λ rest q h. h; refuses = λ e h. h; begins = λ m h. subst (BeginsAll Y all b r) (omega arith) h }
 
--- the number that is begun, written otherwise
+-- the number of items visited, in another form
 pub Goes-counted : {Y : ℕ} {all : Trees} {b0 : List ℕ} {r0 : Record} {n k : ℕ} {left : Trees} {b : List ℕ} {r : Record} → n ≡ k →
     Goes Y all b0 r0 n left b r → Goes Y all b0 r0 k left b r
 Goes-counted {Y} {all} {b0} {r0} {n} {k} {left} {b} {r} is g = subst (λ m. Goes Y all b0 r0 m left b r) is g
 
--- further and further
+-- two stretches of reading in turn
 pub Goes-further : {Y : ℕ} {all : Trees} {b0 : List ℕ} {r0 : Record} {n : ℕ} {left : Trees} {b : List ℕ} {r : Record}
     {k : ℕ} {least : Trees} {c : List ℕ} {s : Record} → Goes Y all b0 r0 n left b r → Goes Y left b r k least c s →
     Goes Y all b0 r0 (n + k) least c s
@@ -77,7 +77,7 @@ Goes-further {Y} {all} {b0} {r0} {n} {left} {b} {r} {k} g h = record {
 
 module _ {Y : ℕ} {all : Trees} {b0 : List ℕ} {r0 : Record} {n : ℕ} {left : Trees} {b : List ℕ} {r : Record} (g : Goes Y all b0 r0 n left b r) where
   module _ (t : Tree) (ts : Trees) (is : left ≡ more t ts) where
-    -- the next tree is read, and so many items of it are begun
+    -- the next tree is read, which visits k items
     pub Goes-reads : {mid : List ℕ} {q : Record} (k : ℕ) → Begins Y t b r k → Reads Y t b r mid q → Goes Y all b0 r0 (n + k) ts mid q
     unfolding BeginsAll
     Goes-reads {mid} {q} k begun h = record {
@@ -92,28 +92,28 @@ module _ {Y : ℕ} {all : Trees} {b0 : List ℕ} {r0 : Record} {n : ℕ} {left :
     pub Goes-leaf : {mid : List ℕ} {q : Record} → IsLeaf t → Reads Y t b r mid q → Goes Y all b0 r0 (n + 1) ts mid q
     Goes-leaf leaf h = Goes-reads 1 (Begins-leaf Y t b r leaf) h
 
-    -- the next tree is refused
+    -- the next tree doesn't match
     pub Goes-refused : {e : Refusal} → Refuses Y t b r e → Refuses Y (sequence all) b0 r0 e
     unfolding Reads IsFault
     Goes-refused {e} h =
         let refused = g.refuses e (subst (λ us. RefusesAll Y us b r e) (sym is) (RefusesAll-here Y t ts b r e h)) in
         record { unread = refused.unread; fault = refused.fault }
 
-  -- nothing is left
+  -- no tree is left
   pub Goes-end : left ≡ tree_none → Reads Y (sequence all) b0 r0 b r
   unfolding Reads ReadsAll
   Goes-end is = g.reads b r (subst (λ ts. ReadsAll Y ts b r b r) (sym is) (refl, refl))
 
--- Two more are one more, twice.
+-- Adding two is adding one twice.
 pub raised_twice : (count new : ℕ) → new ≡ raised count 2 → new ≡ raised (raised count 1) 1
 raised_twice count new is = omega arith
 
--- a count of what is not counted yet, up to two places
+-- a count plus the nodes that aren't counted yet, in two steps
 pub raised_further : (count uncounted left least : ℕ) → least ≤ left → left ≤ uncounted →
     raised count (uncounted - least) ≡ raised (raised count (uncounted - left)) (left - least)
 raised_further count uncounted left least fewer within = omega arith
 
--- What is left answers as all of them do, and the count stands where what was read has led it.
+-- The result of the trees that are left is that of all, and `now` is the count after those that were read.
 pub record Walked (Y : ℕ) (all : Trees) (b0 : List ℕ) (r0 : Record) (left : Trees) (b : List ℕ) (r : Record) (old now : ℕ) : Type 0 where
   pub so_far : ℕ
   pub goes : Goes Y all b0 r0 so_far left b r
@@ -135,7 +135,7 @@ module _ {Y : ℕ} {all : Trees} {b0 : List ℕ} {r0 : Record} {left : Trees} {b
     Walked-reads h = let s = w.stands in let e = c.rises in
         record { so_far = w.so_far + c.begun; goes = Goes-reads w.goes t ts is c.begun c.begins h; stands = omega arith }
 
-    -- an item is refused
+    -- an item doesn't match
     pub Walked-counts_refused : NoReading Y t b r → CountsAll Y all b0 r0 old next
     unfolding BeginsAll
     Walked-counts_refused unread =
@@ -160,7 +160,7 @@ module _ {Y : ℕ} {all : Trees} {b0 : List ℕ} {r0 : Record} {left : Trees} {b
         rises = omega arith;
       }
 
-  -- a leaf is refused
+  -- a leaf doesn't match
   pub Walked-counts_leaf : {e : Refusal} (leaf : RefusesLeaf Y left b r e) (next : ℕ) → next ≡ raised now 1 → CountsAll Y all b0 r0 old next
   Walked-counts_leaf leaf next is =
       Walked-counts_refused leaf.leaf leaf.later leaf.is next (Counts-leaf Y b r now next is leaf.leaf leaf.is_leaf) leaf.refuses.unread
@@ -213,7 +213,7 @@ unfolding trees_in
 steps_trees-end [] h = refl
 steps_trees-end (s ∷ left) h = absurd (omega arith)
 
--- what stands behind a first step, as a pattern has it
+-- the steps after a first step, in the form of a pattern
 abbrev pub behind_first : List Step → List Step
 behind_first left = take (length left - 1) (drop 1 left)
 

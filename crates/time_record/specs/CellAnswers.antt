@@ -1,6 +1,6 @@
 -- No public contract rests on this file.
 --
--- What reading and putting one cell of a record does.
+-- Reading and writing one cell of a record.
 use Rattle.std.specs.Prelude.{◌≡◌, ℕ, ℤ, unsigned_abs, zero, suc, Bool, false, Option, Some, if◌then◌else◌, ◌==◌, slice_index_or, ⊤}
 use Rattle.std.specs.Option.{option_map}
 use Rattle.time_record.specs.Cells.{is_one, month_in, weekday_in, bits_of}
@@ -10,7 +10,7 @@ use Rattle.time_record.specs.Record.{Record}
 abbrev pub changed : {T : Type 0} → (ℕ → T) → ℕ → T → ℕ → T
 changed f k x i = if i == k then x else f i
 
--- the record with cell k put in its option
+-- the record with cell k stored in its option
 abbrev pub put_cell : ℕ → ℤ → Record → Record
 put_cell k v r = record {
   year = if 19 == k then Some v else r.year;
@@ -42,7 +42,7 @@ put_cell k v r = record {
   leap_second_allowed = r.leap_second_allowed;
 }
 
--- the record with flag k set so
+-- the record with flag k set or cleared
 abbrev pub put_flag : ℕ → Bool → Record → Record
 put_flag k on r = record r {
   offset_is_negative = if 23 == k then on else r.offset_is_negative;
@@ -51,7 +51,7 @@ put_flag k on r = record r {
   leap_second_allowed = if 26 == k then on else r.leap_second_allowed;
 }
 
--- the option of cell 16 + k of a record is what was read of it
+-- the option of cell 16 + k of a record is the value that was read
 abbrev pub ReadsWide : ℕ → Record → Option ℤ → Type 0
 ReadsWide zero r o = r.year_century ≡ o
 ReadsWide (suc zero) r o = r.iso_year_century ≡ o
@@ -62,7 +62,7 @@ ReadsWide (suc (suc (suc (suc (suc zero))))) r o = r.subsecond ≡ option_map un
 ReadsWide (suc (suc (suc (suc (suc (suc zero)))))) r o = r.unix_timestamp_nanos ≡ o
 ReadsWide (suc (suc (suc (suc (suc (suc (suc k))))))) r o = ⊤
 
--- the same of cell 8 + k
+-- the option of cell 8 + k of a record is the value that was read
 abbrev pub ReadsClock : ℕ → Record → Option ℤ → Type 0
 ReadsClock zero r o = r.hour_24 ≡ option_map unsigned_abs o
 ReadsClock (suc zero) r o = r.hour_12 ≡ option_map unsigned_abs o
@@ -74,7 +74,7 @@ ReadsClock (suc (suc (suc (suc (suc (suc zero)))))) r o = r.offset_minute ≡ o
 ReadsClock (suc (suc (suc (suc (suc (suc (suc zero))))))) r o = r.offset_second ≡ o
 ReadsClock (suc (suc (suc (suc (suc (suc (suc (suc k)))))))) r o = ReadsWide k r o
 
--- and of cell k
+-- the option of cell k of a record is the value that was read
 abbrev pub Reads : ℕ → Record → Option ℤ → Type 0
 Reads zero r o = r.year_last_two ≡ option_map unsigned_abs o
 Reads (suc zero) r o = r.iso_year_last_two ≡ option_map unsigned_abs o

@@ -1,5 +1,5 @@
--- How the options lie in a mask and rows of cells: option i is there where bit i is set, and its value is cell i.
--- `Y` is the greatest year.
+-- The options in a mask and rows of cells: option i is there if bit i is set, and its value is cell i. `Y` is the
+-- greatest year.
 use Rattle.std.specs.Prelude.{◌≡◌, ℕ, ◌+◌, ◌-◌, ◌*◌, ◌/◌, ◌^◌, ◌<◌, ◌≤ℤ◌, ℤ, pos, neg_ℤ, unsigned_abs, Bool, true, false, Option, Some, None, is_some, if◌then◌else◌, ◌==◌, nat_lt, List, [], ◌∷◌, length, slice_index_or}
 use Rattle.std.specs.Option.{option_map, unwrap_or}
 use Rattle.std.specs.Int.{bit_at}
@@ -27,11 +27,11 @@ value_at bytes shorts words stamp i =
     pick i (slice_index_or bytes i (pos 0)) (slice_index_or shorts (i - 16) (pos 0))
     (slice_index_or words (i - 19) (pos 0)) stamp
 
--- the value of cell i, where its bit is set
+-- the value of cell i, if its bit is set
 abbrev pub option_at : (ℕ → Bool) → (ℕ → ℤ) → ℕ → Option ℤ
 option_at set value i = if set i then Some (value i) else None
 
--- what a cell stands for, and back
+-- the value that a cell represents, and back
 abbrev pub is_one : ℤ → Bool
 is_one v = unsigned_abs v == 1
 
@@ -105,12 +105,12 @@ highs Y =
 abbrev pub InCell : ℕ → ℕ → ℤ → Type 0
 InCell Y i v = (slice_index_or (lows Y) i (pos 0) ≤ℤ v) × (v ≤ℤ slice_index_or (highs Y) i (pos 0))
 
--- a value that is there is in its range, and one that is not is 0
+-- a value that is there is in its range, and one that isn't is 0
 abbrev pub IsCell : ℕ → ℕ → Bool → ℤ → Type 0
 IsCell Y i true v = InCell Y i v
 IsCell Y i false v = v ≡ pos 0
 
--- what the fields of a `Parsed` keep
+-- the invariant of the fields of a `Parsed`
 pub record IsSound (Y mask : ℕ) (bytes shorts words : List ℤ) (stamp : ℤ) : Type 0 where
   pub in_mask : mask < 2 ^ 27
   pub bytes_length : length bytes ≡ 16
@@ -137,7 +137,7 @@ bits_of r =
     is_some r.subsecond ∷ is_some r.unix_timestamp_nanos ∷ r.offset_is_negative ∷
     r.year_century_is_negative ∷ r.iso_year_century_is_negative ∷ r.leap_second_allowed ∷ []
 
--- the mask of a record, and its cells: 0 where an option is not there
+-- the mask of a record, and its cells: 0 if an option isn't there
 abbrev pub mask_of : Record → ℕ
 mask_of r = from_bits (bits_of r)
 

@@ -1,4 +1,4 @@
--- The record after a component's value, and a component's refusal. `Y` is the greatest year.
+-- The record after storing a component's value, and a component's error. `Y` is the greatest year.
 use Rattle.std.specs.Prelude.{ℕ, ℤ, Bool, true, false, Option, Some, None, codes}
 use Rattle.std.specs.Option.{option_map}
 use Rattle.time_values.specs.Refusal.{Refusal, component as of_component, trailing}
@@ -14,17 +14,17 @@ abbrev pub is_pm : Period → Bool
 is_pm Am = false
 is_pm Pm = true
 
--- the record with a number put as that entry; a value of another form is none
+-- the record with a number stored as that entry, or none if the value has another form
 abbrev pub put_number : ℕ → (ℕ → Entry) → Value → Record → Option Record
 put_number Y entry (number n) r = put Y (entry n) r
 put_number Y entry value r = None
 
--- the same with a signed number
+-- the record with a signed number stored as that entry
 abbrev pub put_signed : ℕ → (ℤ → Entry) → Value → Record → Option Record
 put_signed Y entry (signed n) r = put Y (entry n) r
 put_signed Y entry value r = None
 
--- with a century and whether a minus stood before it
+-- the record with a century stored, and whether it has a minus
 abbrev pub put_century : ℕ → (ℤ → Bool → Entry) → Value → Record → Option Record
 put_century Y entry (flagged n minus) r = put Y (entry n minus) r
 put_century Y entry value r = None
@@ -33,13 +33,13 @@ put_century Y entry value r = None
 abbrev pub with_offset_sign : Bool → Record → Record
 with_offset_sign minus r = record r { offset_is_negative = minus }
 
--- with an offset's hour, whose sign the flag then tells
+-- the record with an offset's hour stored, and the flag of its sign
 abbrev pub put_offset_hour : ℕ → Value → Record → Option Record
 put_offset_hour Y (flagged n minus) r =
     option_map (with_offset_sign minus) (put Y (offset_hour_is n) r)
 put_offset_hour Y value r = None
 
--- with a month, a weekday or a half of the day
+-- the record with a month, a weekday or a half of the day stored
 abbrev pub put_month : ℕ → Value → Record → Option Record
 put_month Y (month m) r = put Y (month_is m) r
 put_month Y value r = None
@@ -52,7 +52,7 @@ abbrev pub put_period : ℕ → Value → Record → Option Record
 put_period Y (period p) r = put Y (hour_12_is_pm_is (is_pm p)) r
 put_period Y value r = None
 
--- the record with a component's value put, or none where the value is out of range
+-- the record with a component's value stored, or none if the value is out of range
 abbrev pub put_value : ℕ → Component → Value → Record → Option Record
 put_value Y (component.Day m) value r = put_number Y day_is value r
 put_value Y (component.MonthShort m) value r = put_month Y value r
@@ -92,7 +92,7 @@ put_value Y (component.UnixTimestampMicrosecond m) value r = put_signed Y unix_t
 put_value Y (component.UnixTimestampNanosecond m) value r = put_signed Y unix_timestamp_nanos_is value r
 put_value Y (component.End m) value r = Some r
 
--- the refusal of a component that does not read, or whose value is out of range
+-- the error of a component that doesn't match, or whose value is out of range
 abbrev pub component_fault : Component → Refusal
 component_fault (component.Day m) = of_component (codes "day")
 component_fault (component.MonthShort m) = of_component (codes "month")

@@ -1,4 +1,4 @@
--- The fields of a `Parsed` come back from its record.
+-- The fields of a `Parsed` are determined by its record.
 use Rattle.std.specs.Int.{bit_at}
 use Rattle.std.specs.Option.{option_map}
 use Rattle.std.proofs.Common.{◌≡◌, ℕ, zero, suc, ◌+◌, ◌*◌, ◌/◌, ◌%◌, ◌^◌, ◌<◌, ◌≤◌, ◌≤ℤ◌, ℤ, pos, negsuc, neg_ℤ, unsigned_abs, Bool, true, false, cond, Some, None, is_some, List, [], ◌∷◌, length, get_or, drop, eqb, refl, sym, ap, ◌∙◌, arith, add-one}
@@ -14,7 +14,7 @@ use Rattle.time_record.specs.declared.parsed.Parsed.TheInside.{Inside}
 
 -- ---- one cell
 
--- x lies from low to high where its bit is set, and is 0 where it is not: `IsCell` of a cell
+-- x lies from low to high if its bit is set, and else is 0: `IsCell` of a cell
 abbrev Held : ℤ → ℤ → Bool → ℤ → Type 0
 Held low high true x = (low ≤ℤ x) × (x ≤ℤ high)
 Held low high false x = x ≡ pos 0
@@ -79,7 +79,7 @@ bool_back true (pos (suc (suc n))) held = absurd (omega (arith, ints))
 bool_back true (negsuc n) held = absurd (omega (arith, held.0))
 bool_back false x held = sym held
 
--- an option is there where its bit is set
+-- an option is there if its bit is set
 bit_back : (set : Bool) (x : ℤ) → is_some (cond set (Some x) None) ≡ set
 bit_back true x = refl
 bit_back false x = refl
@@ -208,13 +208,13 @@ module _ (mask : ℕ) (bytes shorts words : List ℤ) (stamp : ℤ) where
     pub stamp_back : or_zero seen.unix_timestamp_nanos ≡ stamp
     stamp_back = integer_back (first_instant Y) (last_instant Y) (bit mask 22) stamp (sound.cells 22 (omega arith))
 
--- ---- The fields of a `Parsed` as a record, and back
+-- ---- Converting the fields of a `Parsed` to a record and back
 
--- the record that the fields hold
+-- the record that the fields represent
 unfoldable pub record_of : Inside → Record
 record_of a = build (option_at (bit a.mask) (value_at a.bytes a.shorts a.words a.stamp)) (bit a.mask)
 
--- the fields that hold a record
+-- the fields that represent a record
 unfoldable pub fields_of : Record → Inside
 fields_of r = record {
   mask = mask_of r;
@@ -224,11 +224,11 @@ fields_of r = record {
   stamp = or_zero r.unix_timestamp_nanos;
 }
 
--- the fields keep what is asked of them
+-- the fields satisfy their invariant
 abbrev pub AreSound : ℕ → Inside → Type 0
 AreSound Y a = IsSound Y a.mask a.bytes a.shorts a.words a.stamp
 
--- they come back from their record
+-- converting the fields to their record and back returns them
 pub fields_back : (Y : ℕ) (a : Inside) → AreSound Y a → fields_of (record_of a) ≡ a
 unfolding fields_of record_of
 fields_back Y a sound i = record {

@@ -1,4 +1,4 @@
--- How a tree is read over a record, and why it is not. `Y` is the greatest year.
+-- How a tree is read into a record, and why it isn't. `Y` is the greatest year.
 use Rattle.std.specs.Prelude.{◌≡◌, ℕ, ◌⊎◌, List, ◌++◌, Bool, Some, Result, Ok, Err, false, ◌+◌, ◌-◌, ◌^◌, ◌≤◌, min}
 use Rattle.std.specs.Borrow.{Bor}
 use Rattle.time_values.specs.Refusal.{Refusal, literal as of_literal, refusal_of_description}
@@ -11,7 +11,7 @@ use Rattle.time_components.specs.declared.modifier.Ignore.{Ignore as Ignore'}
 use Rattle.time_record.specs.Components.{component_fault, put_value}
 use Rattle.time_record.specs.Record.{Record}
 
--- A text in front spells the component, and its value is put into the record.
+-- A text at the start spells the component, and its value is stored in the record.
 pub record ReadsComponent (Y : ℕ) (whole : Bool) (c : Component)
     (bytes : List ℕ) (r : Record) (rest : List ℕ) (r' : Record) : Type 0 where
   pub text : List ℕ
@@ -25,7 +25,7 @@ abbrev pub HasNone : (List ℕ → Record → Type 0) → Type 0
 HasNone P = (rest : List ℕ) (r' : Record) → P rest r' → ⊥
 
 unfoldable mutual
-  -- The tree reads the bytes over the record, up to the rest, and leaves the new record.
+  -- The tree reads the bytes up to the rest, and changes the first record to the second.
   pub Reads : ℕ → Tree → List ℕ → Record → List ℕ → Record → Type 0
   Reads Y (literal t) bytes r rest r' = (bytes ≡ t ++ rest) × (r' ≡ r)
   Reads Y (component whole c) bytes r rest r' = ReadsComponent Y whole c bytes r rest r'
@@ -35,28 +35,28 @@ unfoldable mutual
   Reads Y (first_of none) bytes r rest r' = (rest ≡ bytes) × (r' ≡ r)
   Reads Y (first_of (more t ts)) bytes r rest r' = ReadsSome Y (more t ts) bytes r rest r'
 
-  -- each of the trees in turn, on the rest and the record of the one before
+  -- each of the trees in turn, from the rest and the record of the one before
   pub ReadsAll : ℕ → Trees → List ℕ → Record → List ℕ → Record → Type 0
   ReadsAll Y none bytes r rest r' = (rest ≡ bytes) × (r' ≡ r)
   ReadsAll Y (more t ts) bytes r rest r' =
       (mid : List ℕ) × (q : Record) × Reads Y t bytes r mid q × ReadsAll Y ts mid q rest r'
 
-  -- one of the trees, where none before it reads anything
+  -- the first of the trees that reads anything
   pub ReadsSome : ℕ → Trees → List ℕ → Record → List ℕ → Record → Type 0
   ReadsSome Y none bytes r rest r' = ⊥
   ReadsSome Y (more t ts) bytes r rest r' =
       Reads Y t bytes r rest r' ⊎ (HasNone (Reads Y t bytes r) × ReadsSome Y ts bytes r rest r')
 
--- The tree reads nothing of the bytes over the record.
+-- The tree reads nothing of the bytes with this record.
 abbrev pub NoReading : ℕ → Tree → List ℕ → Record → Type 0
 NoReading Y t bytes r = HasNone (Reads Y t bytes r)
 
--- the same for trees in turn
+-- trees in turn read nothing of the bytes with this record
 abbrev pub NoReadingAll : ℕ → Trees → List ℕ → Record → Type 0
 NoReadingAll Y ts bytes r = HasNone (ReadsAll Y ts bytes r)
 
 unfoldable mutual
-  -- the refusal of a tree that reads nothing; of alternatives that of the first
+  -- the error of a tree that reads nothing; for alternatives that of the first
   pub IsFault : ℕ → Tree → List ℕ → Record → Refusal → Type 0
   IsFault Y (literal t) bytes r e = e ≡ of_literal
   IsFault Y (component whole c) bytes r e = e ≡ component_fault c
@@ -65,26 +65,26 @@ unfoldable mutual
   IsFault Y (first_of none) bytes r e = ⊥
   IsFault Y (first_of (more t ts)) bytes r e = IsFault Y t bytes r e
 
-  -- of trees in turn that of the first one that reads nothing, on what those before it left
+  -- for trees in turn the error of the first one that reads nothing, after those before it
   pub IsFaultAll : ℕ → Trees → List ℕ → Record → Refusal → Type 0
   IsFaultAll Y none bytes r e = ⊥
   IsFaultAll Y (more t ts) bytes r e =
       (NoReading Y t bytes r × IsFault Y t bytes r e)
       ⊎ ((mid : List ℕ) × (q : Record) × Reads Y t bytes r mid q × IsFaultAll Y ts mid q e)
 
--- The tree reads nothing, and is refused as this.
+-- The tree reads nothing, and this is its error.
 pub record Refuses (Y : ℕ) (t : Tree) (bytes : List ℕ) (r : Record) (e : Refusal) : Type 0 where
   pub unread : NoReading Y t bytes r
   pub fault : IsFault Y t bytes r e
 
--- the same for trees in turn
+-- Trees in turn read nothing, and this is their error.
 pub record RefusesAll (Y : ℕ) (ts : Trees) (bytes : List ℕ) (r : Record) (e : Refusal) : Type 0 where
   pub unread : NoReadingAll Y ts bytes r
   pub fault : IsFaultAll Y ts bytes r e
 
--- ---- What reading a tree answers. `Y` is the greatest year.
+-- ---- The results of reading a tree. `Y` is the greatest year.
 
--- the rest and the record of the tree's reading; or, where it has none, its fault and the record as it was
+-- the rest and the record of the tree's reading; or, without a reading, the error and the unchanged record
 abbrev pub Answers :
     ℕ → Tree → List ℕ → Record → Result (Bor (List ℕ)) ParseFromDescription → Record → Type 0
 Answers Y t bytes r (Ok rest) r' = Reads Y t bytes r rest.now r'
@@ -92,14 +92,14 @@ Answers Y t bytes r (Err e) r' = Refuses Y t bytes r (refusal_of_description e) 
 
 -- ---- Readings that leave each character whole. `Y` is the greatest year.
 
--- a component; where it is an `Ignore`, what it leaves begins with a whole character
+-- a component; if it is an `Ignore`, its rest begins with a whole character
 abbrev pub CleanComponent : ℕ → Component → List ℕ → Record → Type 0
 CleanComponent Y c bytes r =
     (modifiers : Ignore') (rest : List ℕ) (q : Record)
     → c ≡ Ignore modifiers → ReadsComponent Y false c bytes r rest q → BeginsCharacter rest
 
 unfoldable mutual
-  -- of the items that are begun to read the tree, no `Ignore` ends inside a character
+  -- no `Ignore` among the items visited in reading the tree ends inside a character
   pub Clean : ℕ → Tree → List ℕ → Record → Type 0
   Clean Y (literal t) bytes r = Unit {0}
   Clean Y (component whole c) bytes r = CleanComponent Y c bytes r
@@ -107,13 +107,13 @@ unfoldable mutual
   Clean Y (optional t) bytes r = Clean Y t bytes r
   Clean Y (first_of ts) bytes r = CleanFirst Y ts bytes r
 
-  -- of trees in turn, up to and with the first that reads nothing
+  -- for trees in turn, up to and with the first that reads nothing
   pub CleanAll : ℕ → Trees → List ℕ → Record → Type 0
   CleanAll Y none bytes r = Unit {0}
   CleanAll Y (more t ts) bytes r =
       Clean Y t bytes r × ((mid : List ℕ) (q : Record) → Reads Y t bytes r mid q → CleanAll Y ts mid q)
 
-  -- of alternatives, up to and with the first that reads something
+  -- for alternatives, up to and with the first that reads something
   pub CleanFirst : ℕ → Trees → List ℕ → Record → Type 0
   CleanFirst Y none bytes r = Unit {0}
   CleanFirst Y (more t ts) bytes r =
@@ -132,7 +132,7 @@ abbrev mutual
   unmarked_all none = none
   unmarked_all (more t ts) = more (unmarked t) (unmarked_all ts)
 
--- ---- How many items a reading begins, and how many there are. `Y` is the greatest year.
+-- ---- How many items a reading visits, and how many there are. `Y` is the greatest year.
 
 -- the number of nodes
 abbrev mutual
@@ -148,7 +148,7 @@ abbrev mutual
   places_of_all (more t ts) = places t + places_of_all ts
 
 unfoldable mutual
-  -- To read the tree, or to see that it reads nothing, this many items are begun.
+  -- Reading the tree, or finding that it reads nothing, visits this many items.
   pub Begins : ℕ → Tree → List ℕ → Record → ℕ → Type 0
   Begins Y (literal t) bytes r n = n ≡ 1
   Begins Y (component whole c) bytes r n = n ≡ 1
@@ -156,35 +156,35 @@ unfoldable mutual
   Begins Y (optional t) bytes r n = (k : ℕ) × Begins Y t bytes r k × (n ≡ 1 + k)
   Begins Y (first_of ts) bytes r n = (k : ℕ) × BeginsFirst Y ts bytes r k × (n ≡ 1 + k)
 
-  -- of trees in turn, up to and with the first that reads nothing
+  -- for trees in turn, up to and with the first that reads nothing
   pub BeginsAll : ℕ → Trees → List ℕ → Record → ℕ → Type 0
   BeginsAll Y none bytes r n = n ≡ 0
   BeginsAll Y (more t ts) bytes r n =
       (k : ℕ) × Begins Y t bytes r k × ((NoReading Y t bytes r × (n ≡ k))
       ⊎ ((mid : List ℕ) × (q : Record) × Reads Y t bytes r mid q × (m : ℕ) × BeginsAll Y ts mid q m × (n ≡ k + m)))
 
-  -- of alternatives, up to and with the first that reads something
+  -- for alternatives, up to and with the first that reads something
   pub BeginsFirst : ℕ → Trees → List ℕ → Record → ℕ → Type 0
   BeginsFirst Y none bytes r n = n ≡ 0
   BeginsFirst Y (more t ts) bytes r n =
       (k : ℕ) × Begins Y t bytes r k × (((mid : List ℕ) × (q : Record) × Reads Y t bytes r mid q × (n ≡ k))
       ⊎ (NoReading Y t bytes r × (m : ℕ) × BeginsFirst Y ts bytes r m × (n ≡ k + m)))
 
--- a count and so many more, where it doesn't pass the greatest number of 64 bits
+-- a count plus a number, at most the greatest number of 64 bits
 abbrev pub raised : ℕ → ℕ → ℕ
 raised old n = old + min n (2 ^ 64 - 1 - old)
 
--- The count rises by the number that is begun, which is at most that many.
+-- The count rises by the number of items visited, which is at most that many.
 pub record Rises (is_begun : ℕ → Type 0) (most old new : ℕ) : Type 0 where
   pub begun : ℕ
   pub begins : is_begun begun
   pub within : begun ≤ most
   pub rises : new ≡ raised old begun
 
--- The count rises by what the tree begins, at most its places.
+-- The count rises by the number of items that the tree visits, at most its number of nodes.
 abbrev pub Counts : ℕ → Tree → List ℕ → Record → ℕ → ℕ → Type 0
 Counts Y t bytes r = Rises (Begins Y t bytes r) (places t)
 
--- the same for trees in turn, which are no place themselves
+-- The count rises by the number of items that trees in turn visit, without the list itself.
 abbrev pub CountsAll : ℕ → Trees → List ℕ → Record → ℕ → ℕ → Type 0
 CountsAll Y ts bytes r = Rises (BeginsAll Y ts bytes r) (places_of_all ts)

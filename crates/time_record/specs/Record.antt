@@ -1,11 +1,11 @@
--- What a reading of a date and time leaves: 23 options and four flags. `Y` is the greatest year.
+-- The components that were parsed of a date and time: 23 options and four flags. `Y` is the greatest year.
 use Rattle.std.specs.Prelude.{◌≡◌, ℕ, ◌/◌, List, [], ◌∷◌, ℤ, pos, unsigned_abs, option_and_then, Bool, true, false, Option, Some, None, IfSome, IsTrue, nat_le, int_lt, if◌then◌else◌}
 use Rattle.time_values.specs.declared.month.Month.{Month}
 use Rattle.time_values.specs.declared.weekday.Weekday.{Weekday}
 use Rattle.time_values.specs.Dates.{is_within}
 use Rattle.time_values.specs.Instants.{is_instant}
 
--- what was read: an option for each component, and the flags
+-- the record: an option for each component, and the flags
 pub record Record : Type 0 where
   pub year : Option ℤ
   pub year_century : Option ℤ
@@ -35,7 +35,7 @@ pub record Record : Type 0 where
   pub iso_year_century_is_negative : Bool
   pub leap_second_allowed : Bool
 
--- nothing was read, and no flag stands
+-- the record without components, with no flag set
 abbrev pub empty : Record
 empty = record {
   year = None;
@@ -67,7 +67,7 @@ empty = record {
   leap_second_allowed = false;
 }
 
--- a value for one option; a century comes with whether it is negative, which counts where it is 0
+-- a value for one option; a century comes with whether it is negative, which counts if it is 0
 pub data Entry : Type 0 where
   year_is : ℤ → Entry
   year_century_is : ℤ → Bool → Entry
@@ -93,7 +93,7 @@ pub data Entry : Type 0 where
   offset_second_is : ℤ → Entry
   unix_timestamp_nanos_is : ℤ → Entry
 
--- whether the value is one that its option may hold
+-- whether the value is in the range of its option
 abbrev pub in_range : ℕ → Entry → Bool
 in_range Y (year_is v) = nat_le (unsigned_abs v) Y
 in_range Y (year_century_is v is_negative) = nat_le (unsigned_abs v) (Y / 100)
@@ -119,16 +119,16 @@ in_range Y (offset_minute_is v) = nat_le (unsigned_abs v) 59
 in_range Y (offset_second_is v) = nat_le (unsigned_abs v) 59
 in_range Y (unix_timestamp_nanos_is v) = is_instant Y v
 
--- the same, as a fact
+-- the value is in the range of its option
 abbrev pub InRange : ℕ → Entry → Type 0
 InRange Y entry = IsTrue (in_range Y entry)
 
--- whether a century is negative: by its sign, or where it is 0 as given
+-- whether a century is negative: by its sign, or, if it is 0, by the flag
 abbrev pub century_sign : ℤ → Bool → Bool
 century_sign v is_negative =
     if int_lt v (pos 0) then true else (if int_lt (pos 0) v then false else is_negative)
 
--- the record with that option replaced, and with a century its flag
+-- the record with that option replaced, and for a century its flag
 abbrev pub put_here : Entry → Record → Record
 put_here (year_is v) r = record r { year = Some v }
 put_here (year_century_is v is_negative) r =
@@ -156,16 +156,16 @@ put_here (offset_minute_is v) r = record r { offset_minute = Some v }
 put_here (offset_second_is v) r = record r { offset_second = Some v }
 put_here (unix_timestamp_nanos_is v) r = record r { unix_timestamp_nanos = Some v }
 
--- the record with the entry put, or none where its value is out of range
+-- the record with the entry stored, or none if its value is out of range
 abbrev pub put : ℕ → Entry → Record → Option Record
 put Y entry r = if in_range Y entry then Some (put_here entry r) else None
 
--- the record with the entries put one after another, or none where a value is out of range
+-- the record with the entries stored one after another, or none if a value is out of range
 abbrev pub put_all : ℕ → List Entry → Record → Option Record
 put_all Y [] r = Some r
 put_all Y (entry ∷ entries) r = option_and_then (put_all Y entries) (put Y entry r)
 
--- each value that is there is one that its option may hold
+-- each value that is there is in the range of its option
 pub record IsInRanges (Y : ℕ) (r : Record) : Type 0 where
   pub year : IfSome r.year (λ v. InRange Y (year_is v))
   pub year_century : IfSome r.year_century (λ v. InRange Y (year_century_is v false))
@@ -188,7 +188,7 @@ pub record IsInRanges (Y : ℕ) (r : Record) : Type 0 where
   pub offset_second : IfSome r.offset_second (λ v. InRange Y (offset_second_is v))
   pub unix_timestamp_nanos : IfSome r.unix_timestamp_nanos (λ v. InRange Y (unix_timestamp_nanos_is v))
 
--- a setter's answer and the record after it: the record to be set, or where there is none the old one
+-- a setter's result and the record after it: the record with the value, or, if the value is rejected, the old one
 abbrev pub Sets : Option Record → Record → Option (Unit {0}) → Record → Type 0
 Sets (Some r) old (Some _) new = new ≡ r
 Sets None old None new = new ≡ old

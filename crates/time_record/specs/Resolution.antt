@@ -1,4 +1,4 @@
--- The values that a record's components make, by a fixed precedence. `Y` is the greatest year.
+-- Converting a record to values, by a fixed precedence of its components. `Y` is the greatest year.
 use Rattle.std.specs.Prelude.{◌≡◌, ℕ, ℤ, pos, ◌+ℤ◌, ◌-ℤ◌, ◌*ℤ◌, Bool, true, false, if◌then◌else◌, Option, Some, None, Result, MatchResult, codes, ◌+◌, ◌%◌, ◌==◌, ◌&&◌, IsTrue, unwrap_or, Ok, Err, MatchOption, IsOkAnd, ◌⊎◌}
 use Rattle.std.specs.Option.{option_or, option_map, option_map_or, option_and_then}
 use Rattle.time_values.specs.declared.date.Date.{Date}
@@ -24,9 +24,9 @@ use Rattle.time_values.specs.Times.{HasClock, HasSecond, time_refusal}
 use Rattle.time_values.specs.Sign.{signed_by}
 use Rattle.time_record.specs.Record.{Record}
 
--- ---- The date that a record's components give. `Y` is the greatest year.
+-- ---- The date of a record's components. `Y` is the greatest year.
 
--- the year; or, where it is missing, that of a century and its last two digits, which count away from 0
+-- the year; or, if it is missing, that of a century and its last two digits, which count away from 0
 abbrev pub year_of : Option ℤ → Option ℤ → Bool → Option ℕ → Option ℤ
 year_of (Some y) century is_negative last_two = Some y
 year_of None (Some c) true (Some n) = Some (pos 100 *ℤ c -ℤ pos n)
@@ -43,8 +43,8 @@ abbrev pub full_iso_year : Record → Option ℤ
 full_iso_year r =
     year_of r.iso_year r.iso_year_century r.iso_year_century_is_negative r.iso_year_last_two
 
--- numbers that name one day: a year and the day's number in it; a year, month and day; or a year,
--- a week, as ISO 8601 counts them or from Sundays or Mondays, and a weekday
+-- numbers that determine one day: a year and the day of the year; a year, month and day; or a year, a week, as ISO 8601
+-- counts them or from Sundays or Mondays, and a weekday
 pub data Row : Type 0 where
   by_ordinal : ℤ → ℕ → Row
   by_month_and_day : ℤ → Month → ℕ → Row
@@ -52,13 +52,13 @@ pub data Row : Type 0 where
   by_sunday_week : ℤ → ℕ → Weekday → Row
   by_monday_week : ℤ → ℕ → Weekday → Row
 
--- a row of two numbers, where both are known
+-- a row of two numbers, if both are known
 abbrev pub row_of_two : {A B : Type 0} → (A → B → Row) → Option A → Option B → Option Row
 row_of_two row (Some a) (Some b) = Some (row a b)
 row_of_two row (Some a) None = None
 row_of_two row None b = None
 
--- and of three
+-- a row of three numbers, if all are known
 abbrev pub row_of_three :
     {A B C : Type 0} → (A → B → C → Row) → Option A → Option B → Option C → Option Row
 row_of_three row (Some a) (Some b) (Some c) = Some (row a b c)
@@ -75,8 +75,8 @@ first_row r =
     (option_or (row_of_three by_sunday_week (full_year r) r.sunday_week_number r.weekday)
     (row_of_three by_monday_week (full_year r) r.monday_week_number r.weekday))))
 
--- the date lies in that year and week and has that weekday, where weeks begin on the weekday
--- `start`, and the days before the first such weekday are week 0
+-- the date lies in that year and week and has that weekday, if weeks begin on the weekday `start`, and the days before
+-- the first such weekday are week 0
 abbrev pub IsWeekDate : ℕ → ℕ → ℤ → ℕ → ℕ → Date → Type 0
 IsWeekDate Y start year week w d =
     (Dates.year d ≡ year) × (weekdays_so_far Y start d ≡ week) × (weekday Y d ≡ w) × IsDateWithin Y d
@@ -89,7 +89,7 @@ HasRow Y (by_iso_week year week w) d = IsIsoDate Y year week (days_from_monday w
 HasRow Y (by_sunday_week year week w) d = IsWeekDate Y 6 year week (days_from_monday w) d
 HasRow Y (by_monday_week year week w) d = IsWeekDate Y 0 year week (days_from_monday w) d
 
--- the refusal where no date has the numbers of the row
+-- the error if no date has the numbers of the row
 abbrev pub row_refusal : ℕ → Row → Refusal
 row_refusal Y (by_ordinal year n) = range (codes "ordinal") true
 row_refusal Y (by_month_and_day year month day) = range (codes "day") true
@@ -99,30 +99,30 @@ row_refusal Y (by_iso_week year week w) =
 row_refusal Y (by_sunday_week year week w) = range (codes "ordinal") true
 row_refusal Y (by_monday_week year week w) = range (codes "ordinal") true
 
--- the date of a row, or its refusal where there is none
+-- the date of a row, or the row's error if no date has its numbers
 abbrev pub IsRowDate : ℕ → Row → Result Date Refusal → Type 0
 IsRowDate Y row result = MatchResult result (HasRow Y row)
     (λ e. ((d : Date) → HasRow Y row d → ⊥) × (e ≡ row_refusal Y row))
 
--- a conversion's result, with what its error says
+-- a conversion's result, with the content of its error
 abbrev pub parsed_seen : {V : Type 0} → Result V TryFromParsed → Result V Refusal
 parsed_seen (Ok v) = Ok v
 parsed_seen (Err e) = Err (refusal_of_parsed e)
 
--- a value with P, or where something is refused that refusal
+-- a value with P, or the given error
 abbrev pub IsConstructed : {V : Type 0} → Option Refusal → (V → Type 0) → Result V Refusal → Type 0
 IsConstructed None P (Ok v) = P v
 IsConstructed None P (Err e) = ⊥
 IsConstructed (Some r) P (Ok v) = ⊥
 IsConstructed (Some r) P (Err e) = e ≡ r
 
--- one step and then the next: the refusal of the first, or what the next makes of the value
+-- one step and then the next: the error of the first, or the result of the next for the first one's value
 abbrev pub Then : {A B : Type 0} →
     (Result A Refusal → Type 0) → (A → Result B Refusal → Type 0) → Result B Refusal → Type 0
 Then {A} First Next result =
     ((e : Refusal) × First (Err e) × (result ≡ Err e)) ⊎ ((a : A) × First (Ok a) × Next a result)
 
--- the date of a record: that of its first row; without a row the information is insufficient
+-- the date of a record: that of its first row; without a row the error is insufficient information
 unfoldable pub IsDated : ℕ → Record → Result Date Refusal → Type 0
 IsDated Y r result =
     MatchOption (first_row r) (result ≡ Err insufficient) (λ row. IsRowDate Y row result)
@@ -133,14 +133,14 @@ hour_of_half (Some h) (Some is_pm) = Some (if is_pm then h % 12 + 12 else h % 12
 hour_of_half (Some h) None = None
 hour_of_half None is_pm = None
 
--- a time's numbers
+-- the numbers of a time
 pub record Clock : Type 0 where
   pub hour : ℕ
   pub minute : ℕ
   pub second : ℕ
   pub nanosecond : ℕ
 
--- a time of that hour: a second needs a minute, a subsecond a second, and what is missing is 0
+-- a time of that hour: a second needs a minute, a subsecond a second, and missing parts are 0
 abbrev pub clock_at : ℕ → Option ℕ → Option ℕ → Option ℕ → Option Clock
 clock_at h None None None = Some (record { hour = h; minute = 0; second = 0; nanosecond = 0 })
 clock_at h (Some m) None None = Some (record { hour = h; minute = m; second = 0; nanosecond = 0 })
@@ -152,7 +152,7 @@ clock_at h m s n = None
 abbrev pub hour_of : Record → Option ℕ
 hour_of r = option_or r.hour_24 (hour_of_half r.hour_12 r.hour_12_is_pm)
 
--- the numbers of a record's time, where they are sufficient
+-- the numbers of a record's time, if they are sufficient
 abbrev pub clock_of : Record → Option Clock
 clock_of r = option_and_then (λ h. clock_at h r.minute r.second r.subsecond) (hour_of r)
 
@@ -162,29 +162,29 @@ IsTimed r result = MatchOption (clock_of r) (result ≡ Err insufficient)
     (λ c. IsConstructed (time_refusal c.hour c.minute c.second c.nanosecond)
     (HasClock c.hour c.minute c.second c.nanosecond) result)
 
--- a part of an offset, with the sign that its getter gives it, or 0
+-- a part of an offset, with the sign that its getter returns, or 0
 abbrev pub offset_part : Record → Option ℤ → ℤ
 offset_part r part = unwrap_or (option_map (signed_by r.offset_is_negative) part) (pos 0)
 
--- the seconds of an offset, which count only where its minutes are known
+-- the seconds of an offset, which count only if its minutes are known
 abbrev pub offset_seconds_of : Record → ℤ
 offset_seconds_of r = option_map_or (λ _. offset_part r r.offset_second) r.offset_minute (pos 0)
 
--- the offset of a record; without an hour, `Missing` says what it is
+-- the offset of a record; without an hour, `Missing` defines the result
 abbrev pub IsOffsetOr : (Result UtcOffset Refusal → Type 0) → Record → Result UtcOffset Refusal → Type 0
 IsOffsetOr Missing r result = MatchOption r.offset_hour (Missing result)
     (λ h. let m = offset_part r r.offset_minute in let s = offset_seconds_of r in
     IsConstructed (offset_refusal h m s) (HasOffset h m s) result)
 
--- the offset of a record; without an hour the information is insufficient
+-- the offset of a record; without an hour the error is insufficient information
 unfoldable pub IsOffset : Record → Result UtcOffset Refusal → Type 0
 IsOffset r = IsOffsetOr (λ result. result ≡ Err insufficient) r
 
--- the same; without an hour it is UTC
+-- the offset of a record; without an hour it is UTC
 unfoldable pub IsOffsetOrUtc : Record → Result UtcOffset Refusal → Type 0
 IsOffsetOrUtc r = IsOffsetOr (λ result. IsOkAnd result IsUtc) r
 
--- the date and the time of a record, and where both are refused the date's refusal
+-- the date and the time of a record, or the first error of the two, the date's first
 unfoldable pub IsPlain : ℕ → Record → Result PlainDateTime Refusal → Type 0
 IsPlain Y r = Then (IsDated Y r) (λ d. Then (IsTimed r)
     (λ t result. IsOkAnd result (λ p. (plain_date p ≡ d) × (plain_time p ≡ t))))
@@ -199,17 +199,17 @@ IsStamped Y n subsecond date time =
 abbrev pub is_leap_second : Record → Bool
 is_leap_second r = r.leap_second_allowed && option_map_or (λ s. s == 60) r.second false
 
--- the record with the last nanosecond before a leap second in its place
+-- the record with a leap second replaced by the last nanosecond before it
 abbrev pub stand_in : Record → Record
 stand_in r =
     if is_leap_second r then record r { second = Some 59; subsecond = Some 999_999_999 } else r
 
--- a value with P; or, where a leap second stands elsewhere than at a month's end, its refusal
+-- a value with P; or, for a leap second that isn't at a month's end, its error
 abbrev pub Judged : {V : Type 0} → Bool → Type 0 → (V → Type 0) → Result V Refusal → Type 0
 Judged leap AtEnd P (Ok v) = P v × (IsTrue leap → AtEnd)
 Judged leap AtEnd P (Err e) = IsTrue leap × (AtEnd → ⊥) × (e ≡ range (codes "second") true)
 
--- the moment of a date, a time and an offset, with their refusals in that order
+-- the moment of a date, a time and an offset, or their first error, in that order
 unfoldable pub IsMomentOfParts : ℕ → Record → Result OffsetDateTime Refusal → Type 0
 IsMomentOfParts Y r = Then (IsDated Y r) (λ d. Then (IsTimed (stand_in r)) (λ t. Then (IsOffset r)
     (λ o. Judged (is_leap_second r) (IsLeapSecondMoment Y (instant Y d t o))
@@ -221,12 +221,12 @@ IsMoment Y r result = MatchOption r.unix_timestamp_nanos (IsMomentOfParts Y r re
     (λ n. IsOkAnd result
     (λ v. IsStamped Y n r.subsecond (offset_date v) (offset_time v) × IsUtc (offset_of v)))
 
--- the date and time in UTC of an instant, refused where it is beyond the dates
+-- the date and time in UTC of an instant, or the error of one outside the range of dates
 abbrev pub IsInUtc : ℕ → ℤ → Result UtcDateTime Refusal → Type 0
 IsInUtc Y n (Ok u) = (utc_instant Y u ≡ n) × IsDateWithin Y (utc_date u)
 IsInUtc Y n (Err e) = (IsInstant Y n → ⊥) × (e ≡ range (codes "year") true)
 
--- the moment in UTC of a date, a time and an offset, with their refusals and then its own
+-- the moment in UTC of a date, a time and an offset, or their first error, in that order, and then its own
 unfoldable pub IsUtcMomentOfParts : ℕ → Record → Result UtcDateTime Refusal → Type 0
 IsUtcMomentOfParts Y r = Then (IsDated Y r) (λ d. Then (IsTimed (stand_in r)) (λ t. Then (IsOffsetOrUtc r)
     (λ o. Then (IsInUtc Y (instant Y d t o))
@@ -238,7 +238,7 @@ unfoldable pub IsUtcMoment : ℕ → Record → Result UtcDateTime Refusal → T
 IsUtcMoment Y r result = MatchOption r.unix_timestamp_nanos (IsUtcMomentOfParts Y r result)
     (λ n. IsOkAnd result (λ v. IsStamped Y n r.subsecond (utc_date v) (utc_time v)))
 
--- the instant of that moment in UTC; each of its refusals says that the information is insufficient
+-- the instant of that moment in UTC; each of its errors is replaced by insufficient information
 unfoldable pub IsInstantOfParts : ℕ → Record → Result Timestamp Refusal → Type 0
 IsInstantOfParts Y r (Ok v) =
     (u : UtcDateTime) × IsUtcMomentOfParts Y r (Ok u) × (nanoseconds v ≡ utc_instant Y u)

@@ -1,6 +1,6 @@
 -- No public contract rests on this file.
 --
--- What a walk over trees in turn does. `Y` is the greatest year.
+-- Walks over trees in turn. `Y` is the greatest year.
 use Rattle.std.specs.Prelude.{◌≡◌, ℕ, ◌+◌, ◌<◌, List, ◌∷◌, length, drop, Option, Some, None}
 use Rattle.std.specs.Borrow.{Bor}
 use Rattle.time_values.specs.Refusal.{Refusal, literal as of_literal}
@@ -10,43 +10,44 @@ use Rattle.time_record.specs.Reading.{places_of_all, BeginsAll, BeginsFirst, Ris
 use Rattle.time_record.specs.Components.{component_fault}
 use Rattle.time_record.specs.Record.{Record}
 
--- What the trees that are left answer, all of them answer: those before them were read, and so many items begun.
+-- The result of reading the trees that are left is that of reading all: those before them were read, and the number of
+-- items visited so far is added.
 pub record Goes (Y : ℕ) (all : Trees) (b0 : List ℕ) (r0 : Record) (begun : ℕ) (left : Trees) (b : List ℕ)
     (r : Record) : Type 0 where
   pub reads : (rest : List ℕ) (q : Record) → ReadsAll Y left b r rest q → ReadsAll Y all b0 r0 rest q
   pub refuses : (e : Refusal) → RefusesAll Y left b r e → RefusesAll Y all b0 r0 e
   pub begins : (m : ℕ) → BeginsAll Y left b r m → BeginsAll Y all b0 r0 (begun + m)
 
--- The count rises by what alternatives begin, at most their places.
+-- The count rises by the number of items that alternatives visit, at most their number of nodes.
 abbrev pub CountsFirst : ℕ → Trees → List ℕ → Record → ℕ → ℕ → Type 0
 CountsFirst Y ts bytes r = Rises (BeginsFirst Y ts bytes r) (places_of_all ts)
 
--- That byte and these steps after it are the steps, of which the first one is a further byte of a literal.
+-- The steps are that byte, as a further byte of a literal, and these steps after it.
 pub record IsFurther (byte : ℕ) (behind steps : List Step) : Type 0 where
   pub further : further_bytes steps ≡ byte ∷ further_bytes behind
   pub after : drop (length (further_bytes behind)) behind ≡ drop (length (further_bytes steps)) steps
   pub fewer : length behind < length steps
 
--- ---- What an attempt to read a tree answers. `Y` is the greatest year.
+-- ---- The results of an attempt to read a tree. `Y` is the greatest year.
 
--- The tree has no reading, and the record is as it was.
+-- The tree has no reading, and the record is unchanged.
 pub record Unread (Y : ℕ) (t : Tree) (bytes : List ℕ) (r r' : Record) : Type 0 where
   pub unread : NoReading Y t bytes r
   pub same : r' ≡ r
 
--- the rest and the record of the tree's reading; or it has none, and the record is as it was
+-- the rest and the record of the tree's reading; or no reading, and the unchanged record
 abbrev pub Attempts : ℕ → Tree → List ℕ → Record → Option (Bor (List ℕ)) → Record → Type 0
 Attempts Y t bytes r (Some rest) r' = Reads Y t bytes r rest.now r'
 Attempts Y t bytes r None r' = Unread Y t bytes r r'
 
--- ---- What the short cuts of the walk answer. `Y` is the greatest year.
+-- ---- The results of the walk's short cuts. `Y` is the greatest year.
 
--- the rest and the record of a reading; or it isn't read here, and the record is as it was
+-- the rest and the record of a reading; or the short cut doesn't apply, and the record is unchanged
 abbrev pub MayRead : ℕ → Tree → List ℕ → Record → Option (Bor (List ℕ)) → Record → Type 0
 MayRead Y t bytes r (Some rest) r' = Reads Y t bytes r rest.now r'
 MayRead Y t bytes r None r' = r' ≡ r
 
--- the reading or the refusal of a tree; or it isn't tried, and the record is unchanged
+-- the reading of a tree, or no reading; or the short cut doesn't apply, and the record is unchanged
 abbrev pub MayAttempt : ℕ → Tree → List ℕ → Record → Option (Option (Bor (List ℕ))) → Record → Type 0
 MayAttempt Y t bytes r (Some read) r' = Attempts Y t bytes r read r'
 MayAttempt Y t bytes r None r' = r' ≡ r
@@ -57,12 +58,12 @@ IsLeaf (literal t) = Unit {0}
 IsLeaf (component whole c) = Unit {0}
 IsLeaf t = ⊥
 
--- the fault of a literal or a component that is refused
+-- the error of a literal or a component that doesn't match
 abbrev pub leaf_refusal : Tree → Refusal
 leaf_refusal (component whole c) = component_fault c
 leaf_refusal t = of_literal
 
--- The first of the trees is a leaf, and refused.
+-- The first of the trees is a leaf, and doesn't match.
 pub record RefusesLeaf (Y : ℕ) (ts : Trees) (bytes : List ℕ) (r : Record) (e : Refusal) : Type 0 where
   pub leaf : Tree
   pub later : Trees

@@ -1,4 +1,4 @@
-//! What a reading of a date and time leaves, and the value that it makes.
+//! The components that were parsed of a date and time, and the value that they make.
 #![tactic(auto)]
 
 mod format_item;

@@ -1,4 +1,4 @@
-//! What a reading of a date and time leaves.
+//! The components that were parsed of a date and time.
 ghost use Rattle.std.specs.Prelude.{◌≡◌, true, false};
 ghost use Rattle.time_record.specs.Record.{empty};
 
@@ -18,17 +18,16 @@ use cells::{
 use std::fmt;
 use std::marker::Model;
 
-/// The components of a date and time, as far as they are known.
+/// The known components of a date and time.
 ///
-/// A format fills it, and `TryFrom` makes a value of it; for control over either, fill or read it
-/// by hand. For each component there is a getter, a setter `set_..` and a builder `with_..`. A
-/// setter answers `None` and changes nothing where the value is out of range, and a builder then
-/// answers `None`.
+/// A format fills it, and `TryFrom` converts it to a value. To control either, fill or read it by hand. Each component
+/// has a getter, a setter `set_..` and a builder `with_..`. If the value is out of range, a setter returns `None` and
+/// changes nothing, and a builder returns `None`.
 #[derive(Clone, Copy)]
 pub struct Parsed {
-    // Which options are there, and the flags.
+    // One bit for each option that is set, and the flags.
     mask: u32,
-    // The values of the options, or 0, by size.
+    // The values of the options by size, or 0.
     bytes: [i8; 16],
     shorts: [i16; 3],
     words: [i32; 3],
@@ -55,7 +54,7 @@ impl Model for Parsed {
 impl Default for Parsed {
     ghost is_default = { λ r. r ≡ empty };
 
-    /// Nothing is known, as by `Parsed::new`.
+    /// An empty record, as from `Parsed::new`.
     #[inline]
     fn default() -> Parsed {
         Parsed::new()
@@ -63,7 +62,7 @@ impl Default for Parsed {
 }
 
 impl Parsed {
-    /// Nothing is known, and no flag stands.
+    /// The empty record: no component is known, and no flag is set.
     #[inline]
     #[tactic(auto, unfolding(crate::specs::Inverse::record_of))]
     pub fn new() -> Parsed
@@ -78,8 +77,8 @@ impl Parsed {
         }
     }
 
-    /// Lets a second of 60 stand for a leap second, as some formats do: a date and time then takes
-    /// it as the last nanosecond before, at the end of a month in UTC.
+    /// Allows a second of 60 as a leap second, as some formats do. A date and time then resolves it, at the end of a
+    /// month in UTC, to the last nanosecond before it.
     #[inline]
     pub fn allow_leap_second(&mut self)
         ensures { self.new ≡ record self.old { leap_second_allowed = true } }
@@ -87,7 +86,7 @@ impl Parsed {
         self.set_flag(LEAP_SECOND_ALLOWED, true);
     }
 
-    // Whether a second of 60 may stand for a leap second.
+    // Whether a second of 60 may be a leap second.
     #[inline]
     fn is_leap_second_allowed(&self) -> bool
         ensures { result ≡ self.now.leap_second_allowed }
@@ -95,7 +94,7 @@ impl Parsed {
         self.flag(LEAP_SECOND_ALLOWED)
     }
 
-    /// Clears the flag of a negative offset, which a reading of an offset's hour sets.
+    /// Clears the flag of a negative offset, which parsing an offset's hour sets.
     #[inline]
     pub fn forget_offset_sign(&mut self)
         ensures { self.new ≡ record self.old { offset_is_negative = false } }
@@ -146,7 +145,7 @@ impl fmt::Debug for Parsed {
 
 #[cfg(test)]
 mod tests {
-    //! The representation of a record: each option has a bit and a cell of its own, in 64 bytes.
+    //! The representation of a record: each option has its own bit and cell, in 64 bytes.
     use crate::Parsed;
     use std::mem::size_of;
     use std::num::NonZero;
@@ -175,7 +174,7 @@ mod tests {
         assert_eq!(rt; size_of::<Parsed>(), 64);
     }
 
-    // The record of that option alone, and the value of its cell, which is not 0.
+    // The record with only that option, and the value of its cell, which is not 0.
     fn with_option(index: usize) -> Option<(Parsed, i128)> {
         let parsed = Parsed::new();
         let week = NonZero::<u8>::new(53)?;

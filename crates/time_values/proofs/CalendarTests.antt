@@ -1,4 +1,4 @@
--- The definitions of the calendar as tests that compute at numerals. `Y` is a greatest year such that 400 divides Y + 1.
+-- The calendar's definitions as tests that compute for numerals. `Y` is a greatest year such that 400 divides Y + 1.
 use Rattle.std.specs.Int.{IsInRange}
 use Rattle.std.specs.Int.Signed.{le_z}
 use Rattle.std.proofs.Common.{◌≡◌, ℕ, ◌+◌, ◌-◌, ◌*◌, ◌/◌, ◌%◌, ◌<◌, ◌≤◌, Bool, ◌&&◌, nat_le, nat_lt, ◌==◌, IsTrue, Decides, refl, arith, [], ℤ, pos}
@@ -111,7 +111,7 @@ offset h m s is = record {
 
 -- ---- Closed forms
 
--- the day number of a year's first day, the place of a date in its year, and its day number
+-- the day number of a year's first day, the day of the year of a date, and its day number
 abbrev pub start : ℕ → ℤ → ℕ
 start Y y = 365 * years_before Y y + leaps (years_before Y y)
 
@@ -121,7 +121,7 @@ place d = months_closed d.year (month_number d.month - 1) + d.day
 abbrev pub day : ℕ → Date → ℕ
 day Y d = start Y d.year + (place d - 1)
 
--- how many of n days from a first one have a weekday
+-- the number of n days from a first one that have a weekday
 abbrev pub count : ℕ → ℕ → ℕ → ℕ
 count w first n = (first + n + 6 - w) / 7 - (first + 6 - w) / 7
 

@@ -26,9 +26,9 @@ use Rattle.time_values.proofs.YearLemmas.{ordinal_within, days_of_years_closed, 
 use Rattle.time_values.proofs.YearLemmas.{weekdays_in_closed}
 use Rattle.time_values.proofs.NumberLemmas.{month_number_in, same_month}
 
--- ---- What holds of each date
+-- ---- Facts of each date
 
--- the place of a date is one of its year's
+-- the day of the year of a date is one of its year's
 pub ordinal_in : (d : Date) → IsInRange 1 (year_length d.year) (ordinal d)
 ordinal_in d = ordinal_within d.year (month_number d.month) d.day (month_number_in d.month) d.day_in
 
@@ -53,14 +53,14 @@ pub last_instant_is : last_instant greatest_year ≡ pos 31_494_784_780_799_999_
 unfolding last_instant
 last_instant_is = rw (epoch_day_is, day_limit_is) refl
 
--- a test of both ends tells whether a number lies between them
+-- a test of both ends decides whether a number lies between them
 pub between_tested : (low high z : ℤ) → IsTrue (le_z low z && le_z z high) ↔ IsBetween low high z
 between_tested low high z = (λ h. grind (arith, ints), λ h. grind (arith, ints))
 
 pub is_instant-IsInstant : (Y : ℕ) (n : ℤ) → IsTrue (is_instant Y n) ↔ IsInstant Y n
 is_instant-IsInstant Y n = between_tested (first_instant Y) (last_instant Y) n
 
--- the definitions, for a proof that does not unfold them
+-- the definitions, for a proof that doesn't unfold them
 clock_nanos_by : (Y : ℕ) (d : Date) (t : Time)
     → clock_nanos Y d t ≡ (pos (day_number Y d) -ℤ pos (epoch_day Y)) *ℤ pos nanos_per_day +ℤ pos (nanos_of_day t)
 unfolding clock_nanos
@@ -96,7 +96,7 @@ pub instant_near : (d : Date) (t : Time) (o : UtcOffset) → IsNear (instant gre
 instant_near d t o =
     omega (arith, ints, instant_is d t o, clock_nanos_range d t, first_instant_is, last_instant_is, o.hours_in, o.minutes_in, o.seconds_in)
 
--- a clock that is moved from the one offset to the other shows the same instant
+-- moving a local time from one offset to another keeps its instant
 pub moved_same : (clock later from to : ℤ) → later ≡ clock +ℤ (to -ℤ from) *ℤ pos 1_000_000_000
     → later -ℤ to *ℤ pos 1_000_000_000 ≡ clock -ℤ from *ℤ pos 1_000_000_000
 moved_same clock later from to h = omega (arith, ints, h)
@@ -105,7 +105,7 @@ pub moved_shown : (clock from to : ℤ)
     → (clock -ℤ from *ℤ pos 1_000_000_000) +ℤ to *ℤ pos 1_000_000_000 ≡ clock +ℤ (to -ℤ from) *ℤ pos 1_000_000_000
 moved_shown clock from to = omega (arith, ints)
 
--- ---- What fixes a date, a time, an offset and a moment
+-- ---- What determines a date, a time, an offset and a moment
 
 -- a later year begins after the days of an earlier one
 pub year_start_later : (Y : ℕ) (y later : ℤ) → (Y + 1) % 400 ≡ 0 → neg_ℤ (pos Y) ≤ℤ y → y <ℤ later → year_start Y y + year_length y ≤ year_start Y later
@@ -117,7 +117,7 @@ year_start_later Y y later whole low lt =
     let order : suc n ≤ m = omega (arith, ints) in
     omega (arith, rw after at next, days_of_years_closed Y (suc n) whole, days_of_years_closed Y m whole, closed_mono (suc n) m order)
 
--- a place of a year tells its month and day
+-- a day of the year determines its month and day
 month_end : (y : ℤ) (m : ℕ) → IsInRange 1 12 m → days_of_months y m ≡ days_of_months y (m - 1) + month_length y m
 month_end y m h =
     let e = days_of_months_closed y (m - 1) (omega arith) in
@@ -149,7 +149,7 @@ same_aligned a b = λ i. record {
   no_words = is_prop→PathP (λ j. (a.no_words ∙ sym b.no_words) j ≡ []) (λ j. hlevel props) a.no_words b.no_words i;
 }
 
--- dates with the same year, month and day are one date
+-- dates with one year, month and day are equal
 pub same_date_by_parts : (a b : Date) → a.year ≡ b.year → a.month ≡ b.month → a.day ≡ b.day → a ≡ b
 same_date_by_parts a b y m d = λ i. record {
   year = y i;
@@ -160,7 +160,7 @@ same_date_by_parts a b y m d = λ i. record {
   day_in = is_prop→PathP (λ j. IsInRange 1 (month_length (y j) (month_number (m j))) (d j)) (λ j. hlevel props) a.day_in b.day_in i;
 }
 
--- and with the same year and place in it
+-- and so are dates with one year and day of the year
 pub same_date_by_ordinal : (a b : Date) → a.year ≡ b.year → ordinal a ≡ ordinal b → a ≡ b
 same_date_by_ordinal a b year places =
     let place = places ∙ ap (λ y. ordinal_of y (month_number b.month) b.day) (sym year) in
@@ -176,7 +176,7 @@ same_year Y a b whole a_in b_in e =
     (λ gt. absurd (omega (arith, ordinal_in a, ordinal_in b, year_start_later Y b.year a.year whole b_in.0 gt)))
     (λ le. omega (arith, ints)))
 
--- and within the range of years with the same day number
+-- and so are dates within the range of years with one day number
 pub same_date_within : (Y : ℕ) (a b : Date) → (Y + 1) % 400 ≡ 0 → IsDateWithin Y a → IsDateWithin Y b → day_number Y a ≡ day_number Y b → a ≡ b
 same_date_within Y a b whole a_in b_in e =
     let year = same_year Y a b whole a_in b_in e in
@@ -185,12 +185,12 @@ same_date_within Y a b whole a_in b_in e =
 pub same_date : (a b : Date) → day_number greatest_year a ≡ day_number greatest_year b → a ≡ b
 same_date a b e = same_date_within greatest_year a b refl a.year_in b.year_in e
 
--- a weekday and how many such weekdays, or weekdays w, a stretch of days has tell its length
+-- a weekday, and the number of those weekdays, or of weekdays w, in a stretch of days determine its length
 same_count : (w start m n : ℕ) → w < 7 → 1 ≤ m → 1 ≤ n → weekdays_in w start m ≡ weekdays_in w start n → (start + (m - 1)) % 7 ≡ (start + (n - 1)) % 7 → m ≡ n
 same_count w start m n small low high counts days =
     omega (arith, weekdays_in_closed w start m small, weekdays_in_closed w start n small)
 
--- dates of one year with the same week, which begins on the weekday w, and weekday are one date
+-- dates with one year, weekday and week, which begins on the weekday w, are equal
 pub same_date_by_week : (w : ℕ) (a b : Date) → w < 7 → a.year ≡ b.year → weekdays_so_far greatest_year w a ≡ weekdays_so_far greatest_year w b
     → weekday greatest_year a ≡ weekday greatest_year b → a ≡ b
 same_date_by_week w a b small year weeks days =
@@ -198,18 +198,18 @@ same_date_by_week w a b small year weeks days =
     same_date_by_ordinal a b year
     (same_count w (year_start greatest_year b.year) (ordinal a) (ordinal b) small (ordinal_in a).0 (ordinal_in b).0 (rw start at weeks) (rw start at days))
 
--- the Thursday of a day and its weekday tell the day
+-- the Thursday of a day's week and its weekday determine the day
 pub same_iso_day : (Y : ℕ) (y : ℤ) (week w m n : ℕ) → IsIsoDay Y y week w m → IsIsoDay Y y week w n → m ≡ n
 same_iso_day Y y week w m n h k =
     let start = year_start Y y in
     omega (arith, weekdays_in_closed 3 start (thursday_of m + 1 - start) (omega arith), weekdays_in_closed 3 start (thursday_of n + 1 - start) (omega arith))
 
--- dates with the same ISO year, week and weekday are one date
+-- dates with one ISO year, week and weekday are equal
 pub same_date_by_iso_week : (y : ℤ) (week w : ℕ) (a b : Date) → IsIsoDate greatest_year y week w a → IsIsoDate greatest_year y week w b → a ≡ b
 same_date_by_iso_week y week w a b h k =
     same_date a b (same_iso_day greatest_year y week w (day_number greatest_year a) (day_number greatest_year b) h.1 k.1)
 
--- times with the same parts are one time
+-- times with equal parts are equal
 pub same_time_by_parts : (a b : Time) → a.hour ≡ b.hour → a.minute ≡ b.minute → a.second ≡ b.second → a.nanosecond ≡ b.nanosecond → a ≡ b
 same_time_by_parts a b h m s n = λ i. record {
   hour = h i;
@@ -230,11 +230,11 @@ same_time_by_clock h m s n a b p q =
 same_clock : (a b : Time) → nanos_of_day a ≡ nanos_of_day b → (a.hour ≡ b.hour) × (a.minute ≡ b.minute) × (a.second ≡ b.second) × (a.nanosecond ≡ b.nanosecond)
 same_clock a b e = omega arith
 
--- and with the same nanoseconds since midnight
+-- and so are times with equal nanoseconds since midnight
 pub same_time : (a b : Time) → nanos_of_day a ≡ nanos_of_day b → a ≡ b
 same_time a b e = let p = same_clock a b e in same_time_by_parts a b p.0 p.1 p.2 p.3
 
--- offsets with the same parts are one offset
+-- offsets with equal parts are equal
 pub same_offset_by_parts : (a b : UtcOffset) → a.hours ≡ b.hours → a.minutes ≡ b.minutes → a.seconds ≡ b.seconds → a ≡ b
 same_offset_by_parts a b h m s = λ i. record {
   hours = h i;
@@ -249,7 +249,7 @@ same_offset_by_parts a b h m s = λ i. record {
 pub same_offset : (h m s : ℤ) (a b : UtcOffset) → HasOffset h m s a → HasOffset h m s b → a ≡ b
 same_offset h m s a b p q = same_offset_by_parts a b (p.0 ∙ sym q.0) (p.1 ∙ sym q.1) (p.2 ∙ sym q.2)
 
--- the nanoseconds on a clock tell the day and the nanoseconds of the day
+-- the nanoseconds of a local time determine the day and the nanoseconds of the day
 clock_nanos-apart : (Y : ℕ) (a b : Date) (s t : Time) → clock_nanos Y a s ≡ clock_nanos Y b t
     → (day_number Y a ≡ day_number Y b) × (nanos_of_day s ≡ nanos_of_day t)
 clock_nanos-apart Y a b s t e = omega (arith, ints, clock_nanos_by Y a s, clock_nanos_by Y b t)
@@ -264,15 +264,14 @@ same_moment_within Y a b s t whole a_in b_in e =
 pub same_moment : (a b : Date) (s t : Time) → clock_nanos greatest_year a s ≡ clock_nanos greatest_year b t → (a ≡ b) × (s ≡ t)
 same_moment a b s t e = same_moment_within greatest_year a b s t refl a.year_in b.year_in e
 
--- timestamps with the same nanoseconds are one timestamp
+-- timestamps with equal nanoseconds are equal
 pub same_timestamp : (a b : Timestamp) → a.nanoseconds ≡ b.nanoseconds → a ≡ b
 same_timestamp a b n = λ i. record {
   nanoseconds = n i;
   in_range = is_prop→PathP (λ j. IsInstant greatest_year (n j)) (λ j. hlevel props) a.in_range b.in_range i;
 }
 
--- ---- A wider range of years has the instants of a narrower one. `Y` is the narrower one's greatest year, and c how
--- many more years the wider one has on either side.
+-- ---- A wider range of years has the instants of a narrower one. `Y` is the narrower one's greatest year, and the wider one has c more years on either side.
 
 -- the days of the wider range are those of its first c years, and then those of the narrower one
 days_of_years-wider : (Y c n : ℕ) → days_of_years (Y + c) (n + c) ≡ days_of_years (Y + c) c + days_of_years Y n

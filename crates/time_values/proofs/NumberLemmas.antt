@@ -1,4 +1,4 @@
--- Months and weekdays are fixed by their numbers.
+-- Months and weekdays are determined by their numbers.
 use Rattle.std.specs.Int.{IsInRange}
 use Rattle.std.specs.Int.Signed.{le_z}
 use Rattle.std.proofs.Common.{◌≡◌, ℕ, zero, suc, ◌-◌, ◌<◌, Bool, true, ◌&&◌, T, inl, inr, arith, eq-zero-or-pos, ◌+◌, ◌*◌, ◌/◌, ◌%◌, eqb, List, [], ◌∷◌, length, get_or, eqb→eq, refl, sym, ap, ◌∙◌, rules, ◌≤◌, subst, ℤ, pos, ◌+ℤ◌, ◌-ℤ◌, Option, Some, None, Ok, Err}
@@ -22,9 +22,9 @@ use Rattle.time_values.specs.Refusal.{Refusal, Constructs, refusal_of_range}
 use Rattle.time_values.specs.Shown.{significant}
 use Rattle.time_values.proofs.YearLemmas.{days_of_years_closed, year_start-next, year_length-leap_day, days_of_months_closed}
 
--- ---- Tables of numbers, tested at each place
+-- ---- Tables of numbers, tested at each index
 
--- the test holds of each number below n
+-- the test holds for each number below n
 abbrev pub all_below : (ℕ → Bool) → ℕ → Bool
 all_below P zero = true
 all_below P (suc p) = P p && all_below P p
@@ -66,7 +66,7 @@ month_at-month_number October = refl
 month_at-month_number November = refl
 month_at-month_number December = refl
 
--- months with one number are one month
+-- months with one number are equal
 pub same_month : (a b : Month) → month_number a ≡ month_number b → a ≡ b
 same_month a b e = sym (month_at-month_number a) ∙ ap month_at e ∙ month_at-month_number b
 
@@ -93,7 +93,7 @@ weekday_at-days_from_monday Friday = refl
 weekday_at-days_from_monday Saturday = refl
 weekday_at-days_from_monday Sunday = refl
 
--- weekdays with one number are one weekday
+-- weekdays with one number are equal
 pub same_weekday : (a b : Weekday) → days_from_monday a ≡ days_from_monday b → a ≡ b
 same_weekday a b e = sym (weekday_at-days_from_monday a) ∙ ap weekday_at e ∙ weekday_at-days_from_monday b
 
@@ -108,7 +108,7 @@ days_from_monday_in Sunday = search rules
 
 -- ---- Years that begin in March
 
--- the table, at the place of each month from 0
+-- the table, at the index of each month from 0
 abbrev is_equal : ℤ → ℤ → Bool
 is_equal x y = le_z x y && le_z y x
 
@@ -139,7 +139,7 @@ march_years_at m l h =
 pub march_year_in : (m : ℕ) → march_year m ≤ 1
 march_year_in m = grind (arith, nat_tests)
 
--- a day number by the years and days since March
+-- a day number from the years and days since March
 pub days_by_march : (d : Date) (years before : ℕ)
     → years ≡ years_before greatest_year d.year + march_year (month_number d.month)
     → before ≡ march_days (month_number d.month)
@@ -177,19 +177,19 @@ days_by_march d years before e f =
           )
     ]
 
--- ---- What the answer of a call that may refuse tells
+-- ---- The results of a call that may return an error
 
--- a value answers where nothing is refused
+-- it returns a value if nothing is rejected
 pub Constructs-Ok : {A : Type 0} (o : Option Refusal) (P : A → Type 0) (v : A) → Constructs o P (Ok v) → (o ≡ None) × P v
 Constructs-Ok None P v h = (refl, h)
 Constructs-Ok (Some r) P v h = absurd h
 
--- and an error where something is
+-- and an error if something is
 pub Constructs-Err : {A : Type 0} (o : Option Refusal) (P : A → Type 0) (e : ComponentRange) → Constructs o P (Err e) → o ≡ Some (refusal_of_range e)
 Constructs-Err None P e h = absurd h
 Constructs-Err (Some r) P e h = ap Some (sym h)
 
--- another value answers in its place
+-- another value takes its place
 pub Constructs-map : {A B : Type 0} (o : Option Refusal) (P : A → Type 0) (Q : B → Type 0) (v : A) (w : B) → (P v → Q w) → Constructs o P (Ok v)
     → Constructs o Q (Ok w)
 Constructs-map None P Q v w f h = f h
@@ -203,13 +203,13 @@ unfolding significant
 significant-zero zero n more digit = search rules
 significant-zero (suc k) n more digit = simp unary_clauses (rw (digit) refl)
 
--- where the last digit is another one, all count
+-- if the last digit isn't 0, all count
 pub significant-digit : (k n : ℕ) → ¬ (n % 10 ≡ 0) → significant k n ≡ k
 unfolding significant
 significant-digit zero n digit = refl
 significant-digit (suc k) n digit = search rules
 
--- where there are no digits, none counts
+-- if there are no digits, none counts
 pub significant-none : (k n : ℕ) → k ≡ 0 → significant k n ≡ k
 unfolding significant
 significant-none zero n none = refl

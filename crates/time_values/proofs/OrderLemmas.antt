@@ -32,7 +32,7 @@ int_equal n m h = grind (arith, ints)
 int_greater : (n m : ℤ) → m <ℤ n → int_cmp n m ≡ Greater
 int_greater n m h = grind (arith, ints)
 
--- an order by one part and then by others, where each step takes the number with it
+-- an order by one part and then by others, if each step agrees with the order of the numbers
 by_int_then : (a b : ℤ) (rest : Ordering) (n m : ℕ) → (a <ℤ b → n < m) → (a ≡ b → rest ≡ nat_cmp n m) → (b <ℤ a → m < n)
     → ordering_then (int_cmp a b) rest ≡ nat_cmp n m
 by_int_then a b rest n m less same greater =
@@ -95,7 +95,7 @@ date_cmp a b rest none =
     omega (arith, start, mine, other, p, q, places)))
     (λ gt. omega (arith, p, q, year_start_later Y b.year a.year refl b.year_in.0 gt))
 
--- a day and a time in turn order clocks as their nanoseconds do
+-- a day and a time in turn order date-times as their nanoseconds do
 pub clock_cmp : (a b : Date) (t u : Time)
     → ordering_then (nat_cmp (day_number greatest_year a) (day_number greatest_year b)) (nat_cmp (nanos_of_day t) (nanos_of_day u))
     ≡ int_cmp (clock_nanos greatest_year a t) (clock_nanos greatest_year b u)

@@ -1,5 +1,5 @@
--- Values that the Gregorian calendar and ISO 8601 give, so that a wrong rule in the definitions doesn't check. What rests
--- on the range of years is shown for the years to 9999 and to 999999.
+-- Values of the Gregorian calendar and of ISO 8601, so that a wrong rule in the definitions fails the check. Facts that depend on the range of years are proved
+-- for the years to 9999 and to 999999.
 use Rattle.std.proofs.Common.{◌≡◌, ℕ, ◌+◌, ◌%◌, true, false, ◌==◌, map, [], ◌∷◌, Decides, refl, sym, ap, subst, ◌∙◌, inr, arith, codes, ℤ, pos, neg_ℤ}
 use Rattle.std.proofs.lemmas.Bool.{false≢true}
 use Rattle.std.proofs.lemmas.Bool.Decides.{not_from_Decides}
@@ -71,7 +71,7 @@ hour_ahead = offset (pos 1) (pos 0) (pos 0) refl
 unequal : (a b : ℕ) → (a == b) ≡ false → a ≡ b → ⊥
 unequal a b e = not_from_Decides (a == b) (decide_eq a b) e
 
--- a value that another one isn't
+-- a value that differs from another one
 other : (a b c : ℕ) → a ≡ b → (b == c) ≡ false → a ≡ c → ⊥
 other a b c e differs h = unequal b c differs (sym e ∙ h)
 
@@ -207,7 +207,7 @@ not_those_iso_weeks = (
 pub iso_week_counts : (iso_weeks_in 9_999 (pos 2009) ≡ 53) × (iso_weeks_in 999_999 (pos 2010) ≡ 52) × (iso_weeks_in 9_999 (pos 9_999) ≡ 52)
 iso_week_counts = (iso_weeks_is 9_999 refl (pos 2009), iso_weeks_is 999_999 refl (pos 2010), iso_weeks_is 9_999 refl (pos 9_999))
 
--- ---- Dates of an ISO year, week and weekday, where the range of years ends
+-- ---- Dates of an ISO year, week and weekday at the ends of the range of years
 
 pub iso_dates : IsIsoDate 9_999 (pos 2009) 1 0 y2008-12-29 × IsIsoDate 9_999 (pos 2009) 53 6 y2010-01-03 × IsIsoDate 9_999 (pos 9_999) 52 4 y9999-12-31
 iso_dates = (
@@ -261,7 +261,7 @@ saturday_after_999999_refused = inr (inr (
 
 -- ---- Instants
 
--- the epoch, the nanosecond before it, and the epoch on a clock that is an hour ahead
+-- the epoch, the nanosecond before it, and the epoch in the local time of an hour ahead
 pub instants : (instant 9_999 y1970-01-01 midnight utc ≡ pos 0)
     × (instant 9_999 (date (pos 1969) December 31 refl) last_nanosecond utc ≡ neg_ℤ (pos 1))
     × (instant 9_999 y1970-01-01 (time 1 0 0 0 refl) hour_ahead ≡ pos 0)
@@ -273,7 +273,7 @@ instants = (
   moment_is 999_999 refl (date (pos 2001) September 9 refl) (time 1 46 40 0 refl) utc,
 )
 
--- a clock ahead of UTC shows a later time, so its midnight comes before that of UTC
+-- a clock ahead of UTC shows a later time, so its midnight is before that of UTC
 pub midnight_ahead_of_utc : instant 9_999 y1970-01-01 midnight hour_ahead ≡ neg_ℤ (pos 3_600_000_000_000)
 midnight_ahead_of_utc = moment_is 9_999 refl y1970-01-01 midnight hour_ahead
 
@@ -288,7 +288,7 @@ not_those_instants = (
   λ h. omega (arith, ints, h, midnight_of_2000),
 )
 
--- unix second 253402300800 is 10000-01-01 in the wider range, and beyond the narrower one
+-- unix second 253402300800 is 10000-01-01 in the wider range, and outside the narrower one
 pub second_after_9999 : (clock_nanos 999_999 y10000-01-01 midnight ≡ pos 253_402_300_800_000_000_000)
     × IsInstant 999_999 (pos 253_402_300_800_000_000_000) × (IsInstant 9_999 (pos 253_402_300_800_000_000_000) → ⊥)
 second_after_9999 = (
@@ -304,7 +304,7 @@ last_nanosecond_of_9999 = (
   (instant_decided 999_999 refl (pos 253_402_300_799_999_999_999)).0 refl,
 )
 
--- the first midnight of -9999 on a clock that is an hour ahead comes before the narrower range, and within the wider one
+-- the first midnight of -9999 at an offset of an hour is before the narrower range, and within the wider one
 pub hour_before_first_year : (instant 9_999 (date (neg_ℤ (pos 9_999)) January 1 refl) midnight hour_ahead ≡ neg_ℤ (pos 377_705_120_400_000_000_000))
     × (IsInstant 9_999 (neg_ℤ (pos 377_705_120_400_000_000_000)) → ⊥) × IsInstant 999_999 (neg_ℤ (pos 377_705_120_400_000_000_000))
 hour_before_first_year = (
@@ -330,7 +330,7 @@ leap_second_moments = (
   (y9999-12-31, last_nanosecond, clock_is 999_999 refl y9999-12-31 last_nanosecond, (refl, refl), omega (arith, ints)),
 )
 
--- a moment at another time of the day, or on another day, is none
+-- a moment at another time of the day, or on another day, isn't one
 not_at : (Y : ℕ) (n : ℤ) (d : Date) (t : Time) → (Y + 1) % 400 ≡ 0 → IsDateWithin Y d → clock_nanos Y d t ≡ n → (IsLeapSecondStandIn d t → ⊥)
     → IsLeapSecondMoment Y n → ⊥
 not_at Y n d t whole within shown none (other_date, other_time, is, leap, inside) =
@@ -349,7 +349,7 @@ no_leap_second_moments = (
       (clock_is 999_999 refl y1970-01-01 (time 11 59 59 999_999_999 refl)) (λ h. omega (arith, h.0)),
 )
 
--- 10000-01-31 ends a month, and its last nanosecond is beyond the narrower range
+-- 10000-01-31 ends a month, and its last nanosecond is outside the narrower range
 pub month_end_after_9999 : IsLeapSecondMoment 999_999 (pos 253_404_979_199_999_999_999) × (IsLeapSecondMoment 9_999 (pos 253_404_979_199_999_999_999) → ⊥)
 month_end_after_9999 = (
   (

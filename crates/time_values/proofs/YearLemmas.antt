@@ -12,7 +12,7 @@ use Rattle.time_values.specs.Sign.{same_sign, HasOneSign}
 abbrev pub leaps : ℕ → ℕ
 leaps n = n / 4 - n / 100 + n / 400
 
--- the rule is the same 400 years later
+-- the rule repeats after 400 years
 pub leap_day-shift : (y : ℤ) (n c : ℕ) → y +ℤ pos (400 * c) ≡ pos n → leap_day y ≡ leap_day (pos n)
 leap_day-shift (pos a) n c e = let h : a + 400 * c ≡ n = omega (arith, ints) in grind (arith, nat_tests)
 leap_day-shift (negsuc a) n c e = let h : n + suc a ≡ 400 * c = omega (arith, ints) in grind (arith, nat_tests)
@@ -23,7 +23,7 @@ year_length-leap_day y = grind arith
 leaps-suc : (n : ℕ) → leaps (suc n) ≡ leaps n + leap_day (pos (suc n))
 leaps-suc n = grind (arith, nat_tests)
 
--- the year at a place in the range
+-- the length of the year at an index of the range
 pub year_length_at : (Y n : ℕ) → (Y + 1) % 400 ≡ 0 → year_length (pos n -ℤ pos Y) ≡ 365 + leap_day (pos (suc n))
 year_length_at Y n h =
     let e : (pos n -ℤ pos Y) +ℤ pos (400 * ((Y + 1) / 400)) ≡ pos (suc n) = omega (arith, ints) in
@@ -55,7 +55,7 @@ year_start_first Y =
     let none : years_before Y (neg_ℤ (pos Y)) ≡ 0 = omega (arith, ints) in
     rw none
 
--- a year after the first does not
+-- a year that begins after day 0 is after the first
 pub year_after_first : (Y : ℕ) (y : ℤ) → IsYear Y y → 0 < year_start Y y → neg_ℤ (pos Y) <ℤ y
 year_after_first Y y h lt =
     by_lt_z (neg_ℤ (pos Y)) y (λ later. later)
@@ -71,7 +71,7 @@ year_end Y y whole h =
     let high : suc n ≤ 2 * Y + 1 = omega (arith, ints) in
     omega (arith, rw after at next, days_of_years_closed Y (suc n) whole, days_of_years_closed Y (2 * Y + 1) whole, closed_mono (suc n) (2 * Y + 1) high)
 
--- and the last one at its end
+-- and the last one ends at its end
 pub year_end_last : (Y : ℕ) → (Y + 1) % 400 ≡ 0 → year_start Y (pos Y) + year_length (pos Y) ≡ day_limit Y
 year_end_last Y whole =
     let next = year_start-next Y (pos Y) (pos Y +ℤ pos 1) (omega (arith, ints)) refl in
@@ -85,7 +85,7 @@ day_limit-weekday Y whole = omega (arith, days_of_years_closed Y (2 * Y + 1) who
 pub year_end_at : (Y : ℕ) (y : ℤ) → (Y + 1) % 400 ≡ 0 → y ≡ pos Y → year_start Y y + year_length y ≡ day_limit Y
 year_end_at Y y whole e = rw e (year_end_last Y whole)
 
--- the start of a year by its place in the range
+-- the start of a year by its index in the range
 pub year_start_at : (Y n : ℕ) (y : ℤ) → y +ℤ pos Y ≡ pos n → year_start Y y ≡ days_of_years Y n
 year_start_at Y n y e = let is : years_before Y y ≡ n = omega (arith, ints) in rw is
 
@@ -124,7 +124,7 @@ ordinal_january y n = omega (arith, days_of_months_closed y 0 (omega arith))
 pub ordinal_february : (y : ℤ) (n : ℕ) → 31 ≤ n → ordinal_of y 2 (n - 31) ≡ n
 ordinal_february y n h = omega (arith, days_of_months_closed y 1 (omega arith))
 
--- and from March on, by the days k since 1 March
+-- and from March on, from the days k since 1 March
 split_months : (k : ℕ) → k < 306 → (153 * ((5 * k + 461) / 153) - 457) / 5 + (5 * k + 461) % 153 / 5 ≡ k
 split_months k h = omega arith
 
@@ -138,7 +138,7 @@ ordinal_late y k h =
 pub day_late : (y : ℤ) (k : ℕ) → k < 306 → (5 * k + 461) % 153 / 5 + 1 ≤ month_length y ((5 * k + 461) / 153)
 day_late y k h = grind (arith, nat_tests)
 
--- a day of a month has its place within the year
+-- the day of the year of a day of a month is within the year
 pub ordinal_within : (y : ℤ) (m d : ℕ) → IsInRange 1 12 m → IsInRange 1 (month_length y m) d → IsInRange 1 (year_length y) (ordinal_of y m d)
 ordinal_within y m d h k =
     let e = days_of_months_closed y (m - 1) (omega arith) in
@@ -164,7 +164,7 @@ last_day = omega (arith, year_end_last greatest_year refl, months_before_decembe
 
 -- ---- The counts of weekdays in closed form
 
--- the days below `first + n` with that weekday, less those below `first`
+-- the number of days below `first + n` with that weekday, less those below `first`
 pub weekdays_in_closed : (w first n : ℕ) → w < 7 → weekdays_in w first n + (first + 6 - w) / 7 ≡ (first + n + 6 - w) / 7
 unfolding weekdays_in
 weekdays_in_closed w first zero h = omega arith
@@ -172,7 +172,7 @@ weekdays_in_closed w first (suc n) h =
     let before = weekdays_in_closed w first n h in
     grind (arith, nat_tests)
 
--- the week of a day whose Thursday is at that place of the year
+-- the week of a day whose Thursday is at that day of the year
 pub iso_week_at : (Y : ℕ) (y : ℤ) (day p week : ℕ) → IsYear Y y → thursday_of day + 1 ≡ year_start Y y + p → 1 ≤ p → p ≤ year_length y → week ≡ (p + 6) / 7
     → IsIsoWeek Y day y week
 iso_week_at Y y day p week year e low high w =
@@ -181,14 +181,14 @@ iso_week_at Y y day p week year e low high w =
     let count = weekdays_in_closed 3 start p (omega arith) in
     (year, omega arith, omega arith, rw same (omega arith))
 
--- the Thursdays of a year, by the place of the first
+-- the number of Thursdays of a year, from the first Thursday
 pub thursdays_from_first : (start length first : ℕ) → (start + first + 6) % 7 ≡ 3 → IsInRange 1 7 first → first ≤ length
     → weekdays_in 3 start length ≡ (length + 7 - first) / 7
 thursdays_from_first start length first e h k =
     let count = weekdays_in_closed 3 start length (omega arith) in
     omega arith
 
--- the day of a week and weekday, by the place of the year's first Thursday
+-- the day of a week and weekday, from the year's first Thursday
 pub iso_day_at : (Y : ℕ) (y : ℤ) (first week w day : ℕ) → IsYear Y y → (year_start Y y + first + 6) % 7 ≡ 3 → IsInRange 1 7 first → 1 ≤ week
     → week ≤ (year_length y + 7 - first) / 7 → w < 7 → day + 8 ≡ year_start Y y + (first + 7 * (week - 1) + 4 + w) → IsIsoDay Y y week w day
 iso_day_at Y y first week w day year e h low high small is =
@@ -201,7 +201,7 @@ pub has_iso_week : (Y : ℕ) (y : ℤ) (first week : ℕ) → IsYear Y y → (ye
 has_iso_week Y y first week year e h low high =
     (year, omega (arith, thursdays_from_first (year_start Y y) (year_length y) first e h (omega (arith, year_length-leap_day y))))
 
--- ---- Which offsets are refused
+-- ---- The offsets that are rejected
 
 pub abs_within : (n : ℕ) (z : ℤ) → IsBetween (neg_ℤ (pos n)) (pos n) z → unsigned_abs z ≤ n
 abs_within n (pos a) h = omega (arith, ints)
@@ -217,7 +217,7 @@ no_offset_refusal h m s p q r =
 
 -- ---- Parts of one sign
 
--- a sign takes nothing from a size
+-- negating a number keeps its magnitude
 abs-neg : (n : ℕ) → unsigned_abs (neg_ℤ (pos n)) ≡ n
 abs-neg zero = refl
 abs-neg (suc n) = refl
@@ -248,7 +248,7 @@ signed-one h m s hours minutes seconds is_h is_m is_s =
     subst (λ x. HasOneSign x minutes seconds) (sym is_h) (subst (λ x. HasOneSign h x seconds) (sym is_m)
     (subst (λ x. HasOneSign h (same_sign h m) x) (sym is_s) (same_sign-again h m, same_sign-last h m s)))
 
--- and so have parts of which none is above 0
+-- and so have parts that are all at most 0
 none_above : (h m s : ℕ) → HasOneSign (neg_ℤ (pos h)) (neg_ℤ (pos m)) (neg_ℤ (pos s))
 none_above zero zero s = (refl, refl)
 none_above zero (suc m) s = (refl, ap (λ n. neg_ℤ (pos n)) (sym (abs-neg s)))

@@ -5,11 +5,11 @@ use Rattle.std.specs.Prelude.{◌≡◌, ℕ, zero, suc, ◌+◌, ◌-◌, ◌*�
 abbrev pub IsBetween : ℤ → ℤ → ℤ → Type 0
 IsBetween low high z = (low ≤ℤ z) × (z ≤ℤ high)
 
--- the year is one that there is
+-- the year is in range
 abbrev pub IsYear : ℕ → ℤ → Type 0
 IsYear Y y = IsBetween (neg_ℤ (pos Y)) (pos Y) y
 
--- every fourth year, but of the centuries only every fourth
+-- every fourth year, except that of the centuries only every fourth is one
 abbrev pub is_leap_year : ℤ → Bool
 is_leap_year y =
     (unsigned_abs y % 4 == 0) && (not (unsigned_abs y % 100 == 0) || (unsigned_abs y % 400 == 0))
@@ -18,31 +18,31 @@ is_leap_year y =
 abbrev pub leap_day : ℤ → ℕ
 leap_day y = if is_leap_year y then 1 else 0
 
--- the days of a year
+-- the number of days of a year
 abbrev pub year_length : ℤ → ℕ
 year_length y = if is_leap_year y then 366 else 365
 
--- the days of the month of that number; thirty days have September, April, June and November
+-- the number of days of the month of that number; September, April, June and November have thirty days
 abbrev pub month_length : ℤ → ℕ → ℕ
 month_length y m =
     if m == 2 then (if is_leap_year y then 29 else 28)
     else (if (m == 4) || (m == 6) || (m == 9) || (m == 11) then 30 else 31)
 
--- the days of the first n years, from the year -Y on
+-- the number of days of the first n years, from the year -Y on
 unfoldable pub days_of_years : ℕ → ℕ → ℕ
 days_of_years Y zero = 0
 days_of_years Y (suc n) = days_of_years Y n + year_length (pos n -ℤ pos Y)
 
--- the days of the first n months of a year
+-- the number of days of the first n months of a year
 unfoldable pub days_of_months : ℤ → ℕ → ℕ
 days_of_months y zero = 0
 days_of_months y (suc m) = days_of_months y m + month_length y (suc m)
 
--- the number of days that there are
+-- the number of days in range
 abbrev pub day_limit : ℕ → ℕ
 day_limit Y = days_of_years Y (2 * Y + 1)
 
--- how many years there are before this one
+-- the number of years before this one
 abbrev pub years_before : ℕ → ℤ → ℕ
 years_before Y y = unsigned_abs (y +ℤ pos Y)
 
@@ -50,11 +50,11 @@ years_before Y y = unsigned_abs (y +ℤ pos Y)
 abbrev pub year_start : ℕ → ℤ → ℕ
 year_start Y y = days_of_years Y (years_before Y y)
 
--- the place of a day in its year, from 1
+-- the day of the year, from 1
 abbrev pub ordinal_of : ℤ → ℕ → ℕ → ℕ
 ordinal_of y m d = days_of_months y (m - 1) + d
 
--- the day number: how many days lie between 1 January of the year -Y and this day
+-- the day number: the number of days from 1 January of the year -Y to this day
 abbrev pub day_number : ℕ → ℤ → ℕ → ℕ → ℕ
 day_number Y y m d = year_start Y y + (ordinal_of y m d - 1)
 
@@ -62,7 +62,7 @@ day_number Y y m d = year_start Y y + (ordinal_of y m d - 1)
 abbrev pub weekday_of : ℕ → ℕ
 weekday_of day = day % 7
 
--- how many of the n days from the day `first` on have the weekday w
+-- the number of those of the n days from the day `first` on that have the weekday w
 unfoldable pub weekdays_in : ℕ → ℕ → ℕ → ℕ
 weekdays_in w first zero = 0
 weekdays_in w first (suc n) = weekdays_in w first n + (if weekday_of (first + n) == w then 1 else 0)
@@ -71,7 +71,7 @@ weekdays_in w first (suc n) = weekdays_in w first n + (if weekday_of (first + n)
 abbrev pub thursday_of : ℕ → ℕ
 thursday_of day = day - weekday_of day + 3
 
--- the ISO week of a day: its Thursday lies in that year, and is that Thursday of the year
+-- the ISO week of a day: its Thursday lies in that year, and is the Thursday of that number in the year
 abbrev pub IsIsoWeek : ℕ → ℕ → ℤ → ℕ → Type 0
 IsIsoWeek Y day year week =
     IsYear Y year
@@ -79,7 +79,7 @@ IsIsoWeek Y day year week =
     × (thursday_of day < year_start Y year + year_length year)
     × (week ≡ weekdays_in 3 (year_start Y year) (thursday_of day + 1 - year_start Y year))
 
--- how many ISO weeks a year has: as many as it has Thursdays
+-- the number of ISO weeks of a year: the number of its Thursdays
 abbrev pub iso_weeks_in : ℕ → ℤ → ℕ
 iso_weeks_in Y year = weekdays_in 3 (year_start Y year) (year_length year)
 
@@ -89,8 +89,8 @@ iso_weeks_in Y year = weekdays_in 3 (year_start Y year) (year_length year)
 abbrev pub greatest_year : ℕ
 greatest_year = 999_999
 
--- ---- How long a duration can be
+-- ---- The range of durations
 
--- that many nanoseconds have whole seconds, rounded towards 0, of 64 bits
+-- the whole seconds of that many nanoseconds, rounded towards 0, fit in 64 bits
 abbrev pub IsLength : ℤ → Type 0
 IsLength n = IsBetween (neg_ℤ (pos 9_223_372_036_854_775_808_999_999_999)) (pos 9_223_372_036_854_775_807_999_999_999) n

@@ -38,15 +38,15 @@ last_instant Y = pos ((day_limit Y - epoch_day Y) * nanos_per_day) -ℤ pos 1
 abbrev pub IsInstant : ℕ → ℤ → Type 0
 IsInstant Y n = IsBetween (first_instant Y) (last_instant Y) n
 
--- and its test
+-- the test of that
 abbrev pub is_instant : ℕ → ℤ → Bool
 is_instant Y n = le_z (first_instant Y) n && le_z n (last_instant Y)
 
--- z is how many whole units of that many nanoseconds n has, rounded down
+-- z is the number of whole units of that many nanoseconds in n, rounded down
 abbrev pub IsWhole : ℕ → ℤ → ℤ → Type 0
 IsWhole unit n z = ((z *ℤ pos unit) ≤ℤ n) × (n <ℤ ((z *ℤ pos unit) +ℤ pos unit))
 
--- the refusal of nanoseconds that are no such instant
+-- the error of nanoseconds outside the range of instants
 abbrev pub timestamp_refusal : ℕ → ℤ → Option Refusal
 timestamp_refusal Y n = if is_instant Y n then None else Some (range (codes "timestamp") false)
 

@@ -3,10 +3,10 @@
 -- Years that begin in March.
 use Rattle.std.specs.Prelude.{ℕ, ◌+◌, ◌-◌, ◌*◌, ◌/◌, nat_lt, if◌then◌else◌}
 
--- the days from the first of March to the first of the month of that number; from March on they are 153 in five
+-- the days from the first of March to the first of the month of that number; from March on, each five months have 153
 abbrev pub march_days : ℕ → ℕ
 march_days m = if nat_lt m 3 then 275 + 31 * m else (153 * m - 457) / 5
 
--- how many years later than the calendar's the year is in which the month lies
+-- the number of years by which a month's year, if years begin in March, is later than its calendar year
 abbrev pub march_year : ℕ → ℕ
 march_year m = if nat_lt 2 m then 1 else 0

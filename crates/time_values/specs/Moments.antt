@@ -1,4 +1,4 @@
--- What contracts see of moments: the parts of date-times, and the nanoseconds of a timestamp.
+-- Moments as contracts view them: the parts of date-times, and the nanoseconds of a timestamp.
 use Rattle.std.specs.Prelude.{ℕ, ℤ, pos, ◌+ℤ◌, ◌*ℤ◌, int_lt, if◌then◌else◌, ◌-ℤ◌, ◌≤ℤ◌, ◌<ℤ◌, ◌⊎◌, ◌≡◌, Option, Some, None, Result, false, codes}
 use Rattle.std.specs.Int.Signed.{le_z}
 use Rattle.std.specs.Time.{system_time_nanos}
@@ -16,14 +16,14 @@ use Rattle.time_values.specs.declared.duration.Duration.{Duration}
 use Rattle.time_values.specs.Refusal.{Refusal, range, Constructs}
 use Rattle.time_values.specs.declared.error.ComponentRange.{ComponentRange}
 
--- of a date and time with no offset
+-- the parts of a date-time without an offset
 abbrev pub plain_date : PlainDateTime → Date
 plain_date p = p.date
 
 abbrev pub plain_time : PlainDateTime → Time
 plain_time p = p.time
 
--- with an offset, as its clock shows them
+-- the parts of a date-time with an offset, in local time
 abbrev pub offset_date : OffsetDateTime → Date
 offset_date v = v.date
 
@@ -33,14 +33,14 @@ offset_time v = v.time
 abbrev pub offset_of : OffsetDateTime → UtcOffset
 offset_of v = v.offset
 
--- in UTC
+-- the parts of a date-time in UTC
 abbrev pub utc_date : UtcDateTime → Date
 utc_date u = u.date
 
 abbrev pub utc_time : UtcDateTime → Time
 utc_time u = u.time
 
--- what a clock without an offset shows, in nanoseconds since 1970-01-01T00:00:00
+-- the nanoseconds since 1970-01-01T00:00:00 of a date-time without an offset
 abbrev pub plain_instant : ℕ → PlainDateTime → ℤ
 plain_instant Y p = clock_nanos Y (plain_date p) (plain_time p)
 
@@ -58,9 +58,9 @@ offset_instant Y v = instant Y (offset_date v) (offset_time v) (offset_of v)
 abbrev pub nanoseconds : Timestamp → ℤ
 nanoseconds t = t.nanoseconds
 
--- ---- What clocks with other offsets show, in nanoseconds since 1970-01-01T00:00:00 on that clock
+-- ---- Local times at other offsets, in nanoseconds since 1970-01-01T00:00:00 at the offset
 
--- at an instant, with that offset
+-- the local time of an instant, at that offset
 abbrev pub shown_at : ℤ → UtcOffset → ℤ
 shown_at instant offset = instant +ℤ (offset_seconds offset *ℤ pos 1_000_000_000)
 
@@ -70,7 +70,7 @@ shown_at instant offset = instant +ℤ (offset_seconds offset *ℤ pos 1_000_000
 abbrev pub length : Duration → ℤ
 length d = d.nanoseconds
 
--- z is how many whole units of that many nanoseconds n has, rounded towards 0
+-- z is the number of whole units of that many nanoseconds in n, rounded towards 0
 abbrev pub IsTowardsZero : ℕ → ℤ → ℤ → Type 0
 IsTowardsZero unit n z =
     ((pos 0 ≤ℤ n) × ((z *ℤ pos unit) ≤ℤ n) × (n <ℤ ((z *ℤ pos unit) +ℤ pos unit)))
@@ -82,12 +82,12 @@ nearest_instant Y n =
     if int_lt n (first_instant Y) then first_instant Y
     else if int_lt (last_instant Y) n then last_instant Y else n
 
--- ---- Times of the system's clock, which has none before 1970
+-- ---- Times of the system's clock, which has no times before 1970
 
--- the refusal of an instant before 1970, in nanoseconds since then
+-- the error of an instant before 1970, in nanoseconds since then
 abbrev pub system_time_refusal : ℤ → Option Refusal
 system_time_refusal n = if le_z (pos 0) n then None else Some (range (codes "timestamp") false)
 
--- the time of the system's clock at that instant, or its refusal
+-- the time of the system's clock at that instant, or its error
 abbrev pub ConstructsSystemTime : ℤ → Result SystemTime ComponentRange → Type 0
 ConstructsSystemTime n r = Constructs (system_time_refusal n) (λ t. pos (system_time_nanos t) ≡ n) r

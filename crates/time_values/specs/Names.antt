@@ -33,7 +33,7 @@ weekday_name Sunday = codes "Sunday"
 
 -- ---- The numbers of the months
 
--- from 1 for January
+-- the number of a month, from 1 for January
 abbrev pub month_number : Month → ℕ
 month_number January = 1
 month_number February = 2
@@ -48,7 +48,7 @@ month_number October = 10
 month_number November = 11
 month_number December = 12
 
--- and back; of any other number it is one of them
+-- the month of a number; for a number that isn't one, any month
 abbrev pub month_at : ℕ → Month
 month_at zero = January
 month_at (suc zero) = January
@@ -64,13 +64,13 @@ month_at (suc (suc (suc (suc (suc (suc (suc (suc (suc (suc zero)))))))))) = Octo
 month_at (suc (suc (suc (suc (suc (suc (suc (suc (suc (suc (suc zero))))))))))) = November
 month_at _ = December
 
--- the refusal of a number, from 1 on, that is no month's
+-- the error of a number, from 1 on, that isn't a month's
 abbrev pub month_refusal : ℕ → Option Refusal
 month_refusal n = if nat_le n 12 then None else Some (range (codes "month") false)
 
 -- ---- The numbers of the days of the week
 
--- how many days after Monday
+-- the number of days from Monday to a weekday
 abbrev pub days_from_monday : Weekday → ℕ
 days_from_monday Monday = 0
 days_from_monday Tuesday = 1
@@ -80,7 +80,7 @@ days_from_monday Friday = 4
 days_from_monday Saturday = 5
 days_from_monday Sunday = 6
 
--- and back; of any other number it is one of them
+-- the weekday of a number of days; for a greater number, any weekday
 abbrev pub weekday_at : ℕ → Weekday
 weekday_at zero = Monday
 weekday_at (suc zero) = Tuesday

@@ -1,4 +1,4 @@
--- What contracts see of an offset from UTC.
+-- Offsets from UTC as contracts view them.
 use Rattle.std.specs.Prelude.{◌≡◌, false, nat_le, if◌then◌else◌, Option, Some, None, codes, ℤ, pos, ◌+ℤ◌, ◌*ℤ◌, unsigned_abs}
 use Rattle.time_values.specs.declared.utc_offset.UtcOffset.{UtcOffset}
 use Rattle.time_values.specs.Refusal.{Refusal, range}
@@ -30,10 +30,10 @@ offset_refusal h m s =
     then (if nat_le (unsigned_abs s) 59 then None else Some (range (codes "seconds") false))
     else Some (range (codes "minutes") false)) else Some (range (codes "hours") false)
 
--- the refusal of a whole offset in seconds
+-- the error of a whole offset in seconds
 abbrev pub whole_offset_refusal : ℤ → Option Refusal
 whole_offset_refusal s = if nat_le (unsigned_abs s) 93_599 then None else Some (range (codes "seconds") false)
 
--- no offset
+-- the offset is 0
 abbrev pub IsUtc : UtcOffset → Type 0
 IsUtc o = (hours o ≡ pos 0) × (minutes o ≡ pos 0) × (seconds o ≡ pos 0)

@@ -1,4 +1,4 @@
--- What an error says, without where its texts lie in memory.
+-- The contents of errors, without the addresses of their texts.
 use Rattle.std.specs.Prelude.{◌≡◌, ℕ, Bool, List, Option, Some, None, Result, Ok, Err, ◌++◌, codes, if◌then◌else◌}
 use Rattle.time_values.specs.declared.error.ComponentRange.{ComponentRange}
 use Rattle.time_values.specs.declared.error.ParseFromDescription.{ParseFromDescription}
@@ -11,8 +11,8 @@ use Rattle.time_values.specs.declared.error.DifferentVariant.{DifferentVariant}
 use Rattle.time_values.specs.declared.error.Error.{Error}
 use Rattle.time_values.specs.declared.error.Error.TheVariants.{ComponentRange as joint_range, TryFromParsed as joint_parsed, ParseFromDescription as joint_description}
 
--- a literal is not there, a component of that name does not read, bytes are left over, parts are
--- missing, or the component of that name is out of its range, which other components may narrow
+-- a literal is missing, the component of that name can't be read, bytes are left over, components are missing, or the
+-- component of that name is out of its range, which other components may narrow
 pub data Refusal : Type 0 where
   literal : Refusal
   component : List ℕ → Refusal
@@ -20,7 +20,7 @@ pub data Refusal : Type 0 where
   insufficient : Refusal
   range : List ℕ → Bool → Refusal
 
--- what each error says
+-- the content of each error
 abbrev pub refusal_of_range : ComponentRange → Refusal
 refusal_of_range e = range e.name.now e.conditional
 
@@ -37,25 +37,25 @@ abbrev pub refusal_of : Parse → Refusal
 refusal_of (of_parsed e) = refusal_of_parsed e
 refusal_of (of_description e) = refusal_of_description e
 
--- a value with P where nothing is refused, and else an error that says that refusal
+-- a value with P if nothing is rejected, and else an error with that content
 abbrev pub Constructs : {A : Type 0} → Option Refusal → (A → Type 0) → Result A ComponentRange → Type 0
 Constructs None P (Ok v) = P v
 Constructs None P (Err e) = ⊥
 Constructs (Some r) P (Ok v) = ⊥
 Constructs (Some r) P (Err e) = refusal_of_range e ≡ r
 
--- ---- What the conversions between the errors give: the content, or that another variant is held
+-- ---- The conversions between the errors return the content, or an error if the value is another variant
 
 -- the value is of another variant
 abbrev pub another : {A : Type 0} → Result A DifferentVariant
 another = Err (record {})
 
--- what a `TryFromParsed` holds
+-- the content of a `TryFromParsed`
 abbrev pub range_of_parsed : TryFromParsed → Result ComponentRange DifferentVariant
 range_of_parsed InsufficientInformation = another
 range_of_parsed (of_range e) = Ok e
 
--- what a `Parse` holds
+-- the content of a `Parse`
 abbrev pub parsed_of_parse : Parse → Result TryFromParsed DifferentVariant
 parsed_of_parse (of_parsed e) = Ok e
 parsed_of_parse (of_description e) = another
@@ -64,12 +64,12 @@ abbrev pub description_of_parse : Parse → Result ParseFromDescription Differen
 description_of_parse (of_parsed e) = another
 description_of_parse (of_description e) = Ok e
 
--- the joint error of a `Parse`, whose content it takes out
+-- the joint error of the content of a `Parse`
 abbrev pub joint_of_parse : Parse → Error
 joint_of_parse (of_parsed e) = joint_parsed e
 joint_of_parse (of_description e) = joint_description e
 
--- what a joint error holds
+-- the content of a joint error
 abbrev pub parsed_of_joint : Error → Result TryFromParsed DifferentVariant
 parsed_of_joint (joint_range e) = another
 parsed_of_joint (joint_parsed e) = Ok e
@@ -87,7 +87,7 @@ parse_of_joint (joint_description e) = Ok (of_description e)
 
 -- ---- The bytes that the errors print
 
--- the text of each refusal
+-- the text of each error
 abbrev pub refusal_text : Refusal → List ℕ
 refusal_text literal = codes "a character literal was not valid"
 refusal_text (component name) = codes "the '" ++ name ++ codes "' component could not be parsed"

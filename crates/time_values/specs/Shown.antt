@@ -12,7 +12,7 @@ use Rattle.time_values.specs.declared.time.Time.{Time}
 use Rattle.time_values.specs.declared.utc_date_time.UtcDateTime.{UtcDateTime}
 use Rattle.time_values.specs.declared.utc_offset.UtcOffset.{UtcOffset}
 
--- the bytes that a text holds
+-- the bytes of a text
 pub record Items : Type 0 where
   pub items : List ℕ
 
@@ -21,12 +21,12 @@ unfoldable pub fixed : ℕ → ℕ → List ℕ
 fixed zero n = []
 fixed (suc k) n = fixed k (n / 10) ++ ((48 + n % 10) ∷ [])
 
--- how many of the last k digits of n stand before the zeros at the end
+-- the number of the last k digits of n before the zeros at the end
 unfoldable pub significant : ℕ → ℕ → ℕ
 significant zero n = 0
 significant (suc k) n = if n % 10 == 0 then significant k (n / 10) else suc k
 
--- a point and the first k of nine digits, or nothing where k is 0
+-- a point and the first k of nine digits, or nothing if k is 0
 abbrev pub fraction_shown : ℕ → ℕ → List ℕ
 fraction_shown k n = if k == 0 then [] else codes "." ++ take k (fixed 9 n)
 
@@ -73,7 +73,7 @@ offset_shown o =
 abbrev pub plain_shown : PlainDateTime → List ℕ
 plain_shown p = date_shown (plain_date p) ++ codes " " ++ time_shown (plain_time p)
 
--- and after them the offset
+-- the date, a space, the time, a space, and the offset
 abbrev pub moment_shown : OffsetDateTime → List ℕ
 moment_shown v =
     date_shown (offset_date v) ++ codes " " ++ time_shown (offset_time v) ++ codes " " ++ offset_shown (offset_of v)

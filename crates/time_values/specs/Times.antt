@@ -1,9 +1,9 @@
--- What contracts see of a time of day.
+-- Times of day as contracts view them.
 use Rattle.std.specs.Prelude.{◌≡◌, ℕ, ◌+◌, ◌*◌, false, nat_le, if◌then◌else◌, Option, Some, None, codes}
 use Rattle.time_values.specs.declared.time.Time.{Time}
 use Rattle.time_values.specs.Refusal.{Refusal, range}
 
--- the numbers that a clock shows
+-- the numbers of a time of day
 abbrev pub hour : Time → ℕ
 hour t = t.hour
 
@@ -24,15 +24,15 @@ nanos_of_day t = (hour t * 3600 + minute t * 60 + second t) * 1_000_000_000 + na
 abbrev pub HasClock : ℕ → ℕ → ℕ → ℕ → Time → Type 0
 HasClock h m s n t = (hour t ≡ h) × (minute t ≡ m) × (second t ≡ s) × (nanosecond t ≡ n)
 
--- the time is that one with another nanosecond
+-- the time is the first one with another nanosecond
 abbrev pub HasSecond : Time → ℕ → Time → Type 0
 HasSecond before n t = HasClock (hour before) (minute before) (second before) n t
 
--- the refusal of a nanosecond of the second
+-- the error of a nanosecond of the second
 abbrev pub nanosecond_refusal : ℕ → Option Refusal
 nanosecond_refusal n = if nat_le n 999_999_999 then None else Some (range (codes "nanosecond") false)
 
--- the first part that no clock shows
+-- the error of the first part that is out of range
 abbrev pub time_refusal : ℕ → ℕ → ℕ → ℕ → Option Refusal
 time_refusal h m s n =
     if nat_le h 23 then (if nat_le m 59 then (if nat_le s 59 then nanosecond_refusal n

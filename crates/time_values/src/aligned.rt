@@ -1,9 +1,9 @@
 ghost use Rattle.std.specs.Prelude.{◌≡◌, []};
 
-/// No bytes, at a multiple of eight.
+/// A type of no bytes, aligned to eight.
 ///
-/// A date and a time then lie at the same words as an error, where a `Result` holds either, so that LLVM keeps
-/// their parts apart. Without it a parse joins the parts into words and takes them apart again.
+/// It aligns a date and a time to the words of an error, if a `Result` holds either, so that LLVM keeps their parts
+/// apart. Without it, a parse would join the parts into words and take them apart again.
 #[derive(Clone, Copy, Debug, PartialEq, Eq, PartialOrd, Ord, Hash)]
 pub(crate) struct Aligned {
     words: [u64; 0],

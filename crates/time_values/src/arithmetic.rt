@@ -1,4 +1,4 @@
-//! Days and moments before and after others, the time between two, and what clocks with other offsets show.
+//! Adds durations to days and moments, subtracts moments, and converts local times between offsets.
 ghost use Rattle.std.specs.Prelude.{◌≡◌, ◌+◌, IfSome, IfNone, ◌+ℤ◌, ◌-ℤ◌, pos, neg_ℤ};
 ghost use Rattle.time_values.specs.Calendar as Calendar;
 ghost use Rattle.time_values.specs.Dates as Dates;
@@ -13,7 +13,7 @@ use crate::{Date, Duration, OffsetDateTime, PlainDateTime, Time, UtcDateTime, Ut
 use std::ops::Sub;
 
 impl Date {
-    /// The next day, or `None` of `Date::MAX`.
+    /// The next day, or `None` for `Date::MAX`.
     #[tactic(auto, using(crate::proofs::InstantLemmas::instant_facts))]
     pub fn next_day(self) -> Option<Date>
         ensures value { IfSome result (λ d. Dates.day_number greatest_year d ≡ Dates.day_number greatest_year self + 1) }
@@ -26,7 +26,7 @@ impl Date {
         Some(Date::from_day_number(day))
     }
 
-    /// The day before, or `None` of `Date::MIN`.
+    /// The day before, or `None` for `Date::MIN`.
     #[tactic(auto, using(crate::proofs::InstantLemmas::instant_facts))]
     pub fn previous_day(self) -> Option<Date>
         ensures value { IfSome result (λ d. Dates.day_number greatest_year d + 1 ≡ Dates.day_number greatest_year self) }
@@ -40,7 +40,7 @@ impl Date {
     }
 }
 
-// The date and time at an instant, or `None` where there is no such date.
+// The date and time at an instant, or `None` if its date is out of range.
 fn checked(nanos: i128) -> Option<UtcDateTime>
     ensures value { IfSome result (λ u. utc_instant greatest_year u ≡ nanos) }
     ensures none { IfNone result (¬ (IsInstant greatest_year nanos)) }
@@ -51,7 +51,7 @@ fn checked(nanos: i128) -> Option<UtcDateTime>
     Some(UtcDateTime::at_instant(nanos))
 }
 
-// The date and time at the nearest instant that has them.
+// The date and time at the nearest instant in the range of dates.
 #[tactic(auto, using(crate::proofs::InstantLemmas::instant_facts))]
 fn nearest(nanos: i128) -> UtcDateTime
     ensures { utc_instant greatest_year result ≡ nearest_instant greatest_year nanos }
@@ -80,7 +80,7 @@ impl UtcDateTime {
         self.unix_timestamp_nanos() - duration.whole_nanoseconds()
     }
 
-    /// The moment that much later, or `None` where it has no date in UTC.
+    /// The moment that much later, or `None` if its date in UTC is out of range.
     pub fn checked_add(self, duration: Duration) -> Option<UtcDateTime>
         ensures value { IfSome result (λ u.
             utc_instant greatest_year u ≡ utc_instant greatest_year self +ℤ length duration) }
@@ -90,7 +90,7 @@ impl UtcDateTime {
         checked(self.nanos_after(duration))
     }
 
-    /// The moment that much earlier, or `None` where it has no date in UTC.
+    /// The moment that much earlier, or `None` if its date in UTC is out of range.
     pub fn checked_sub(self, duration: Duration) -> Option<UtcDateTime>
         ensures value { IfSome result (λ u.
             utc_instant greatest_year u ≡ utc_instant greatest_year self -ℤ length duration) }
@@ -100,7 +100,7 @@ impl UtcDateTime {
         checked(self.nanos_before(duration))
     }
 
-    /// The moment that much later, or the nearest one that has a date in UTC.
+    /// The moment that much later, or the nearest one in the range of dates in UTC.
     pub fn saturating_add(self, duration: Duration) -> UtcDateTime
         ensures { utc_instant greatest_year result
             ≡ nearest_instant greatest_year (utc_instant greatest_year self +ℤ length duration) }
@@ -108,7 +108,7 @@ impl UtcDateTime {
         nearest(self.nanos_after(duration))
     }
 
-    /// The moment that much earlier, or the nearest one that has a date in UTC.
+    /// The moment that much earlier, or the nearest one in the range of dates in UTC.
     pub fn saturating_sub(self, duration: Duration) -> UtcDateTime
         ensures { utc_instant greatest_year result
             ≡ nearest_instant greatest_year (utc_instant greatest_year self -ℤ length duration) }
@@ -118,7 +118,7 @@ impl UtcDateTime {
 }
 
 impl PlainDateTime {
-    /// What the clock shows that much later, or `None` where there is no such date.
+    /// The date and time that much later, or `None` if its date is out of range.
     pub fn checked_add(self, duration: Duration) -> Option<PlainDateTime>
         ensures value { IfSome result (λ p.
             plain_instant greatest_year p ≡ plain_instant greatest_year self +ℤ length duration) }
@@ -129,7 +129,7 @@ impl PlainDateTime {
         Some(PlainDateTime::new(clock.date(), clock.time()))
     }
 
-    /// What the clock shows that much earlier, or `None` where there is no such date.
+    /// The date and time that much earlier, or `None` if its date is out of range.
     pub fn checked_sub(self, duration: Duration) -> Option<PlainDateTime>
         ensures value { IfSome result (λ p.
             plain_instant greatest_year p ≡ plain_instant greatest_year self -ℤ length duration) }
@@ -140,7 +140,7 @@ impl PlainDateTime {
         Some(PlainDateTime::new(clock.date(), clock.time()))
     }
 
-    /// What the clock shows that much later, or the first or the last that it can show.
+    /// The date and time that much later, or the nearest one in the range of dates.
     pub fn saturating_add(self, duration: Duration) -> PlainDateTime
         ensures { plain_instant greatest_year result
             ≡ nearest_instant greatest_year (plain_instant greatest_year self +ℤ length duration) }
@@ -149,7 +149,7 @@ impl PlainDateTime {
         PlainDateTime::new(clock.date(), clock.time())
     }
 
-    /// What the clock shows that much earlier, or the first or the last that it can show.
+    /// The date and time that much earlier, or the nearest one in the range of dates.
     pub fn saturating_sub(self, duration: Duration) -> PlainDateTime
         ensures { plain_instant greatest_year result
             ≡ nearest_instant greatest_year (plain_instant greatest_year self -ℤ length duration) }
@@ -160,7 +160,7 @@ impl PlainDateTime {
 }
 
 impl OffsetDateTime {
-    /// The moment that much later at the same offset, or `None` where the clock shows no date then.
+    /// The moment that much later at this offset, or `None` if its date at the offset is out of range.
     pub fn checked_add(self, duration: Duration) -> Option<OffsetDateTime>
         ensures value { IfSome result (λ v.
             offset_clock greatest_year v ≡ offset_clock greatest_year self +ℤ length duration) }
@@ -172,7 +172,7 @@ impl OffsetDateTime {
         Some(OffsetDateTime::new_in_offset(clock.date(), clock.time(), self.offset()))
     }
 
-    /// The moment that much earlier at the same offset, or `None` where the clock shows no date then.
+    /// The moment that much earlier at this offset, or `None` if its date at the offset is out of range.
     pub fn checked_sub(self, duration: Duration) -> Option<OffsetDateTime>
         ensures value { IfSome result (λ v.
             offset_clock greatest_year v ≡ offset_clock greatest_year self -ℤ length duration) }
@@ -184,7 +184,7 @@ impl OffsetDateTime {
         Some(OffsetDateTime::new_in_offset(clock.date(), clock.time(), self.offset()))
     }
 
-    /// The moment that much later at the same offset, or the first or the last that the clock can show.
+    /// The moment that much later at this offset, or the nearest one whose date at the offset is in range.
     pub fn saturating_add(self, duration: Duration) -> OffsetDateTime
         ensures value { offset_clock greatest_year result
             ≡ nearest_instant greatest_year (offset_clock greatest_year self +ℤ length duration) }
@@ -194,7 +194,7 @@ impl OffsetDateTime {
         OffsetDateTime::new_in_offset(clock.date(), clock.time(), self.offset())
     }
 
-    /// The moment that much earlier at the same offset, or the first or the last that the clock can show.
+    /// The moment that much earlier at this offset, or the nearest one whose date at the offset is in range.
     pub fn saturating_sub(self, duration: Duration) -> OffsetDateTime
         ensures value { offset_clock greatest_year result
             ≡ nearest_instant greatest_year (offset_clock greatest_year self -ℤ length duration) }
@@ -205,7 +205,7 @@ impl OffsetDateTime {
     }
 }
 
-/// By their instants: below zero where the first moment is the earlier one.
+/// The time between the instants of two moments: negative if the first moment is the earlier one.
 impl Sub<UtcDateTime> for UtcDateTime {
     type Output = Duration;
 
@@ -216,7 +216,7 @@ impl Sub<UtcDateTime> for UtcDateTime {
     }
 }
 
-/// By what their clocks show.
+/// The time between two local dates and times, as on one clock.
 impl Sub<PlainDateTime> for PlainDateTime {
     type Output = Duration;
 
@@ -227,7 +227,7 @@ impl Sub<PlainDateTime> for PlainDateTime {
     }
 }
 
-/// By their instants, whatever their offsets.
+/// The time between the instants of two moments, whatever their offsets.
 impl Sub<OffsetDateTime> for OffsetDateTime {
     type Output = Duration;
 
@@ -238,8 +238,7 @@ impl Sub<OffsetDateTime> for OffsetDateTime {
     }
 }
 
-// What a clock with the second offset shows when one with the first shows that date and time, or `None` where there is
-// no such date.
+// Converts a date and time at the first offset to the second offset. `None` if the date is out of range.
 pub(crate) fn clock_with(
     date: Date,
     time: Time,
@@ -252,7 +251,7 @@ pub(crate) fn clock_with(
     moved(date, time, to.whole_seconds() - from.whole_seconds())
 }
 
-// The date and time that many seconds later on the clock, less than three days, or `None` where there is no such date.
+// The date and time that many seconds later, less than three days, or `None` if the date is out of range.
 #[tactic(auto, using(crate::proofs::InstantLemmas::instant_facts))]
 fn moved(date: Date, time: Time, seconds: i32) -> Option<UtcDateTime>
     requires { IsBetween (neg_ℤ (pos 259_199)) (pos 259_199) seconds }

@@ -1,4 +1,4 @@
-//! Moments of timestamps and of the system's clock.
+//! Conversions between moments, timestamps and times of the system's clock.
 ghost use Rattle.std.specs.Prelude.{◌≡◌, ◌+ℤ◌, ◌*ℤ◌, ◌<◌, pos};
 ghost use Rattle.std.specs.Time.{system_time_nanos};
 ghost use Rattle.time_values.specs.Instants.{timestamp_refusal};
@@ -12,7 +12,7 @@ use crate::{OffsetDateTime, Timestamp, UtcDateTime};
 use std::convert::TryFrom;
 use std::time::{Duration, SystemTime, UNIX_EPOCH};
 
-/// The same moment, which a timestamp always has in UTC.
+/// The moment of a timestamp, which always has a date in UTC.
 impl From<Timestamp> for UtcDateTime {
     ghost from_gives = { λ t u. utc_instant greatest_year u ≡ nanoseconds t };
 
@@ -21,7 +21,7 @@ impl From<Timestamp> for UtcDateTime {
     }
 }
 
-/// The moment of a time of the system's clock. Refused as `timestamp` after the year 999999.
+/// The moment of a time of the system's clock. An error names `timestamp` after the year 999999.
 impl TryFrom<SystemTime> for UtcDateTime {
     type Error = ComponentRange;
 
@@ -36,7 +36,7 @@ impl TryFrom<SystemTime> for UtcDateTime {
     }
 }
 
-/// The moment of a time of the system's clock, at offset 0. Refused as `timestamp` after the year 999999.
+/// The moment of a time of the system's clock, at offset 0. An error names `timestamp` after the year 999999.
 impl TryFrom<SystemTime> for OffsetDateTime {
     type Error = ComponentRange;
 
@@ -69,7 +69,7 @@ fn system_time(seconds: i64, nanosecond: u32) -> Result<SystemTime, ComponentRan
     }
 }
 
-/// The time of the system's clock at that moment. Refused as `timestamp` before 1970, where the clock has no times.
+/// The time of the system's clock at that moment. An error names `timestamp` before 1970, when the clock has no times.
 impl TryFrom<UtcDateTime> for SystemTime {
     type Error = ComponentRange;
 
@@ -80,7 +80,7 @@ impl TryFrom<UtcDateTime> for SystemTime {
     }
 }
 
-/// The time of the system's clock at that moment. Refused as `timestamp` before 1970, where the clock has no times.
+/// The time of the system's clock at that moment. An error names `timestamp` before 1970, when the clock has no times.
 impl TryFrom<OffsetDateTime> for SystemTime {
     type Error = ComponentRange;
 

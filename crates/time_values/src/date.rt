@@ -43,8 +43,8 @@ impl Date {
         aligned: Aligned::TO_WORDS,
     };
 
-    /// The date with this year, month and day of the month, from 1. Refused as `year` outside
-    /// -999999 to 999999, then as conditional `day` where the month has no such day.
+    /// The date with this year, month and day of the month, from 1. An error names `year` outside -999999 to 999999,
+    /// and else, as conditional, `day` if the month has no such day.
     #[inline(always)]
     pub fn from_calendar_date(year: i32, month: Month, day: u8) -> Result<Date, ComponentRange>
         ensures { Constructs (calendar_date_refusal greatest_year year (month_number month) day)
@@ -56,7 +56,7 @@ impl Date {
                 conditional: false,
             });
         }
-        // Every month has 28 days.
+        // Every month has at least 28 days.
         if day == 0 || day > 28 && day > month.length(year) {
             return Err(ComponentRange {
                 name: "day",
@@ -71,8 +71,8 @@ impl Date {
         })
     }
 
-    /// The day at that place in the year, from 1. Refused as `year` outside -999999 to 999999, then
-    /// as conditional `ordinal` where the year has no such day.
+    /// The date of that year and day of the year, from 1. An error names `year` outside -999999 to 999999, and else, as
+    /// conditional, `ordinal` if the year has no such day.
     pub fn from_ordinal_date(year: i32, ordinal: u16) -> Result<Date, ComponentRange>
         ensures { Constructs (ordinal_date_refusal greatest_year year ordinal)
             (λ d. (Dates.year d ≡ year) × (Dates.ordinal d ≡ ordinal)) result }
@@ -92,7 +92,7 @@ impl Date {
         Ok(Date::at_ordinal(year, ordinal))
     }
 
-    // The day at a place that the year has.
+    // The date of a day of the year, which the year must have.
     fn at_ordinal(year: i32, ordinal: u16) -> Date
         requires year_in { Calendar.IsYear greatest_year year }
         requires ordinal_in { IsInRange 1 (Calendar.year_length year) ordinal }
@@ -132,7 +132,7 @@ impl Date {
         self.day
     }
 
-    /// The place of the day in its year, 1 to 366.
+    /// The day of the year, 1 to 366.
     pub fn ordinal(self) -> u16
         ensures value { result ≡ Dates.ordinal self }
         ensures within { IsInRange 1 (Calendar.year_length (Dates.year self)) result }
@@ -158,7 +158,7 @@ impl Date {
         days::year_start(self.year) + (self.ordinal() as u32 - 1)
     }
 
-    // How many years there are before this day's, and a hundred, where a year begins in March.
+    // The number of years before this day's year, plus 100, in years that begin in March.
     #[inline(always)]
     fn march_years(&self) -> u32
         ensures value { result ≡ Calendar.years_before greatest_year (Dates.year self.now)
@@ -168,9 +168,9 @@ impl Date {
         (self.year as i64 + self.month.march_years()) as u32
     }
 
-    // The days since 1970-01-01. Years that begin in March end with their leap day, so none is asked for. Of a hundred
-    // years more, three quarters of the centuries are what has no leap day. A reference, since LLVM moves a date as one
-    // word and then takes its parts out of it.
+    // The days since 1970-01-01. Years that begin in March end with their leap day, so no leap year is tested. With 100
+    // years added, three quarters of the centuries have no leap day. `self` is a reference, since LLVM moves a date as
+    // one word and then extracts its parts.
     #[inline(always)]
     pub(crate) fn days_since_1970(&self) -> i64
         ensures value { result ≡ pos (Dates.day_number greatest_year self.now) -ℤ pos 365_961_662 }
@@ -193,31 +193,28 @@ impl Date {
     ghost use Rattle.time_values.specs.Dates as Dates;
     ghost use Rattle.time_values.specs.Dates.{ConstructsIsoDate};
 
-    /// The week of the year, 0 to 53, where week 1 begins on the year's first Sunday and the days
-    /// before are week 0.
+    /// The week of the year, 0 to 53. Week 1 begins on the year's first Sunday, and the days before are week 0.
     pub fn sunday_based_week(self) -> u8
         ensures { result ≡ Dates.weekdays_so_far greatest_year 6 self }
     {
         ((self.ordinal() + 6 - self.weekday().number_days_from_sunday() as u16) / 7) as u8
     }
 
-    /// The week of the year, 0 to 53, where week 1 begins on the year's first Monday and the days
-    /// before are week 0.
+    /// The week of the year, 0 to 53. Week 1 begins on the year's first Monday, and the days before are week 0.
     pub fn monday_based_week(self) -> u8
         ensures { result ≡ Dates.weekdays_so_far greatest_year 0 self }
     {
         ((self.ordinal() + 6 - self.weekday().number_days_from_monday() as u16) / 7) as u8
     }
 
-    /// The year, week and weekday by ISO 8601: a week begins on Monday, and belongs to the year of
-    /// its Thursday.
+    /// The year, week and weekday by ISO 8601: a week begins on Monday, and belongs to the year of its Thursday.
     pub fn to_iso_week_date(self) -> (i32, u8, Weekday)
         ensures week { Calendar.IsIsoWeek greatest_year (Dates.day_number greatest_year self)
             result.0 result.1 }
         ensures weekday { days_from_monday result.2 ≡ Dates.weekday greatest_year self }
     {
         let weekday = self.weekday();
-        // The place of the week's Thursday, where 8 is the first of January.
+        // The place of the week's Thursday, counted so that 1 January is 8.
         let shifted = self.ordinal() + 10 - weekday.number_days_from_monday() as u16;
         let Some((year, place)) = days::at_place(self.year, shifted) else {
             unreachable!()
@@ -234,9 +231,9 @@ impl Date {
         week
     }
 
-    /// The day of that year, week and weekday by ISO 8601. Refused as `year` outside -999999 to
-    /// 999999, then as conditional `week` where the year has no such week, then as conditional
-    /// `weekday` where the day lies past `Date::MAX`.
+    /// The date of that year, week and weekday by ISO 8601. An error names `year` outside -999999 to 999999, and else,
+    /// as conditional, `week` if the year has no such week, and else, as conditional, `weekday` if the day is after
+    /// `Date::MAX`.
     pub fn from_iso_week_date(year: i32, week: u8, weekday: Weekday) -> Result<Date, ComponentRange>
         ensures { ConstructsIsoDate greatest_year year week (days_from_monday weekday) result }
     {
@@ -246,7 +243,7 @@ impl Date {
                 conditional: false,
             });
         }
-        // The place of the year's first Thursday, from 1.
+        // The day of the year of the year's first Thursday, from 1.
         let thursday = days::first_thursday(year);
         if week == 0 || week as u16 > (year_length(year) + 7 - thursday) / 7 {
             return Err(ComponentRange {
@@ -254,7 +251,7 @@ impl Date {
                 conditional: true,
             });
         }
-        // The place of the day, where 8 is the first of January.
+        // The place of the day, counted so that 1 January is 8.
         let shifted = thursday
             + 7 * (week as u16 - 1)
             + 4
@@ -269,7 +266,7 @@ impl Date {
     }
 }
 
-// As it is derived, without what aligns.
+// As a derived `Debug` would print it, without the aligning field.
 impl fmt::Debug for Date {
     fn fmt<W: fmt::Write>(&self, f: &mut fmt::Formatter<W>) -> fmt::Result {
         f.debug_struct("Date")
@@ -290,12 +287,12 @@ fn days_before_month(year: i32, month: u16) -> u16
     if month <= 2 {
         31 * (month - 1)
     } else {
-        // The months from March on have 153 days in five.
+        // From March on, each five months have 153 days.
         (153 * month - 457) / 5 + 59 + leap_day(year)
     }
 }
 
-// The month and day at a place of the year.
+// The month and day of a day of the year.
 #[tactic(auto, using(crate::proofs::YearLemmas::month_and_day_facts))]
 fn month_and_day(year: i32, ordinal: u16) -> (u8, u8)
     requires { IsInRange 1 (Calendar.year_length year) ordinal }

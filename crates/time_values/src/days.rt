@@ -1,13 +1,13 @@
-//! Years and their days, and day numbers, which count from the first day that there is.
+//! Lengths of years, and day numbers, which count from the first day in range.
 ghost use Rattle.std.specs.Prelude.{IfNone, IfSome, ◌-◌, ◌/◌, ◌%◌, ◌≡◌, ◌+◌, ◌*◌, ◌<◌, ◌≤◌};
 ghost use Rattle.std.specs.Int.{IsInRange};
 ghost use Rattle.time_values.specs.Calendar as Calendar;
 ghost use Rattle.time_values.specs.Calendar.{greatest_year};
 
-/// The greatest year that a [`Date`](crate::Date) has; the least one is its negative.
+/// The greatest year of a [`Date`](crate::Date); the least one is its negative.
 pub const MAX_YEAR: i32 = 999_999;
 
-/// The number of days that there are.
+/// The number of days in the range of dates.
 pub const DAY_LIMIT: u32 = 365 * YEARS + YEARS / 4 - YEARS / 100 + YEARS / 400;
 
 const YEARS: u32 = 2 * MAX_YEAR as u32 + 1;
@@ -27,7 +27,7 @@ pub fn is_leap_year(year: i32) -> bool
     year % 4 == 0 && (year % 100 != 0 || year % 400 == 0)
 }
 
-/// The days of a year, 366 for a leap year and else 365.
+/// The number of days of a year, 366 for a leap year and else 365.
 #[inline]
 pub fn year_length(year: i32) -> u16
     ensures { result ≡ Calendar.year_length year }
@@ -63,8 +63,8 @@ pub fn year_start(year: i32) -> u32
     365 * years + years / 4 - years / 100 + years / 400
 }
 
-/// The year and place of a day by its distance from a year's start, where 8 is the first of
-/// January, and `None` past the last day.
+/// The year and the day of the year of a day, from its distance to a year's start, counted so that 1 January is 8.
+/// `None` after the last day.
 pub fn at_place(year: i32, shifted: u16) -> Option<(i32, u16)>
     requires year_in { Calendar.IsYear greatest_year year }
     requires low { 7 < Calendar.year_start greatest_year year + shifted }
@@ -91,7 +91,7 @@ pub fn at_place(year: i32, shifted: u16) -> Option<(i32, u16)>
     Some((year + 1, place - length))
 }
 
-/// The place of the year's first Thursday, from 1.
+/// The day of the year of the year's first Thursday, from 1.
 pub fn first_thursday(year: i32) -> u16
     requires { Calendar.IsYear greatest_year year }
     ensures value { (Calendar.year_start greatest_year year + result + 6) % 7 ≡ 3 }
@@ -101,7 +101,7 @@ pub fn first_thursday(year: i32) -> u16
     ((10 - from_monday) % 7 + 1) as u16
 }
 
-/// The year of a day number, and the day's place there, from 1.
+/// The year of a day number, and the day of the year, from 1.
 pub fn year_and_place(day: u32) -> (i32, u16)
     requires { day < Calendar.day_limit greatest_year }
     ensures value { Calendar.year_start greatest_year result.0 + result.1 ≡ day + 1 }
@@ -112,7 +112,7 @@ pub fn year_and_place(day: u32) -> (i32, u16)
     (years as i32 - MAX_YEAR, rest as u16 + 1)
 }
 
-// How many years have passed since the first, and how many days since then.
+// The number of whole years since the first, and the days since then.
 fn split_years(day: u32) -> (u32, u32)
     requires { day < 1_000_000_000 }
     ensures value { 365 * result.0 + result.0 / 4 - result.0 / 100 + result.0 / 400 + result.1 ≡ day }

@@ -4,7 +4,7 @@ ghost use Rattle.time_values.specs.Shown.{fixed, significant, fraction_shown};
 
 use crate::text::Text;
 
-// The two digits of each number below 100, as one number, of which the low byte is the first digit.
+// The two digits of each number below 100, as one number whose low byte is the first digit.
 static PAIRS: [u16; 100] = [
     0x3030, 0x3130, 0x3230, 0x3330, 0x3430, 0x3530, 0x3630, 0x3730, 0x3830, 0x3930, 0x3031, 0x3131,
     0x3231, 0x3331, 0x3431, 0x3531, 0x3631, 0x3731, 0x3831, 0x3931, 0x3032, 0x3132, 0x3232, 0x3332,
@@ -19,7 +19,7 @@ static PAIRS: [u16; 100] = [
 
 /// The two digits of a number below 100.
 //
-// They come from one number, so that they are stored by one instruction.
+// They are loaded as one number, so that one instruction stores them.
 #[inline(always)]
 #[tactic(auto, using(crate::proofs::NumberLemmas::pairs_at), unfolding(crate::specs::Shown::fixed))]
 pub fn pair(n: u8) -> [u8; 2]
@@ -30,7 +30,8 @@ pub fn pair(n: u8) -> [u8; 2]
     [(digits % 256) as u8, (digits / 256) as u8]
 }
 
-// The hundreds of a number below 10000, by a product. By a quotient LLVM moves to 16 bits and back, as it sees the limit.
+// The hundreds of a number below 10000, by a multiplication. For a division LLVM would convert to 16 bits and back,
+// since it knows the limit.
 #[inline(always)]
 fn hundreds(n: u32) -> u32
     requires { n < 10_000 }
@@ -88,7 +89,7 @@ pub fn six(n: u32) -> [u8; 6]
     [a, b, c, d, e, f]
 }
 
-// A number of digits, and the number that they say, without thousands of zeros at its end.
+// The number of digits, and the number that they represent, without thousands of zeros at its end.
 #[tactic(auto, using(crate::proofs::NumberLemmas::significant_thousand, crate::proofs::NumberLemmas::significant_million, crate::proofs::NumberLemmas::significant_nothing))]
 fn without_thousands(nanosecond: u32) -> (usize, u32)
     ensures count { significant 9 nanosecond ≡ significant result.0 result.1 }
@@ -106,7 +107,7 @@ fn without_thousands(nanosecond: u32) -> (usize, u32)
     (9, nanosecond)
 }
 
-/// How many of the nine digits of a nanosecond stand before the zeros at the end, 0 to 9.
+/// The number of digits of a nanosecond, of nine, before the zeros at the end, 0 to 9.
 pub fn count_significant(nanosecond: u32) -> usize
     ensures count { result ≡ significant 9 nanosecond }
     ensures bound { result ≤ 9 }
@@ -119,7 +120,7 @@ pub fn count_significant(nanosecond: u32) -> usize
     count
 }
 
-/// Puts a point and the first `count` of the nine digits of a nanosecond, or nothing where `count` is 0. There must be
+/// Appends a point and the first `count` of the nine digits of a nanosecond, or nothing if `count` is 0. There must be
 /// room for ten bytes.
 #[inline(always)]
 pub fn append_fraction(text: &mut Text, count: usize, nanosecond: u32)

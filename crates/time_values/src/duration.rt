@@ -2,7 +2,7 @@ ghost use Rattle.std.specs.Prelude.{◌≡◌, ◌↔◌, IsTrue, pos, ◌+ℤ�
 ghost use Rattle.time_values.specs.Calendar.{IsLength};
 ghost use Rattle.time_values.specs.MovedClocks.{IsNear};
 
-/// A length of time, in nanoseconds of either sign. Its whole seconds have 64 bits.
+/// A length of time, in nanoseconds of either sign. Its whole seconds fit in 64 bits.
 #[derive(Clone, Copy, Debug, PartialEq, Eq, PartialOrd, Ord, Hash)]
 pub struct Duration {
     nanoseconds: i128,
@@ -15,8 +15,8 @@ impl Duration {
     /// No time at all.
     pub const ZERO: Duration = Duration { nanoseconds: 0 };
 
-    /// That many seconds and nanoseconds together, each of either sign. The whole seconds must have 64 bits, as they
-    /// always do where the nanoseconds are fewer than a second's.
+    /// The duration of that many seconds and nanoseconds together, each of either sign. The whole seconds must fit in
+    /// 64 bits, as they always do if the nanoseconds are fewer than a second's.
     pub fn new(seconds: i64, nanoseconds: i32) -> Duration
         requires { IsLength ((seconds *ℤ pos 1_000_000_000) +ℤ nanoseconds) }
         ensures { Durations.length result ≡ (seconds *ℤ pos 1_000_000_000) +ℤ nanoseconds }
@@ -26,14 +26,14 @@ impl Duration {
         }
     }
 
-    /// That many seconds.
+    /// The duration of that many seconds.
     pub fn seconds(seconds: i64) -> Duration
         ensures { Durations.length result ≡ seconds *ℤ pos 1_000_000_000 }
     {
         Duration::new(seconds, 0)
     }
 
-    /// That many nanoseconds.
+    /// The duration of that many nanoseconds.
     pub fn nanoseconds(nanoseconds: i64) -> Duration
         ensures { Durations.length result ≡ nanoseconds }
     {
@@ -52,7 +52,7 @@ impl Duration {
         }
     }
 
-    /// The whole nanoseconds.
+    /// The duration in nanoseconds.
     #[inline]
     pub fn whole_nanoseconds(self) -> i128
         ensures value { result ≡ Durations.length self }
@@ -72,7 +72,7 @@ impl Duration {
         magnitude as i64
     }
 
-    /// Whether this is less than no time.
+    /// Whether the duration is below 0.
     pub fn is_negative(self) -> bool
         ensures { IsTrue result ↔ (Durations.length self <ℤ pos 0) }
     {

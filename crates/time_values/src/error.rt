@@ -1,4 +1,4 @@
-//! The errors of the constructors of dates and times, and of parsing.
+//! Errors of the constructors of dates and times, and of parsing.
 ghost use Rattle.std.specs.Prelude.{◌≡◌, ◌⊎◌, Ok, Err, Some, IfSome, IfNone};
 ghost use Rattle.time_values.specs.Refusal.{range_of_parsed, parsed_of_parse, description_of_parse, joint_of_parse, parsed_of_joint, description_of_joint, parse_of_joint, literal, component, trailing, refusal_of_range, refusal_of_description, refusal_of_parsed, refusal_of, refusal_text, variant_text};
 ghost use Rattle.time_values.specs.declared.error.Error.TheVariants.{ComponentRange as joint_range, TryFromParsed as joint_parsed, ParseFromDescription as joint_description};
@@ -48,7 +48,7 @@ impl fmt::Display for ComponentRange {
 
 impl std::error::Error for ComponentRange {}
 
-/// A conversion met a value of another variant than the one that it takes out.
+/// A conversion took an enum's value of a different variant.
 #[derive(Clone, Copy, Debug, PartialEq, Eq)]
 pub struct DifferentVariant;
 
@@ -62,19 +62,19 @@ impl fmt::Display for DifferentVariant {
 
 impl std::error::Error for DifferentVariant {}
 
-/// A text does not have the form that is asked.
+/// A text doesn't have the expected form.
 #[derive(Clone, Copy, Debug, PartialEq, Eq)]
 pub enum ParseFromDescription {
-    /// A literal does not stand where it should.
+    /// The expected literal is missing.
     InvalidLiteral,
     /// The component of this name could not be read.
     InvalidComponent(&'static str),
-    /// Bytes are left where the input should end.
+    /// Bytes are left after the expected end of the input.
     UnexpectedTrailingCharacters,
 }
 
 impl ParseFromDescription {
-    /// The name of the component that could not be read, or `None` where something else is wrong.
+    /// The name of the component that could not be read, or `None` for another error.
     pub fn component_name(self) -> Option<&'static str>
         ensures name { IfSome result (λ name. refusal_of_description self ≡ component name.now) }
         ensures none { IfNone result ((refusal_of_description self ≡ literal) ⊎ (refusal_of_description self ≡ trailing)) }
@@ -108,7 +108,7 @@ impl fmt::Display for ParseFromDescription {
 
 impl std::error::Error for ParseFromDescription {}
 
-/// What was read does not make the value that is asked.
+/// The components that were read don't make a value of the expected type.
 #[derive(Clone, Copy, Debug, PartialEq, Eq)]
 pub enum TryFromParsed {
     /// Components are missing.
@@ -227,10 +227,10 @@ pub enum Error {
     /// A component is out of its range.
     #[error(transparent)]
     ComponentRange(ComponentRange),
-    /// A text does not have the form that is asked.
+    /// A text doesn't have the expected form.
     #[error(transparent)]
     ParseFromDescription(ParseFromDescription),
-    /// What was read does not make the value that is asked.
+    /// The components that were read don't make a value of the expected type.
     #[error(transparent)]
     TryFromParsed(TryFromParsed),
 }

@@ -1,4 +1,4 @@
-//! The parts of the date and of the time of a date-time.
+//! Parts of the date and of the time of a date-time.
 
 mod offset;
 mod plain;

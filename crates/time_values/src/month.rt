@@ -11,8 +11,8 @@ use crate::days::is_leap_year;
 use crate::error::ComponentRange;
 use std::num::NonZero;
 
-// For each month the days from the first of March to its own first, less 365998494, and then for each month 1000099, and
-// one more from March on. Both stand in one table, whose address is then taken once.
+// First, for each month, the days from the first of March to its own first, less 365998494. Then, for each month,
+// 1000099, or 1000100 from March on. Both are in one table, so that its address is loaded once.
 static MARCH: [i64; 24] = [
     -365_998_188,
     -365_998_157,
@@ -58,8 +58,7 @@ pub enum Month {
 }
 
 impl Month {
-    /// The month of that number, 1 for January to 12 for December. A greater number is refused as
-    /// `month`.
+    /// The month of that number, 1 for January to 12 for December. An error names `month` for a greater number.
     pub fn from_number(number: NonZero<u8>) -> Result<Month, ComponentRange>
         ensures { Constructs (month_refusal number.value) (λ m. month_number m ≡ number.value) result }
     {
@@ -72,7 +71,7 @@ impl Month {
         }
     }
 
-    /// The month of a number that is one: 1 for January to 12 for December.
+    /// The month of a number that must be valid: 1 for January to 12 for December.
     #[inline]
     pub fn at(number: u8) -> Month
         requires low { 1 ≤ number }
@@ -116,7 +115,7 @@ impl Month {
         MARCH[(self.number() - 1) as usize]
     }
 
-    // 1000099, and one more from March on.
+    // 1000099, or 1000100 from March on.
     #[inline(always)]
     #[tactic(auto, using(crate::proofs::NumberLemmas::march_years_at))]
     pub(crate) fn march_years(self) -> i64

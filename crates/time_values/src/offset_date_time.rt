@@ -11,7 +11,7 @@ use crate::days::DAY_LIMIT;
 use crate::error::ComponentRange;
 use crate::{Date, Time, UtcDateTime, UtcOffset};
 
-/// A date and a time of day as a clock with an offset from UTC shows them.
+/// A local date and time of day, and their offset from UTC.
 #[derive(Clone, Copy, Debug, PartialEq, Eq, Hash)]
 pub struct OffsetDateTime {
     date: Date,
@@ -20,8 +20,8 @@ pub struct OffsetDateTime {
 }
 
 impl OffsetDateTime {
-    /// The date and time at that offset. The three parts are kept also where the moment lies
-    /// outside the range of dates in UTC.
+    /// The moment of that date and time at the offset. It stores all three parts even if the moment is outside the
+    /// range of dates in UTC.
     #[inline]
     pub fn new_in_offset(date: Date, time: Time, offset: UtcOffset) -> OffsetDateTime
         ensures date { offset_date result ≡ date }
@@ -31,8 +31,8 @@ impl OffsetDateTime {
         OffsetDateTime { date, time, offset }
     }
 
-    /// The moment that many nanoseconds after 1970-01-01T00:00:00Z, at offset 0. Refused as
-    /// `timestamp` outside -31619087596800000000000 to 31494784780799999999999.
+    /// The moment that many nanoseconds after 1970-01-01T00:00:00Z, at offset 0. An error names `timestamp` outside
+    /// -31619087596800000000000 to 31494784780799999999999.
     pub fn from_unix_timestamp_nanos(nanos: i128) -> Result<OffsetDateTime, ComponentRange>
         ensures { Constructs (Instants.timestamp_refusal greatest_year nanos)
             (λ o. (offset_instant greatest_year o ≡ nanos)
@@ -47,7 +47,7 @@ impl OffsetDateTime {
         })
     }
 
-    /// The date on the clock.
+    /// The local date.
     #[inline]
     pub fn date(self) -> Date
         ensures { result ≡ offset_date self }
@@ -55,7 +55,7 @@ impl OffsetDateTime {
         self.date
     }
 
-    /// The time on the clock.
+    /// The local time of day.
     #[inline]
     pub fn time(self) -> Time
         ensures { result ≡ offset_time self }
@@ -63,7 +63,7 @@ impl OffsetDateTime {
         self.time
     }
 
-    /// How far the clock is ahead of UTC.
+    /// The offset of the local time from UTC.
     #[inline]
     pub fn offset(self) -> UtcOffset
         ensures { result ≡ offset_of self }
@@ -71,7 +71,7 @@ impl OffsetDateTime {
         self.offset
     }
 
-    /// The nanoseconds since 1970-01-01T00:00:00Z, also where they have no date in UTC.
+    /// The nanoseconds since 1970-01-01T00:00:00Z, even if the moment has no date in UTC.
     pub fn unix_timestamp_nanos(self) -> i128
         ensures { result ≡ offset_instant greatest_year self }
     {
@@ -79,7 +79,7 @@ impl OffsetDateTime {
         clock - self.offset.whole_seconds() as i128 * 1_000_000_000
     }
 
-    /// The same second with another nanosecond. Refused as `nanosecond` above 999999999.
+    /// The moment with another nanosecond of its second. An error names `nanosecond` above 999999999.
     pub fn replace_nanosecond(self, nanosecond: u32) -> Result<OffsetDateTime, ComponentRange>
         ensures { Constructs (nanosecond_refusal nanosecond) (λ o. (offset_date o ≡ offset_date self)
             × HasSecond (offset_time self) nanosecond (offset_time o)
@@ -93,7 +93,7 @@ impl OffsetDateTime {
         })
     }
 
-    /// The same moment in UTC, or `None` where it lies outside the range of dates there.
+    /// The moment in UTC, or `None` if it is outside the range of dates there.
     #[tactic(auto, using(crate::proofs::InstantLemmas::instant_facts))]
     pub fn checked_to_utc(self) -> Option<UtcDateTime>
         ensures value { IfSome result (λ u. utc_instant greatest_year u ≡ offset_instant greatest_year self) }
@@ -113,7 +113,7 @@ impl OffsetDateTime {
         Some(UtcDateTime::new(Date::from_day_number(day - 2), time))
     }
 
-    /// The whole seconds since 1970-01-01T00:00:00Z, rounded down, also where they have no date in UTC.
+    /// The whole seconds since 1970-01-01T00:00:00Z, rounded down, even if the moment has no date in UTC.
     #[tactic(auto, using(crate::proofs::InstantLemmas::instant_facts))]
     #[inline]
     pub fn unix_timestamp(self) -> i64
@@ -122,7 +122,7 @@ impl OffsetDateTime {
         self.date.days_since_1970() * 86_400 + self.time.seconds_in_utc(&self.offset)
     }
 
-    /// The moment that many seconds after 1970-01-01T00:00:00Z, at offset 0. Refused as `timestamp` outside
+    /// The moment that many seconds after 1970-01-01T00:00:00Z, at offset 0. An error names `timestamp` outside
     /// -31619087596800 to 31494784780799.
     pub fn from_unix_timestamp(timestamp: i64) -> Result<OffsetDateTime, ComponentRange>
         ensures { Constructs (Instants.timestamp_refusal greatest_year (timestamp *ℤ pos 1_000_000_000))
@@ -131,7 +131,7 @@ impl OffsetDateTime {
         OffsetDateTime::from_unix_timestamp_nanos(timestamp as i128 * 1_000_000_000)
     }
 
-    /// The same moment on a clock with that offset, or `None` where the clock shows no date there.
+    /// The moment at another offset, or `None` if its date there is out of range.
     pub fn checked_to_offset(self, offset: UtcOffset) -> Option<OffsetDateTime>
         ensures instant { IfSome result (λ v. offset_instant greatest_year v ≡ offset_instant greatest_year self) }
         ensures offset { IfSome result (λ v. offset_of v ≡ offset) }
@@ -146,8 +146,8 @@ impl OffsetDateTime {
         })
     }
 
-    /// The same moment on a clock with that offset, which must show a date there: ask
-    /// [`checked_to_offset`](OffsetDateTime::checked_to_offset) where this isn't known.
+    /// The moment at another offset, at which its date must be in range. If this isn't known, call
+    /// [`checked_to_offset`](OffsetDateTime::checked_to_offset).
     pub fn to_offset(self, offset: UtcOffset) -> OffsetDateTime
         requires { Instants.IsInstant greatest_year (shown_at (offset_instant greatest_year self) offset) }
         ensures instant { offset_instant greatest_year result ≡ offset_instant greatest_year self }
@@ -159,8 +159,8 @@ impl OffsetDateTime {
         }
     }
 
-    /// The same moment in UTC, which must have a date there: ask [`checked_to_utc`](OffsetDateTime::checked_to_utc)
-    /// where this isn't known.
+    /// The moment in UTC, at which its date must be in range. If this isn't known, call
+    /// [`checked_to_utc`](OffsetDateTime::checked_to_utc).
     pub fn to_utc(self) -> UtcDateTime
         requires { Instants.IsInstant greatest_year (offset_instant greatest_year self) }
         ensures { utc_instant greatest_year result ≡ offset_instant greatest_year self }
@@ -171,7 +171,7 @@ impl OffsetDateTime {
         }
     }
 
-    /// Whether this moment may stand for a leap second: in UTC it is the last nanosecond of a month.
+    /// Whether this moment may represent a leap second: in UTC it is the last nanosecond of a month.
     pub fn is_valid_leap_second_stand_in(self) -> bool
         ensures { IsTrue result ↔ Instants.IsLeapSecondMoment greatest_year (offset_instant greatest_year self) }
     {
@@ -182,7 +182,7 @@ impl OffsetDateTime {
     }
 }
 
-/// The same moment, at offset 0.
+/// A moment in UTC, at offset 0.
 impl From<UtcDateTime> for OffsetDateTime {
     ghost use Rattle.std.specs.Prelude.{◌≡◌};
     ghost use Rattle.time_values.specs.Moments.{offset_instant, offset_of, utc_instant};

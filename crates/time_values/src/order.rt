@@ -1,6 +1,6 @@
-//! Which value is the earlier one, and hashes of values whose equality is written by hand.
+//! Orders of values, and hashes of values whose equality is written by hand.
 //!
-//! The orders of dates, offsets, and date-times without an offset or in UTC are derived: their parts stand from
+//! The orders of dates, offsets, and date-times without an offset or in UTC are derived: their fields are declared from
 //! the greatest to the least.
 ghost use Rattle.std.specs.Prelude.{◌≡◌, ◌↔◌, IsTrue};
 ghost use Rattle.std.proofs.Common.{rules};
@@ -15,7 +15,7 @@ use crate::{Month, OffsetDateTime, Time, Timestamp, Weekday};
 use std::cmp::Ordering;
 use std::hash::{Hash, Hasher};
 
-/// By the nanoseconds since midnight.
+/// Ordered by the nanoseconds since midnight.
 impl Ord for Time {
     ghost use Rattle.time_values.specs.Times.{nanos_of_day};
 
@@ -44,7 +44,7 @@ impl PartialOrd for Time {
     }
 }
 
-/// By the nanoseconds since 1970-01-01T00:00:00Z.
+/// Ordered by the nanoseconds since 1970-01-01T00:00:00Z.
 impl Ord for Timestamp {
     ghost use Rattle.time_values.specs.Moments.{nanoseconds};
 
@@ -73,7 +73,7 @@ impl PartialOrd for Timestamp {
     }
 }
 
-/// By the number.
+/// Ordered by the number of the month.
 impl Ord for Month {
     ghost use Rattle.time_values.specs.Names.{month_number};
 
@@ -127,7 +127,7 @@ impl Hash for Weekday {
 }
 
 impl OffsetDateTime {
-    /// Which of two moments is the earlier one, whatever their offsets.
+    /// Compares the instants of two moments, whatever their offsets.
     pub fn cmp_instant(self, other: OffsetDateTime) -> Ordering
         ensures { result ≡ on (offset_instant greatest_year) int_cmp self other }
     {
@@ -135,7 +135,7 @@ impl OffsetDateTime {
             .cmp(&other.unix_timestamp_nanos())
     }
 
-    /// Whether both are one moment, whatever their offsets.
+    /// Whether both are one instant, whatever their offsets.
     pub fn is_same_instant(self, other: OffsetDateTime) -> bool
         ensures { IsTrue result ↔ (offset_instant greatest_year self ≡ offset_instant greatest_year other) }
     {

@@ -1,4 +1,4 @@
-//! The parts of a date, of a time of day and of a timestamp.
+//! Parts of a date, of a time of day and of a timestamp.
 ghost use Rattle.std.specs.Prelude.{◌≡◌, ◌/◌, ◌<◌, pos, neg_ℤ, ◌+ℤ◌, ◌*ℤ◌};
 ghost use Rattle.time_values.specs.Calendar.{IsBetween};
 ghost use Rattle.time_values.specs.Dates as Dates;
@@ -18,7 +18,7 @@ impl Date {
         (self.year(), self.month(), self.day())
     }
 
-    /// The year and the place of the day in it, from 1.
+    /// The year and the day of the year, from 1.
     pub fn to_ordinal_date(self) -> (i32, u16)
         ensures year { result.0 ≡ Dates.year self }
         ensures ordinal { result.1 ≡ Dates.ordinal self }
@@ -88,7 +88,7 @@ impl Time {
 impl Timestamp {
     // The seconds since 1970-01-01T00:00:00Z, rounded down, and the nanoseconds after that second.
     //
-    // The nanoseconds since the first moment have 76 bits. Divided as two digits of 32 bits they take no division of 128.
+    // The nanoseconds since the first moment have 76 bits. As two digits of 32 bits they need no division of 128 bits.
     #[inline]
     #[tactic(auto, using(crate::proofs::InstantLemmas::instant_facts))]
     fn seconds_and_nanosecond(self) -> (i64, u32)
@@ -122,8 +122,8 @@ impl Timestamp {
         seconds * 1000 + (nanosecond / 1_000_000) as i64
     }
 
-    /// The whole microseconds since 1970-01-01T00:00:00Z, rounded down. In the first and the last years they have more
-    /// than 64 bits.
+    /// The whole microseconds since 1970-01-01T00:00:00Z, rounded down. In the first and the last years they don't fit
+    /// in 64 bits.
     pub fn as_microseconds(self) -> i128
         ensures { IsWhole 1000 (nanoseconds self) result }
     {

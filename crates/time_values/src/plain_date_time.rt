@@ -12,7 +12,7 @@ pub struct PlainDateTime {
 }
 
 impl PlainDateTime {
-    /// That date and time.
+    /// The date-time of that date and time.
     #[inline]
     pub fn new(date: Date, time: Time) -> PlainDateTime
         ensures date { plain_date result ≡ date }
@@ -37,7 +37,7 @@ impl PlainDateTime {
         self.time
     }
 
-    /// That date and time on a clock with the offset.
+    /// The moment of this date and time at the offset.
     #[inline]
     pub fn assume_offset(self, offset: UtcOffset) -> OffsetDateTime
         ensures date { offset_date result ≡ plain_date self }
@@ -47,7 +47,7 @@ impl PlainDateTime {
         OffsetDateTime::new_in_offset(self.date, self.time, offset)
     }
 
-    /// That date and time on a clock with an offset of 0.
+    /// The moment of this date and time at an offset of 0.
     #[inline]
     pub fn assume_utc(self) -> OffsetDateTime
         ensures date { offset_date result ≡ plain_date self }
@@ -57,7 +57,7 @@ impl PlainDateTime {
         OffsetDateTime::new_in_offset(self.date, self.time, UtcOffset::UTC)
     }
 
-    /// That date and time in UTC.
+    /// The moment of this date and time in UTC.
     #[inline]
     pub fn as_utc(self) -> UtcDateTime
         ensures date { utc_date result ≡ plain_date self }

@@ -1,4 +1,4 @@
-//! Values as they are printed.
+//! Prints values by `Display`.
 ghost use Rattle.std.specs.Prelude.{◌≡◌, ◌+◌, ◌<◌, ◌≤◌, ◌∷◌, ◌++◌, length, Some};
 ghost use Rattle.std.specs.Fmt.{signed_decimal};
 ghost use Rattle.time_values.specs.Moments.{nanoseconds};
@@ -9,7 +9,7 @@ use crate::text::Text;
 use crate::{Date, OffsetDateTime, PlainDateTime, Time, Timestamp, UtcDateTime, UtcOffset};
 use std::{fmt, str};
 
-// Puts the sign of a year that has not four digits.
+// Appends the sign of a year outside 0 to 9999.
 fn append_year_sign(text: &mut Text, year: i32)
     requires { length text.old.items ≤ 0 }
     ensures text { text.new.items ≡ text.old.items ++ Shown.year_sign_shown year }
@@ -24,7 +24,7 @@ fn append_year_sign(text: &mut Text, year: i32)
     }
 }
 
-// Puts the digits of a year, at least four.
+// Appends the digits of a year, at least four.
 fn append_magnitude(text: &mut Text, n: u32)
     requires n { n < 1_000_000 }
     requires room { length text.old.items ≤ 1 }
@@ -53,7 +53,7 @@ fn marked_pairs(mark: u8, first: u8, second: u8) -> [u8; 6]
     [mark, a1, a2, mark, b1, b2]
 }
 
-/// `YYYY-MM-DD`. A year outside 0 to 9999 has a sign, and as many digits as it takes.
+/// Prints `YYYY-MM-DD`. A year outside 0 to 9999 has a sign, and as many digits as it needs.
 impl fmt::Display for Date {
     ghost output = { λ d. Some (Shown.date_shown d) };
 
@@ -66,7 +66,7 @@ impl fmt::Display for Date {
     }
 }
 
-// Puts the hour, of one digit or two.
+// Appends the hour, of one digit or two.
 fn append_hour(text: &mut Text, hour: u8)
     requires hour { hour < 24 }
     requires room { length text.old.items ≤ 0 }
@@ -80,7 +80,7 @@ fn append_hour(text: &mut Text, hour: u8)
     }
 }
 
-/// `H:MM:SS.n`. The hour has one digit or two, and the fraction at least one, with no zero at its end that can be omitted.
+/// Prints `H:MM:SS.n`. The hour has one digit or two. The fraction has at least one digit, and else no zero at its end.
 impl fmt::Display for Time {
     ghost output = { λ t. Some (Shown.time_shown t) };
 
@@ -94,7 +94,7 @@ impl fmt::Display for Time {
     }
 }
 
-// `-` where a part is below 0, and else `+`.
+// `-` if a part is below 0, and else `+`.
 fn sign_of(offset: UtcOffset) -> u8
     ensures { result ≡ Shown.offset_sign_shown offset }
 {
@@ -118,7 +118,7 @@ fn offset_bytes(offset: UtcOffset) -> [u8; 9]
     [sign_of(offset), h1, h2, b':', m1, m2, b':', s1, s2]
 }
 
-/// `+HH:MM:SS`, with `-` where a part is below 0.
+/// Prints `+HH:MM:SS`, with `-` if a part is below 0.
 impl fmt::Display for UtcOffset {
     ghost output = { λ o. Some (Shown.offset_shown o) };
 
@@ -128,7 +128,7 @@ impl fmt::Display for UtcOffset {
     }
 }
 
-/// The date, a space, and the time.
+/// Prints the date, a space, and the time.
 impl fmt::Display for PlainDateTime {
     ghost output = { λ p. Some (Shown.plain_shown p) };
 
@@ -138,7 +138,7 @@ impl fmt::Display for PlainDateTime {
     }
 }
 
-/// The date, a space, the time, and ` +00`.
+/// Prints the date, a space, the time, and ` +00`.
 impl fmt::Display for UtcDateTime {
     ghost output = { λ u. Some (Shown.utc_shown u) };
 
@@ -148,7 +148,7 @@ impl fmt::Display for UtcDateTime {
     }
 }
 
-/// The date, the time and the offset, with a space between them.
+/// Prints the date, the time and the offset, with a space between them.
 impl fmt::Display for OffsetDateTime {
     ghost output = { λ v. Some (Shown.moment_shown v) };
 
@@ -158,7 +158,7 @@ impl fmt::Display for OffsetDateTime {
     }
 }
 
-/// The nanoseconds since 1970-01-01T00:00:00Z, as a decimal number.
+/// Prints the nanoseconds since 1970-01-01T00:00:00Z, as a decimal number.
 impl fmt::Display for Timestamp {
     ghost output = { λ t. Some (signed_decimal (nanoseconds t)) };
 

@@ -5,7 +5,7 @@ ghost use Rattle.time_values.specs.Shown.{Items};
 use std::marker::Model;
 use std::{fmt, str};
 
-/// A text of at most 35 bytes, as long as the longest that is written.
+/// A text of at most 35 bytes, which is the length of the longest one written.
 #[derive(Drop)]
 pub struct Text {
     array: [u8; 35],
@@ -21,7 +21,7 @@ impl Model for Text {
 }
 
 impl Text {
-    /// The empty one.
+    /// The empty text.
     #[inline(always)]
     pub fn new() -> Text
         ensures { result.items ≡ [] }
@@ -40,7 +40,7 @@ impl Text {
         &self.array[..self.len]
     }
 
-    /// Puts bytes after those that stand. There must be room for them.
+    /// Appends bytes. There must be room for them.
     #[inline(always)]
     pub fn append(&mut self, bytes: &[u8])
         requires { length self.old.items + length bytes.now ≤ 35 }
@@ -51,7 +51,7 @@ impl Text {
         self.len = end;
     }
 
-    /// Puts the first `count` of ten bytes after those that stand. There must be room for all ten.
+    /// Appends the first `count` of ten bytes. There must be room for all ten.
     #[inline(always)]
     pub fn append_some(&mut self, bytes: [u8; 10], count: usize)
         requires room { length self.old.items ≤ 25 }
@@ -64,7 +64,7 @@ impl Text {
     }
 }
 
-/// Prints the bytes. Those that are no UTF-8 are an error.
+/// Prints the bytes. Bytes that aren't UTF-8 are an error.
 impl fmt::Display for Text {
     ghost output = { λ t. Some t.items };
 

@@ -26,8 +26,8 @@ impl Time {
     ghost use Rattle.time_values.specs.Times as Times;
     ghost use Rattle.time_values.specs.Times.{HasClock, nanosecond_refusal, time_refusal, nanos_of_day};
 
-    /// The time with these parts. The first one that is out of range is refused: `hour` above 23,
-    /// `minute` above 59, `second` above 59, `nanosecond` above 999999999.
+    /// The time with these parts. An error names the first one that is out of range: `hour` above 23, `minute` above
+    /// 59, `second` above 59, `nanosecond` above 999999999.
     #[inline(always)]
     pub fn from_hms_nano(
         hour: u8,
@@ -93,7 +93,7 @@ impl Time {
         self.nanosecond
     }
 
-    // The same second with another nanosecond.
+    // The time with another nanosecond of its second.
     #[inline]
     pub(crate) fn replace_nanosecond(self, nanosecond: u32) -> Result<Time, ComponentRange>
         ensures { Constructs (nanosecond_refusal nanosecond)
@@ -141,8 +141,8 @@ impl Time {
         self.hour as u32 * 3600 + self.minute as u32 * 60 + self.second as u32
     }
 
-    // The seconds since midnight in UTC, where the clock has that offset. Taken part by part, the hours of both are
-    // multiplied once.
+    // The seconds since midnight in UTC of this local time at that offset. Computed part by part, so that the hours of
+    // both are multiplied once.
     #[inline(always)]
     pub(crate) fn seconds_in_utc(&self, offset: &UtcOffset) -> i64
         ensures value { result ≡ pos (Times.hour self.now * 3600 + Times.minute self.now * 60 + Times.second self.now)
@@ -176,7 +176,7 @@ impl Time {
     }
 }
 
-// As it is derived, without what aligns.
+// As a derived `Debug` would print it, without the aligning field.
 impl fmt::Debug for Time {
     fn fmt<W: fmt::Write>(&self, f: &mut fmt::Formatter<W>) -> fmt::Result {
         f.debug_struct("Time")

@@ -17,7 +17,7 @@ impl Timestamp {
     ghost use Rattle.time_values.specs.Moments as Moments;
     ghost use Rattle.time_values.specs.Refusal.{Constructs};
 
-    /// The moment that many nanoseconds after 1970-01-01T00:00:00Z. Refused as `timestamp` outside
+    /// The moment that many nanoseconds after 1970-01-01T00:00:00Z. An error names `timestamp` outside
     /// -31619087596800000000000 to 31494784780799999999999.
     pub fn from_nanoseconds(nanoseconds: i128) -> Result<Timestamp, ComponentRange>
         ensures { Constructs (timestamp_refusal greatest_year nanoseconds)

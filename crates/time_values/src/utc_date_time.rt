@@ -9,7 +9,7 @@ use crate::days::{DAY_LIMIT, EPOCH_DAY};
 use crate::error::ComponentRange;
 use crate::{Date, OffsetDateTime, Time, UtcOffset};
 
-// The nanoseconds of a day.
+// The number of nanoseconds in a day.
 const NANOS_PER_DAY: u128 = 86_400_000_000_000;
 
 // The first and the last nanosecond that have a date and time in UTC.
@@ -25,7 +25,7 @@ pub struct UtcDateTime {
 }
 
 impl UtcDateTime {
-    /// That date and time in UTC.
+    /// The moment of that date and time in UTC.
     #[inline]
     pub fn new(date: Date, time: Time) -> UtcDateTime
         ensures date { utc_date result ≡ date }
@@ -34,7 +34,7 @@ impl UtcDateTime {
         UtcDateTime { date, time }
     }
 
-    /// The moment that many nanoseconds after 1970-01-01T00:00:00Z. Refused as `timestamp` outside
+    /// The moment that many nanoseconds after 1970-01-01T00:00:00Z. An error names `timestamp` outside
     /// -31619087596800000000000 to 31494784780799999999999.
     pub fn from_unix_timestamp_nanos(nanos: i128) -> Result<UtcDateTime, ComponentRange>
         ensures { Constructs (Instants.timestamp_refusal greatest_year nanos)
@@ -49,7 +49,7 @@ impl UtcDateTime {
         Ok(UtcDateTime::at_instant(nanos))
     }
 
-    // The date and time at an instant that has them.
+    // The date and time at an instant, which must have them.
     #[tactic(auto, using(crate::proofs::InstantLemmas::instant_facts))]
     pub(crate) fn at_instant(nanos: i128) -> UtcDateTime
         requires { Instants.IsInstant greatest_year nanos }
@@ -98,7 +98,7 @@ impl UtcDateTime {
         self.date.days_since_1970() * 86_400 + self.time.seconds_of_day() as i64
     }
 
-    /// The moment that many seconds after 1970-01-01T00:00:00Z. Refused as `timestamp` outside -31619087596800 to
+    /// The moment that many seconds after 1970-01-01T00:00:00Z. An error names `timestamp` outside -31619087596800 to
     /// 31494784780799.
     pub fn from_unix_timestamp(timestamp: i64) -> Result<UtcDateTime, ComponentRange>
         ensures { Constructs (Instants.timestamp_refusal greatest_year (timestamp *ℤ pos 1_000_000_000))
@@ -107,7 +107,7 @@ impl UtcDateTime {
         UtcDateTime::from_unix_timestamp_nanos(timestamp as i128 * 1_000_000_000)
     }
 
-    /// The same moment on a clock with that offset, or `None` where the clock shows no date there.
+    /// The moment at another offset, or `None` if its date there is out of range.
     pub fn checked_to_offset(self, offset: UtcOffset) -> Option<OffsetDateTime>
         ensures instant { IfSome result (λ v. offset_instant greatest_year v ≡ utc_instant greatest_year self) }
         ensures offset { IfSome result (λ v. offset_of v ≡ offset) }
@@ -117,8 +117,8 @@ impl UtcDateTime {
         OffsetDateTime::from(self).checked_to_offset(offset)
     }
 
-    /// The same moment on a clock with that offset, which must show a date there: ask
-    /// [`checked_to_offset`](UtcDateTime::checked_to_offset) where this isn't known.
+    /// The moment at another offset, at which its date must be in range. If this isn't known, call
+    /// [`checked_to_offset`](UtcDateTime::checked_to_offset).
     pub fn to_offset(self, offset: UtcOffset) -> OffsetDateTime
         requires { Instants.IsInstant greatest_year (shown_at (utc_instant greatest_year self) offset) }
         ensures instant { offset_instant greatest_year result ≡ utc_instant greatest_year self }
@@ -127,7 +127,7 @@ impl UtcDateTime {
         OffsetDateTime::from(self).to_offset(offset)
     }
 
-    /// The same second with another nanosecond. Refused as `nanosecond` above 999999999.
+    /// The moment with another nanosecond of its second. An error names `nanosecond` above 999999999.
     pub fn replace_nanosecond(self, nanosecond: u32) -> Result<UtcDateTime, ComponentRange>
         ensures { Constructs (nanosecond_refusal nanosecond) (λ u. (utc_date u ≡ utc_date self)
             × HasSecond (utc_time self) nanosecond (utc_time u)) result }
@@ -139,7 +139,7 @@ impl UtcDateTime {
         })
     }
 
-    /// Whether this moment may stand for a leap second: it is the last nanosecond of a month.
+    /// Whether this moment may represent a leap second: it is the last nanosecond of a month.
     pub fn is_valid_leap_second_stand_in(self) -> bool
         ensures { IsTrue result ↔ Instants.IsLeapSecondStandIn (utc_date self) (utc_time self) }
     {
@@ -148,7 +148,7 @@ impl UtcDateTime {
     }
 }
 
-/// Whether the nanoseconds since 1970-01-01T00:00:00Z have a date and time in UTC.
+/// Whether the moment of these nanoseconds since 1970-01-01T00:00:00Z has a date and time in UTC.
 #[inline]
 #[tactic(auto, using(crate::proofs::InstantLemmas::instant_facts))]
 pub fn is_instant(nanos: i128) -> bool

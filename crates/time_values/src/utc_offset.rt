@@ -28,9 +28,8 @@ impl UtcOffset {
         seconds: 0,
     };
 
-    /// The offset of these parts. Smaller parts take the sign of the first that is not 0. The first
-    /// part that is out of range is refused: `hours` outside -25 to 25, `minutes` outside -59 to
-    /// 59, `seconds` outside -59 to 59.
+    /// The offset of these parts. Smaller parts take the sign of the first that is not 0. An error names the first part
+    /// that is out of range: `hours` outside -25 to 25, `minutes` outside -59 to 59, `seconds` outside -59 to 59.
     #[inline(always)]
     pub fn from_hms(hours: i8, minutes: i8, seconds: i8) -> Result<UtcOffset, ComponentRange>
         ensures { Constructs (offset_refusal hours minutes seconds) (HasOffset hours minutes seconds)
@@ -71,7 +70,7 @@ impl UtcOffset {
         (self.hours, self.minutes, self.seconds)
     }
 
-    // The hours, minutes and seconds, read where they lie: LLVM moves a copy of them as one word.
+    // The hours, minutes and seconds, read through a reference: LLVM would move a copy of them as one word.
     #[inline(always)]
     pub(crate) fn parts(&self) -> (i64, i64, i64)
         ensures hours { result.0 ≡ Offsets.hours self.now }
@@ -81,7 +80,7 @@ impl UtcOffset {
         (self.hours as i64, self.minutes as i64, self.seconds as i64)
     }
 
-    /// The offset of that many seconds, whose parts have one sign. Refused as `seconds` outside -93599 to 93599.
+    /// The offset of that many seconds, whose parts have one sign. An error names `seconds` outside -93599 to 93599.
     pub fn from_whole_seconds(seconds: i32) -> Result<UtcOffset, ComponentRange>
         ensures { Constructs (whole_offset_refusal seconds)
             (λ o. offset_seconds o ≡ seconds) result }
@@ -135,14 +134,14 @@ impl UtcOffset {
     }
 }
 
-// x with the sign of the first number, where that is not 0.
+// x with the sign of the first number, or x itself if that number is 0.
 #[inline(always)]
 fn same_sign(sign: i8, x: i8) -> i8
     requires { IsBetween (neg_ℤ (pos 59)) (pos 59) x }
     ensures value { result ≡ Sign.same_sign sign x }
     ensures bound { IsBetween (neg_ℤ (pos 59)) (pos 59) result }
 {
-    // The product of two numbers is below 0 where their signs differ.
+    // The product of two numbers is below 0 if their signs differ.
     if i16::from(sign) * i16::from(x) < 0 {
         -x
     } else {

@@ -1,4 +1,4 @@
--- The first digits of a fraction, and what they keep of it.
+-- The first digits of a fraction, and whether they represent all of it.
 use Rattle.std.specs.Prelude.{if◌then◌else◌, ◌==◌, ◌||◌}
 use Rattle.std.specs.Ordering.{int_eq}
 use Rattle.std.proofs.Common.{◌≡◌, ◌≤◌, ◌<◌, ◌+◌, ◌-◌, ◌*◌, ◌^◌, ◌/◌, ◌%◌, ℕ, zero, suc, [], ◌∷◌, length, take, Bool, true, false, refl, sym, ap, subst, ◌∙◌, arith, ℤ, pos, neg_ℤ, int_lt, Some, None, rules}
@@ -11,7 +11,7 @@ use Rattle.time_values.specs.Shown.{fixed, significant}
 use Rattle.time_values.specs.Calendar.{IsBetween}
 use Rattle.time_writing.specs.declared.parts.Unwritable.TheVariants.{Year, OffsetHour, OffsetSecond}
 
--- how long they are
+-- their length
 pub fixed-length : (k n : ℕ) → length (fixed k n) ≡ k
 unfolding fixed
 fixed-length zero n = refl
@@ -19,7 +19,7 @@ fixed-length (suc k) n =
     let is = fixed-length k (n / 10) in
     length-append (fixed k (n / 10)) ((48 + n % 10) ∷ []) ∙ omega arith
 
--- a digit less, and then j more
+-- one digit less, and then j more
 digits_less : (n j : ℕ) → n / 10 / 10 ^ j ≡ n / 10 ^ suc j
 digits_less n j = div-div-eq-div-mul n 10 (10 ^ j) ∙ ap (λ p. n / p) (sym (pow-succ' 10 j))
 
@@ -53,7 +53,7 @@ none-cut : (n j : ℕ) → j ≡ 0 → n / 10 ^ j * 10 ^ j ≡ n
 none-cut n zero is = omega arith
 none-cut n (suc j) is = absurd (omega (arith, is))
 
--- no more count than there are
+-- at most all digits count
 pub significant-bound : (m n : ℕ) → significant m n ≤ m
 unfolding significant
 significant-bound zero n = omega arith
@@ -63,13 +63,13 @@ significant-bound (suc m) n = let less = significant-bound m (n / 10) in by_digi
     by_digit true less = omega (arith, less)
     by_digit false less = omega arith
 
--- one zero more is cut off
+-- one more zero is cut off
 zero-cut : (n j : ℕ) → n % 10 ≡ 0 → n / 10 / 10 ^ j * 10 ^ j ≡ n / 10 → n / 10 ^ suc j * 10 ^ suc j ≡ n
 zero-cut n j digit is =
     ap (λ p. n / 10 ^ suc j * p) (pow-suc 10 j) ∙ sym (mul_assoc (n / 10 ^ suc j) (10 ^ j) 10)
     ∙ ap (λ q. q * 10 ^ j * 10) (sym (digits_less n j)) ∙ ap (λ q. q * 10) is ∙ omega (arith, digit)
 
--- the same by the last digit
+-- one more digit is cut off, by whether it is 0
 by_last : (b : Bool) (m n j : ℕ) → ((i : ℕ) → m ≡ significant m (n / 10) + i → n / 10 / 10 ^ i * 10 ^ i ≡ n / 10)
     → (n % 10 == 0) ≡ b → suc m ≡ (if b then significant m (n / 10) else suc m) + j → n / 10 ^ j * 10 ^ j ≡ n
 by_last true m n zero before last is = none-cut n zero refl
@@ -84,11 +84,11 @@ unfolding significant
 zeros-cut zero n j is = none-cut n j (omega (arith, is))
 zeros-cut (suc m) n j is = by_last (n % 10 == 0) m n j (λ i. zeros-cut m (n / 10) i) refl is
 
--- all digits up to the last that counts keep it
+-- all digits up to the last that counts represent the number
 pub keeps-auto : (n : ℕ) → n / 10 ^ (9 - significant 9 n) * 10 ^ (9 - significant 9 n) ≡ n
 keeps-auto n = let bound = significant-bound 9 n in zeros-cut 9 n (9 - significant 9 n) (omega (arith, bound))
 
--- ---- What is not in the way of a text
+-- ---- Conditions of a text
 
 pub writable_3339 : (y h s : ℤ)
     → (if int_lt y (pos 0) || int_lt (pos 9999) y then Some Year else
@@ -97,14 +97,14 @@ pub writable_3339 : (y h s : ℤ)
     → IsBetween (pos 0) (pos 9999) y
 writable_3339 y h s is = search rules
 
--- a moment with nothing in the way of a text has no reason
+-- a moment that satisfies the conditions of a text has no error
 pub none_3339 : (y h s : ℤ) → IsBetween (pos 0) (pos 9999) y → IsBetween (neg_ℤ (pos 23)) (pos 23) h → s ≡ pos 0
     → (if int_lt y (pos 0) || int_lt (pos 9999) y then Some Year else
     if int_lt h (neg_ℤ (pos 23)) || int_lt (pos 23) h then Some OffsetHour else
     if int_eq s (pos 0) then None else Some OffsetSecond) ≡ None
 none_3339 y h s is_y is_h is_s = search rules
 
--- the first reason of a moment that has one
+-- the first error of a moment that has one
 pub first_3339 : (y h s : ℤ) → ¬ (IsBetween (pos 0) (pos 9999) y × IsBetween (neg_ℤ (pos 23)) (pos 23) h × (s ≡ pos 0))
     → Some (if int_lt y (pos 0) || int_lt (pos 9999) y then Year else
     if int_lt h (neg_ℤ (pos 23)) || int_lt (pos 23) h then OffsetHour else OffsetSecond)

@@ -1,4 +1,4 @@
--- Texts that are joined: where they are the same, so are their parts.
+-- Texts that are joined: if they are equal, so are their parts.
 use Rattle.std.specs.Prelude.{◌||◌, if◌then◌else◌, ◌==◌, int_lt, nat_lt, max, ◌&&◌}
 use Rattle.std.specs.Fmt.{decimal, signed_decimal}
 use Rattle.std.specs.Str.Parse.{digits_value, AllDigits}
@@ -13,7 +13,7 @@ use Rattle.time_values.specs.Shown.{fixed, significant, fraction_shown, magnitud
 use Rattle.time_values.specs.Sign.{signed_by, same_sign, HasOneSign}
 use Rattle.time_writing.proofs.KeptDigits.{fixed-length, take-fixed, front-below, significant-bound, zeros-cut}
 
--- by fronts of one length
+-- if their prefixes have one length
 pub same_fronts : (a b c d : List ℕ) → length a ≡ length b → a ++ c ≡ b ++ d → (a ≡ b) × (c ≡ d)
 same_fronts [] [] c d long e = (refl, e)
 same_fronts [] (y ∷ b) c d long e = absurd (omega (arith, long))
@@ -25,17 +25,17 @@ same_fronts (x ∷ a) (y ∷ b) c d long e =
     let fronts : a ≡ b = parts.0 in
     (let whole : x ∷ a ≡ y ∷ b = cc in whole, parts.1)
 
--- by ends of one length
+-- if their ends have one length
 pub same_ends : (a b c d : List ℕ) → length c ≡ length d → a ++ c ≡ b ++ d → (a ≡ b) × (c ≡ d)
 same_ends a b c d long e =
     same_fronts a b c d (omega (arith, long, length-append a c, length-append b d, ap length e)) e
 
--- no byte of the text is that one
+-- the text doesn't contain that byte
 pub Lacks : ℕ → List ℕ → Type 0
 Lacks c [] = Unit {0}
 Lacks c (x ∷ xs) = (x ≢ c) × Lacks c xs
 
--- by the first byte of that kind
+-- if they are split at the first byte of that kind
 pub same_to : (c : ℕ) (a b x y : List ℕ) → Lacks c a → Lacks c b → a ++ c ∷ x ≡ b ++ c ∷ y → (a ≡ b) × (x ≡ y)
 unfolding Lacks
 same_to c [] [] x y none free e = (refl, let others : x ≡ y = cc in others)
@@ -57,13 +57,13 @@ pub Lacks-one : (c x : ℕ) → x ≢ c → Lacks c (x ∷ [])
 unfolding Lacks
 Lacks-one c x other = (other, tt)
 
--- a text that lacks a byte doesn't begin with it
+-- a text without a byte doesn't begin with it
 pub Lacks-first : (c : ℕ) (x a : List ℕ) → Lacks c x → c ∷ a ≡ x → ⊥
 unfolding Lacks
 Lacks-first c [] a none e = absurd (cc)
 Lacks-first c (y ∷ x) a none e = none.0 (let first : y ≡ c = cc in first)
 
--- digits lack each byte that is none
+-- digits contain no byte that isn't a digit
 pub fixed-lacks : (c k n : ℕ) → (c < 48) ⊎ (57 < c) → Lacks c (fixed k n)
 unfolding fixed Lacks
 fixed-lacks c zero n other = tt
@@ -71,7 +71,7 @@ fixed-lacks c (suc k) n other =
     Lacks-append c (fixed k (n / 10)) ((48 + n % 10) ∷ []) (fixed-lacks c k (n / 10) other)
     (Lacks-one c (48 + n % 10) (λ e. ⊎_elim (λ low. omega arith) (λ high. omega arith) other))
 
--- so many digits that are the same are of one number
+-- equal texts of k digits represent one number
 pub fixed-same : (k m n : ℕ) → m < 10 ^ k → n < 10 ^ k → fixed k m ≡ fixed k n → m ≡ n
 unfolding fixed
 fixed-same zero m n small few e = omega (arith, small, few)
@@ -81,9 +81,9 @@ fixed-same (suc k) m n small few e =
     let last : 48 + m % 10 ≡ 48 + n % 10 = cc in
     omega (arith, fronts, last)
 
--- ---- Parts of values that print the same are the same
+-- ---- Parts of values that print alike are equal
 
--- a year's digits are so many digits of it
+-- the digits of a year are its last k digits, for some k
 magnitude-fixed : (n : ℕ) → n < 10 ^ 6 → (k : ℕ) × (n < 10 ^ k) × (magnitude_shown n ≡ fixed k n)
 magnitude-fixed n small = by_four (nat_lt n 10_000) refl
   where
@@ -182,11 +182,11 @@ hour-same h g x y small few e =
         let bytes : fixed 2 h ≡ fixed 2 g = rw (more, high) at e in
         fixed-same 2 h g (omega (arith, small)) (omega (arith, few)) bytes
 
--- digits of a fraction of a second, of which at least one is written
+-- the number of digits of a fraction of a second that are written, at least one
 abbrev pub at_least_one : ℕ → ℕ
 at_least_one n = max (significant 9 n) 1
 
--- they keep all of it
+-- they represent all of it
 all-kept : (n : ℕ) → n < 10 ^ 9 → n / 10 ^ (9 - at_least_one n) * 10 ^ (9 - at_least_one n) ≡ n
 all-kept n small = by_count (significant 9 n) refl
   where
@@ -227,7 +227,7 @@ fraction-same m n small few e =
         let fronts = fixed-same k (m / 10 ^ (9 - k)) (n / 10 ^ (9 - k)) (front-below (9 - k) k 9 m sum small) (front-below (9 - k) k 9 n sum few) texts in
         sym one ∙ ap (λ i. i * 10 ^ (9 - k)) fronts ∙ kept
 
--- the sign of an offset and the sizes of its parts tell them
+-- the sign of an offset and the magnitudes of its parts determine them
 abbrev behind : ℤ → ℤ → ℤ → Bool
 behind h m s = int_lt h (pos 0) || int_lt m (pos 0) || int_lt s (pos 0)
 
@@ -312,7 +312,7 @@ minutes_below (pos zero) m s one is = omega (arith, ints, is)
 minutes_below (pos (suc h)) m s (one, _) is = absurd (omega (arith, ints, one, is))
 minutes_below (negsuc h) m s (one, _) is = omega (arith, ints, one)
 
--- what stands for an offset whose sum is below 0
+-- the text of an offset whose sum is below 0 has a minus
 pub minus_below : (h m : ℤ) → (h +ℤ m) <ℤ pos 0 → (parts : List ℕ)
     → (if int_eq h (pos 0) && int_eq m (pos 0) then codes "Z" else
     ((if int_lt h (pos 0) || int_lt m (pos 0) then 45 else 43) ∷ parts)) ≡ 45 ∷ parts

@@ -21,7 +21,7 @@ use Rattle.time_writing.specs.declared.parts.FractionDigits.TheVariants.{Auto, E
 use Rattle.time_writing.specs.declared.parts.Unwritable.{Unwritable}
 use Rattle.time_writing.specs.declared.parts.Unwritable.TheVariants.{Year, OffsetHour, OffsetSecond}
 
--- how many digits of that many nanoseconds are written
+-- the number of digits of that many nanoseconds that are written
 abbrev pub count_of : FractionDigits → ℕ → ℕ
 count_of Auto n = significant 9 n
 count_of (Exactly k) n = min k 9
@@ -53,7 +53,7 @@ numeric_text o =
     offset_sign o ∷ fixed 2 (unsigned_abs (Offsets.hours o)) ++ codes ":"
     ++ fixed 2 (unsigned_abs (Offsets.minutes o))
 
--- `Z` for no hours and minutes, and else those
+-- `Z` for no hours and minutes, and else the numeric form
 abbrev pub offset_text : UtcOffset → List ℕ
 offset_text o = if is_none o then codes "Z" else numeric_text o
 
@@ -78,7 +78,7 @@ basic_text v =
     ++ fixed 2 (Times.minute (offset_time v)) ++ fixed 2 (Times.second (offset_time v))
     ++ basic_offset_text (offset_of v)
 
--- the first reason why a moment has no text of RFC 3339, and so of ISO 8601
+-- the first error of a moment without a text of RFC 3339, and so of ISO 8601
 abbrev pub unwritable_3339 : OffsetDateTime → Option Unwritable
 unwritable_3339 v =
     if int_lt (Dates.year (offset_date v)) (pos 0) || int_lt (pos 9999) (Dates.year (offset_date v)) then Some Year else
@@ -101,39 +101,39 @@ mail_text w v =
     ++ fixed 4 (unsigned_abs (Dates.year (offset_date v))) ++ codes " "
     ++ clock_text (offset_time v) ++ codes " " ++ zone_text (offset_of v)
 
--- the same with the date's own weekday
+-- a text of that form with the date's own weekday
 abbrev pub IsMailText : OffsetDateTime → List ℕ → Type 0
 IsMailText v bytes =
     (w : Weekday) × (days_from_monday w ≡ Dates.weekday greatest_year (offset_date v)) × (bytes ≡ mail_text w v)
 
--- the first reason why a moment has no text of RFC 2822
+-- the first error of a moment without a text of RFC 2822
 abbrev pub unwritable_2822 : OffsetDateTime → Option Unwritable
 unwritable_2822 v =
     if int_lt (Dates.year (offset_date v)) (pos 1900) || int_lt (pos 9999) (Dates.year (offset_date v))
     then Some Year else
     if int_eq (Offsets.seconds (offset_of v)) (pos 0) then None else Some OffsetSecond
 
--- The result is that reason; where there is none, it is such a text.
+-- The result is that error; or, without an error, a text with the property.
 abbrev pub WritesSuch : Option Unwritable → (List ℕ → Type 0) → Result Items Unwritable → Type 0
 WritesSuch reason such result =
     MatchOption reason (IsOkAnd result (λ text. such text.items)) (λ why. result ≡ Err why)
 
--- The result is that reason; where there is none, it is a text of those bytes.
+-- The result is that error; or, without an error, a text of those bytes.
 abbrev pub Writes : Option Unwritable → List ℕ → Result Items Unwritable → Type 0
 Writes reason bytes result =
     MatchOption reason (IsOkAnd result (λ text. text.items ≡ bytes)) (λ why. result ≡ Err why)
 
--- ---- What the printed text of a value tells
+-- ---- The printed texts of values
 
 -- the nanoseconds, as a decimal number
 abbrev pub timestamp_shown : Timestamp → List ℕ
 timestamp_shown t = signed_decimal (nanoseconds t)
 
--- values that print the same are one value
+-- values that print alike are equal
 abbrev pub OneShown : {V : Type 0} → (V → List ℕ) → Type 0
 OneShown {V} shown = (v w : V) → shown v ≡ shown w → v ≡ w
 
--- ---- What the reason why a moment has no text prints
+-- ---- Printed messages of errors
 
 -- the component's name
 abbrev unwritable_name : Unwritable → List ℕ
@@ -141,7 +141,7 @@ unwritable_name Year = codes "year"
 unwritable_name OffsetHour = codes "offset_hour"
 unwritable_name OffsetSecond = codes "offset_second"
 
--- the text
+-- the message
 abbrev pub unwritable_text : Unwritable → List ℕ
 unwritable_text e =
     codes "The " ++ unwritable_name e ++ codes " component cannot be formatted into the requested format."

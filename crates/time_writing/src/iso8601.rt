@@ -17,15 +17,15 @@ use time_values::{Date, OffsetDateTime, Time, UtcOffset};
 /// The text of a moment by ISO 8601 in its extended form, with nine digits of a fraction:
 /// `2021-01-02T03:04:05.520000000+06:07`, with `Z` for an offset of 0.
 ///
-/// A moment without such a text is refused, by the first reason that holds: its year is not 0 to 9999, the hours of its
-/// offset are not -23 to 23, or its offset has seconds.
+/// A moment without such a text gives the first error that applies: its year is outside 0 to 9999, the hours of its
+/// offset are outside -23 to 23, or its offset has seconds.
 pub fn text_8601(value: OffsetDateTime) -> Result<Text, Unwritable>
     ensures { Writes (unwritable_3339 value) (moment_text 9 value) result }
 {
     text_3339(value, FractionDigits::Exactly(9))
 }
 
-// Puts `Z` for no hours and minutes, and else `+HHMM` or `-HHMM`.
+// Appends `Z` for an offset of no hours and minutes, and else `+HHMM` or `-HHMM`.
 fn append_offset(text: &mut Text, offset: UtcOffset)
     requires { length text.old.items ≤ 29 }
     ensures { text.new.items ≡ text.old.items ++ basic_offset_text offset }
@@ -62,7 +62,7 @@ fn basic_clock(time: &Time) -> [u8; 7]
     [b'T', h1, h2, m1, m2, s1, s2]
 }
 
-// The text, where the year has four digits.
+// The text of a moment whose year has four digits.
 fn write(value: OffsetDateTime) -> Text
     requires { IsBetween (pos 0) (pos 9999) (Dates.year (offset_date value)) }
     ensures { result.items ≡ basic_text value }
@@ -74,11 +74,11 @@ fn write(value: OffsetDateTime) -> Text
     text
 }
 
-/// The text of a moment by ISO 8601 in its basic form: `20210102T030405+0607`, with `Z` for an offset of 0. A fraction
-/// isn't written.
+/// The text of a moment by ISO 8601 in its basic form: `20210102T030405+0607`, with `Z` for an offset of 0. It omits a
+/// fraction.
 ///
-/// A moment without such a text is refused, by the first reason that holds: its year is not 0 to 9999, the hours of its
-/// offset are not -23 to 23, or its offset has seconds.
+/// A moment without such a text gives the first error that applies: its year is outside 0 to 9999, the hours of its
+/// offset are outside -23 to 23, or its offset has seconds.
 pub fn text_8601_basic(value: OffsetDateTime) -> Result<Text, Unwritable>
     ensures { Writes (unwritable_3339 value) (basic_text value) result }
 {

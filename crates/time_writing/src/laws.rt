@@ -2,7 +2,7 @@
 ghost use Rattle.time_values.specs.Shown.{date_shown, time_shown, offset_shown, plain_shown, utc_shown, moment_shown};
 ghost use Rattle.time_writing.specs.Texts.{timestamp_shown, OneShown};
 
-/// Values of one type that `Display` prints the same are one value: each of the seven types tells all of a value.
+/// Values of one type are equal if `Display` prints them alike: each of the seven types prints all of a value.
 pub fn law_one_shown()
     ensures date { OneShown date_shown }
     ensures time { OneShown time_shown }

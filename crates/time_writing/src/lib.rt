@@ -1,4 +1,4 @@
-//! Texts of moments by RFC 3339, RFC 2822 and ISO 8601. None takes memory: a text is an array and a length.
+//! Formats moments by RFC 3339, RFC 2822 and ISO 8601. No call allocates: a text is an array and a length.
 #![tactic(auto)]
 
 mod iso8601;

@@ -1,4 +1,4 @@
-//! Dates, times, fractions and offsets as texts have them, and why a moment has no text.
+//! Dates, times, fractions and offsets in the forms of texts, and errors of moments without a text.
 ghost use Rattle.std.specs.Prelude.{◌≡◌, ◌<◌, [], ◌∷◌, ◌++◌, codes, pos, neg_ℤ, unsigned_abs, ◌≤◌, Some};
 ghost use Rattle.time_values.specs.Calendar.{IsBetween};
 ghost use Rattle.time_values.specs.Dates as Dates;
@@ -22,7 +22,7 @@ pub(crate) fn date(date: &Date) -> [u8; 10]
     [y1, y2, y3, y4, b'-', m1, m2, b'-', d1, d2]
 }
 
-// A mark and `HH:MM:SS`. LLVM would make one number of the eight bytes alone before it stores them.
+// A mark and `HH:MM:SS`. LLVM would join the eight bytes alone to one number before it stores them.
 #[inline(always)]
 pub(crate) fn clock(mark: u8, time: &Time) -> [u8; 9]
     ensures { result ≡ (mark ∷ []) ++ Texts.clock_text time.now }
@@ -51,7 +51,7 @@ pub(crate) fn is_none(offset: UtcOffset) -> bool
     hours == 0 && minutes == 0
 }
 
-// The magnitude of hours or minutes that aren't above 0. `unsigned_abs` would ask for the sign of each.
+// The magnitude of hours or minutes that are at most 0. `unsigned_abs` would test the sign of each.
 #[inline(always)]
 pub(crate) fn magnitude(part: i8) -> u8
     requires { IsBetween (neg_ℤ (pos 59)) (pos 0) part }
@@ -119,12 +119,12 @@ pub(crate) fn month_letters(month: Month) -> [u8; 3]
     }
 }
 
-/// How many digits of a second's fraction are written. Where it is none, no point is written either.
+/// The number of digits of a second's fraction. If it is 0, the point is omitted too.
 #[derive(Clone, Copy, Debug, PartialEq, Eq)]
 pub enum FractionDigits {
-    /// All up to the last that is not 0.
+    /// All digits up to the last that isn't 0.
     Auto,
-    /// That many, at most nine. What is cut off is not rounded.
+    /// That many digits, at most nine. The text is truncated, not rounded.
     Exactly(u8),
 }
 
@@ -145,9 +145,9 @@ impl FractionDigits {
 /// Why a moment has no text in a format.
 #[derive(Clone, Copy, Debug, PartialEq, Eq)]
 pub enum Unwritable {
-    /// The format has no such year.
+    /// The format can't represent the year.
     Year,
-    /// The hours of its offset are not -23 to 23.
+    /// The hours of its offset are outside -23 to 23.
     OffsetHour,
     /// Its offset has seconds.
     OffsetSecond,

@@ -11,7 +11,7 @@ use time_values::digits::append_fraction;
 use time_values::text::Text;
 use time_values::{OffsetDateTime, UtcOffset};
 
-// Puts `Z` for no hours and minutes, and else `+HH:MM` or `-HH:MM`.
+// Appends `Z` for an offset of no hours and minutes, and else `+HH:MM` or `-HH:MM`.
 #[inline(always)]
 #[tactic(auto, using(crate::proofs::SameTexts::hours_below, crate::proofs::SameTexts::minutes_below, crate::proofs::SameTexts::minus_below))]
 fn append_offset(text: &mut Text, offset: &UtcOffset)
@@ -19,7 +19,7 @@ fn append_offset(text: &mut Text, offset: &UtcOffset)
     ensures { text.new.items ≡ text.old.items ++ offset_text offset.now }
 {
     let (hours, minutes, _) = offset.as_hms();
-    // Hours and minutes have one sign, so it is that of their sum.
+    // Hours and minutes have one sign, which is that of their sum.
     let sum = hours + minutes;
     if sum == 0 {
         text.append(b"Z");
@@ -30,7 +30,7 @@ fn append_offset(text: &mut Text, offset: &UtcOffset)
     }
 }
 
-// Whether a moment of that year has a text, where its offset has those hours and seconds.
+// Whether a moment of that year and with those hours and seconds of its offset has a text.
 #[inline(always)]
 fn has_text(year: i32, hours: i8, seconds: i8) -> bool
     ensures { IsTrue result ↔ (IsBetween (pos 0) (pos 9999) year × IsBetween (neg_ℤ (pos 23)) (pos 23) hours
@@ -39,8 +39,8 @@ fn has_text(year: i32, hours: i8, seconds: i8) -> bool
     year >= 0 && year <= 9999 && hours >= -23 && hours <= 23 && seconds == 0
 }
 
-// The first reason of a moment that has no text, by its year and the hours of its offset. It isn't inlined, so that only
-// `has_text` stands before a text.
+// The first error of a moment without a text, by its year and the hours of its offset. Not inlined, so that only
+// `has_text` runs before the text is written.
 #[inline(never)]
 fn first_reason(year: i32, hours: i8) -> Unwritable
     ensures { result ≡ if int_lt year (pos 0) || int_lt (pos 9999) year then Year else
@@ -55,7 +55,7 @@ fn first_reason(year: i32, hours: i8) -> Unwritable
     Unwritable::OffsetSecond
 }
 
-// The first reason why there is no text.
+// The first error, or `None` if the moment has a text.
 #[inline(always)]
 pub(crate) fn reason(value: OffsetDateTime) -> Option<Unwritable>
     ensures { result ≡ unwritable_3339 value }
@@ -70,8 +70,8 @@ pub(crate) fn reason(value: OffsetDateTime) -> Option<Unwritable>
 
 /// The text of a moment by RFC 3339, section 5.6: `2021-01-02T03:04:05.52+06:07`, with `Z` for an offset of 0.
 ///
-/// A moment without such a text is refused, by the first reason that holds: its year is not 0 to 9999, the hours of its
-/// offset are not -23 to 23, or its offset has seconds.
+/// A moment without such a text gives the first error that applies: its year is outside 0 to 9999, the hours of its
+/// offset are outside -23 to 23, or its offset has seconds.
 pub fn text_3339(value: OffsetDateTime, digits: FractionDigits) -> Result<Text, Unwritable>
     ensures { Writes (unwritable_3339 value)
         (moment_text (count_of digits (Times.nanosecond (offset_time value))) value) result }

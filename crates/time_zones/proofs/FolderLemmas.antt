@@ -39,9 +39,9 @@ use Rattle.time_zones.specs.declared.zones.Zones.{Zones}
 use Rattle.time_zones.specs.Suffix.{Checked, compared, HasItsOffset, GoesWithNamed, GoesWithZone, OneCheck, Zone, named, at_offset}
 use Rattle.time_zones.specs.declared.checking.SuffixFault.TheVariants.{UnknownZone, OtherOffset}
 
--- ---- One answer: moments with the same clock and instant are one
+-- ---- One result: moments with one local time and instant are equal
 
--- the parts of an offset are none below 0, or none above
+-- the parts of an offset are all at least 0, or all at most 0
 signs : (h m s : ℤ) → HasOneSign h m s
     → ((pos 0 ≤ℤ h) × (pos 0 ≤ℤ m) × (pos 0 ≤ℤ s)) ⊎ ((h ≤ℤ pos 0) × (m ≤ℤ pos 0) × (s ≤ℤ pos 0))
 signs (pos zero) (pos zero) (pos s) p = inl (omega (arith, ints), omega (arith, ints), omega (arith, ints))
@@ -51,7 +51,7 @@ signs (pos zero) (negsuc m) s p = inr (omega (arith, ints), omega (arith, ints),
 signs (pos (suc h)) m s p = inl (omega (arith, ints), omega (arith, ints, p.0), omega (arith, ints, p.1))
 signs (negsuc h) m s p = inr (omega (arith, ints), omega (arith, ints, p.0), omega (arith, ints, p.1))
 
--- offsets of the same seconds are one offset
+-- offsets of one number of seconds are equal
 pub same_offset_by_seconds : (a b : UtcOffset) → offset_seconds a ≡ offset_seconds b → a ≡ b
 same_offset_by_seconds a b e =
     let of_a = signs a.hours a.minutes a.seconds a.one_sign in
@@ -76,19 +76,19 @@ same_value a b d t o = λ i. record {
   offset = o i;
 }
 
--- the instant of a moment, opened
+-- the instant of a moment, unfolded
 pub offset_instant_is : (m : OffsetDateTime)
     → offset_instant greatest_year m ≡ clock_nanos greatest_year (offset_date m) (offset_time m) -ℤ nanos_of_seconds (offset_seconds (offset_of m))
 offset_instant_is m = instant_is m.date m.time m.offset
 
--- with the same instant and the same offset in seconds, moments are one
+-- moments with one instant and one offset in seconds are equal
 pub same_by_instant : (a b : OffsetDateTime) → offset_instant greatest_year a ≡ offset_instant greatest_year b
     → offset_seconds (offset_of a) ≡ offset_seconds (offset_of b) → a ≡ b
 same_by_instant a b e o =
     let clock = same_moment a.date b.date a.time b.time (omega (arith, ints, e, o, offset_instant_is a, offset_instant_is b)) in
     same_value a b clock.0 clock.1 (same_offset_by_seconds a.offset b.offset o)
 
--- a moment that is shown in a zone is so at its instant
+-- a moment with that local time in a zone has it at its instant
 pub IsShownIn-Shows : (zone : TimeZone) (clock : PlainDateTime) (m : OffsetDateTime) → IsShownIn zone clock m
     → Shows zone (plain_instant greatest_year clock) (offset_instant greatest_year m)
 IsShownIn-Shows zone clock m h =
@@ -97,7 +97,7 @@ IsShownIn-Shows zone clock m h =
     let same : clock_nanos greatest_year (offset_date m) (offset_time m) ≡ plain_instant greatest_year clock = rw (h.0, h.1) refl in
     (h.3, ap (λ s. offset_instant greatest_year m +ℤ nanos_of_seconds s) (sym h.2) ∙ reading ∙ same)
 
--- moments of a zone at one instant are one
+-- moments of a zone at one instant are equal
 pub same_shown : (zone : TimeZone) (a b : OffsetDateTime) → HasZoneOffset zone a → HasZoneOffset zone b
     → offset_instant greatest_year a ≡ offset_instant greatest_year b → a ≡ b
 same_shown zone a b p q e = same_by_instant a b e (p ∙ ap (Zone.offset_at zone) e ∙ sym q)
@@ -105,13 +105,13 @@ same_shown zone a b p q e = same_by_instant a b e (p ∙ ap (Zone.offset_at zone
 same_fold : (e l e' l' : OffsetDateTime) → e ≡ e' → l ≡ l' → Fold e l ≡ Fold e' l'
 same_fold e l e' l' p q = λ i. Fold (p i) (q i)
 
--- an answer by its two cases
+-- a result by its two cases
 pub is_answer : (zone : TimeZone) (clock : PlainDateTime) (a : Result OffsetDateTime NotOne)
     → IfOk a (IsOnlyMoment zone clock) → IfErr a (IsNotOne zone clock) → IsAnswer zone clock a
 is_answer zone clock (Ok m) ok err = ok
 is_answer zone clock (Err why) ok err = err
 
--- a date and time of a zone has one answer
+-- a date and time has one result in a zone
 pub one_answer : (zone : TimeZone) (clock : PlainDateTime) (a b : Result OffsetDateTime NotOne)
     → IsAnswer zone clock a → IsAnswer zone clock b → a ≡ b
 one_answer zone clock (Ok a) (Ok b) p q =
@@ -141,7 +141,7 @@ one_answer zone clock (Err (Fold e l)) (Err (Fold e' l')) p q =
     (same_shown zone e e' p.0.2 q.0.2 (omega (arith, ints, e-in.0, e'-in.0)))
     (same_shown zone l l' p.1.2 q.1.2 (omega (arith, ints, l-in.1, l'-in.1))))
 
--- what is shown at a moment is answered by it, or by a fold around it
+-- the local time of a moment resolves to it, or to a fold around it
 pub answers_back : (zone : TimeZone) (clock : PlainDateTime) (m shown : OffsetDateTime) (a : Result OffsetDateTime NotOne)
     → IsAnswer zone clock a → IsShownIn zone clock shown → offset_instant greatest_year shown ≡ offset_instant greatest_year m → GivesBack m a
 answers_back zone clock m shown (Ok back) p h e = sym (p.1 _ (IsShownIn-Shows zone clock shown h)) ∙ e
@@ -172,7 +172,7 @@ none_of_no_text name h (e ∷ es) =
 pub no_zone_of_no_text : (zones : Zones) (name : List ℕ) → (IsUtf8 name → ⊥) → IsZoneIfAny (zone_named zones name) None
 no_zone_of_no_text zones name h = rw (none_of_no_text name h zones.zones.entries) tt
 
--- the kit's zone has the same offsets
+-- the kit's zone has the offsets of the zone that was found
 pub offset_at-offset_in : (found : NamedZone) (zone : TimeZone) → IsZoneOf found zone → (n : ℤ) → Zone.offset_at zone n ≡ offset_in found n
 unfolding Zone.offset_at offset_in
 offset_at-offset_in Utc zone h n = rw h refl
@@ -189,7 +189,7 @@ same_or_not a b = elim (bytes_eq a b) as (λ t. bytes_eq a b ≡ t → (a ≡ b)
   | false ↦ λ e. inr (λ same. let equal = (bytes_eq-Decides a b).1 same in absurd cc)
 ] refl
 
--- what is found by the name UTC is UTC
+-- the zone that is found by the name UTC is UTC
 only_utc : (Gives : Giving) (folder name : List ℕ) (zone : NamedZone) → name ≡ codes "UTC" → IsFoundIn Gives folder name (Ok zone) → zone ≡ Utc
 only_utc Gives folder name zone e (None, asked, at) = absurd (asked.0 e)
 only_utc Gives folder name zone e (Some At.Utc, asked, at) = cc
@@ -197,7 +197,7 @@ only_utc Gives folder name zone e (Some (At.Rule rule), asked, at) = absurd aske
 only_utc Gives folder name zone e (Some (At.InFolder below), asked, at) = absurd (asked.1 e)
 only_utc Gives folder name zone e (Some (At.AtPath path), asked, at) = absurd asked
 
--- UTC alone has the zones of no name
+-- a map with UTC alone has the zones of an empty list of names
 pub utc_alone : (Gives : Giving) (folder : List ℕ) (old new : Zones) → ((name : List ℕ) → zone_named old name ≡ None)
     → IsInserted old new (codes "UTC") Utc → AreZonesOf Gives folder [] new
 utc_alone Gives folder old new none put = record {
@@ -210,7 +210,7 @@ utc_alone Gives folder old new none put = record {
   left_out = All-nil (λ name. zone_named new name ≡ None → IsOfNone Gives folder name);
 }
 
--- with what is found by one more name
+-- after adding the zone of one more name
 one_more : (Gives : Giving) (folder name : List ℕ) (names : List (List ℕ)) (old new : Zones) → AreZonesOf Gives folder names old
     → AddsFound Gives folder name old new → AreZonesOf Gives folder (names ++ name ∷ []) new
 one_more Gives folder name names old new was (inl (zone, is, put)) = record {
@@ -242,7 +242,7 @@ one_more Gives folder name names old new was (inr (none, same)) = record {
       (λ nothing. none);
 }
 
--- the zones of the names before the index, with what is found by the name there
+-- the zones of the names before the index, after adding the zone of the name there
 pub more_zones : {X : Type 0} (f : X → List ℕ) (Gives : Giving) (folder : List ℕ) (xs : List X) (i : ℕ) (x : X) (old new : Zones)
     → AreZonesOf Gives folder (map f (take i xs)) old → i < length xs → AddsFound Gives folder (f (get_or xs i x)) old new
     → AreZonesOf Gives folder (map f (take (i + 1) xs)) new
@@ -250,13 +250,13 @@ more_zones f Gives folder xs i x old new was below adds =
     subst (λ (names : List (List ℕ)). AreZonesOf Gives folder names new) (sym (map_more f xs i x below))
     (one_more Gives folder (f (get_or xs i x)) (map f (take i xs)) old new was adds)
 
--- ---- Suffixes that go with a moment, and one answer of each
+-- ---- Suffixes that agree with a moment, and that checking one has one result
 
 pub compared-other : (own zone : ℤ) (same : Bool) → (IsTrue same ↔ (own ≡ zone)) → same ≡ false → Err OtherOffset ≡ compared own zone
 compared-other own zone true h e = cc
 compared-other own zone false h e = rw (false_from_ne_true (int_eq own zone) (λ t. let never : false ≡ true = h.1 ((Decides-int_eq own zone).0 t) in cc)) refl
 
--- a moment that has the offset of the kit's zone goes with the one that was found
+-- a moment that has the offset of the kit's zone agrees with the zone that was found
 pub goes_with_found : (found : Option NamedZone) (m : OffsetDateTime) (zone : TimeZone) (r : Checked) → IsZoneIfAny found (Some zone)
     → HasItsOffset m (Zone.offset_at zone) r → MatchOption found (r ≡ Err UnknownZone) (λ z. GoesWithNamed true m z r)
 goes_with_found None m zone r h k = absurd h

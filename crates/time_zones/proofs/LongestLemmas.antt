@@ -1,4 +1,4 @@
--- The longest suffix in front of a text, and that a text is one in one way.
+-- The longest prefix of a text that is a suffix, and that a text is one in one way.
 use Rattle.std.proofs.Common.{◌≡◌, ℕ, suc, ◌+◌, ◌-◌, ◌<◌, ◌≤◌, List, [], ◌∷◌, ◌++◌, length, take, drop, Option, Some, None, refl, sym, ap, subst, ◌∙◌, append_assoc, append-nil, take-append-drop, arith, length-append}
 use Rattle.std.proofs.lemmas.List.{length-take-le}
 use Rattle.std.specs.Prelude.{All, IfNone, option_map}
@@ -53,7 +53,7 @@ zone_is_no_tag text front r z t s h e k =
     (zone_brackets text z r front e h) (tag_brackets text t s k) in
     zone_no_tag h.inside t.key t.values z.zone h.is_zone same.1
 
--- tags in front of a text that a zone begins are none
+-- no tag is at the start of a text that begins with a zone
 no_tags : (text front r : List ℕ) (z : ZoneTag) (ts : List Tag) (s : List ℕ) → IsZoneTag front z → text ≡ front ++ r
     → All IsSuffixTag ts → text ≡ tags_text ts ++ s → ts ≡ []
 no_tags text front r z [] s h e k f = refl

@@ -16,14 +16,14 @@ use Rattle.time_zones.specs.declared.place.Place.{Place}
 
 -- ---- Lists whose elements pass a test, up to the first that doesn't
 
--- what `all` answers of the parts of a text
+-- the result of `all` for the parts of a text
 pub true_of_all : (P : List ℕ → Type 0) (xs : List (List ℕ)) (r : Bool)
     → MatchBool r (AllWithin P xs 0 (length xs)) ((k : ℕ) × (k < length xs) × HoldsAt (λ x. P x → ⊥) xs k)
     → (IsTrue r → All P xs) × (All P xs → IsTrue r)
 true_of_all P xs true h = (λ _. λ k d l. h k d (omega arith) l, λ _. refl)
 true_of_all P xs false h = (λ t. absurd (false≢true t), λ all. absurd (h.2 [] (all h.0 [] h.1)))
 
--- what passes in a list, element by element
+-- the elements of a list that pass a test, one by one
 pub head_passes : (p : ℕ → Bool) (x : ℕ) (xs : List ℕ) → AllPass p (x ∷ xs) → p x ≡ true
 head_passes p x xs h = h 0 0 (omega arith)
 
@@ -44,7 +44,7 @@ append_passes p (x ∷ xs) ys h k = cons_passes p x (xs ++ ys) (head_passes p x 
 pub more_pass : (p q : ℕ → Bool) → ((x : ℕ) → p x ≡ true → q x ≡ true) → (xs : List ℕ) → AllPass p xs → AllPass q xs
 more_pass p q more xs h k d l = more (get_or xs k d) (h k d l)
 
--- lists that pass, with an element after them that doesn't, are one
+-- lists that pass, with an element after them that doesn't, are equal
 pub cut_once : (p : ℕ → Bool) (c : ℕ) → p c ≡ false → (xs ys r s : List ℕ) → AllPass p xs → AllPass p ys
     → xs ++ c ∷ r ≡ ys ++ c ∷ s → (xs ≡ ys) × (r ≡ s)
 cut_once p c fails [] [] r s h k e = (refl, cc)
@@ -61,7 +61,7 @@ cut_once p c fails (x ∷ xs) (y ∷ ys) r s h k e =
     let others = cut_once p c fails xs ys r s (tail_passes p x xs h) (tail_passes p y ys k) cc in
     (cc, others.1)
 
--- so many of its elements pass first
+-- that many of its elements pass first
 prefix_of_cut : (p : ℕ → Bool) (c : ℕ) → p c ≡ false → (xs r : List ℕ) → AllPass p xs → prefix_len p (xs ++ c ∷ r) ≡ length xs
 prefix_of_cut p c fails [] r h = rw fails refl
 prefix_of_cut p c fails (x ∷ xs) r h =
@@ -77,7 +77,7 @@ pub take_front : (xs ys : List ℕ) → take (length xs) (xs ++ ys) ≡ xs
 take_front [] ys = refl
 take_front (x ∷ xs) ys = ap (λ zs. x ∷ zs) (take_front xs ys)
 
--- what is left after them begins with the one that doesn't pass
+-- the rest after them begins with the element that doesn't pass
 pub left_of_cut : (p : ℕ → Bool) (c : ℕ) → p c ≡ false → (text xs r : List ℕ) → AllPass p xs → text ≡ xs ++ c ∷ r
     → drop (prefix_len p text) text ≡ c ∷ r
 left_of_cut p c fails text xs r h e =
@@ -112,18 +112,18 @@ pub if_none : {A : Type 0} (o : Option A) (P : Type 0) → P → IfNone o P
 if_none None P p = p
 if_none (Some x) P p = tt
 
--- ---- What stands in front of a text: brackets, a key, a sign
+-- ---- The start of a text: brackets, a key, a sign
 
 pub key_passes : (key : List ℕ) → IsSuffixKey key → AllPass is_key_char key
 key_passes key h = word_passes is_key_initial is_key_char (λ x e. or_left _ _ (or_left _ _ e)) key h
 
--- what is no key and values, since no equals sign follows
+-- a text isn't a key and values, since no equals sign follows
 pub no_key : (text left : List ℕ) (n : ℕ) → n ≡ prefix_len is_key_char text → left ≡ drop n text
     → ((rest : List ℕ) → left ≢ 61 ∷ rest) → (key values : List ℕ) → IsKeyed text key values → ⊥
 no_key text left n count back none key values h =
     none values (back ∙ ap (λ m. drop m text) count ∙ left_of_cut is_key_char 61 refl text key values (key_passes key h.is_key) h.whole)
 
--- or since what stands before it or after it is no key or no values
+-- or since the text before it is no key, or the text after it is no values
 pub bad_key : (text front left rest : List ℕ) (n : ℕ) → n ≡ prefix_len is_key_char text → front ≡ take n text → left ≡ drop n text
     → left ≡ 61 ∷ rest → (IsSuffixKey front × AreSuffixValues rest → ⊥) → (key values : List ℕ) → IsKeyed text key values → ⊥
 bad_key text front left rest n count cut back begins bad key values h =
@@ -134,7 +134,7 @@ bad_key text front left rest n count cut back begins bad key values h =
     let same_values : values ≡ rest = cc in
     bad (subst IsSuffixKey same_key h.is_key, subst AreSuffixValues same_values h.are_values)
 
--- what is no offset, since no time of the day follows the sign
+-- a text is no offset, since no time of day follows the sign
 pub no_offset : (text time : List ℕ) (sign : ℕ) → text ≡ sign ∷ time → ((n : ℕ) → IsHourMinute time n → ⊥)
     → (o : UtcOffset) → IsNumOffset text o → ⊥
 no_offset text time sign e none o h =
@@ -145,7 +145,7 @@ abs_negated : (n : ℕ) → unsigned_abs (neg_ℤ (pos n)) ≡ n
 abs_negated zero = refl
 abs_negated (suc n) = refl
 
--- what no text tells, since it has seconds or a day or more
+-- an offset that no text specifies, since it has seconds or is a day or more
 pub untold_offset : (o : UtcOffset) (n : ℕ) → n ≡ unsigned_abs (offset_seconds o) → ((time : List ℕ) → IsHourMinute time n → ⊥)
     → (text : List ℕ) → IsNumOffset text o → ⊥
 untold_offset o n e none text h =
@@ -157,7 +157,7 @@ bracketed_front : (c : Bool) (x r : List ℕ) → bracketed c x ++ r ≡ 91 ∷ 
 bracketed_front true x r = ap (λ t. 91 ∷ 33 ∷ t) (append_assoc x (93 ∷ []) r)
 bracketed_front false x r = ap (λ t. 91 ∷ t) (append_assoc x (93 ∷ []) r)
 
--- whether there is a flag is seen, since no text in brackets begins as one
+-- a text determines whether it has a flag, since no text in brackets begins with one
 flag_once : (c d : Bool) (x y : List ℕ) → (c ≡ false → (rest : List ℕ) → x ≢ 33 ∷ rest)
     → (d ≡ false → (rest : List ℕ) → y ≢ 33 ∷ rest)
     → flagged c x ≡ flagged d y → (c ≡ d) × (x ≡ y)
@@ -181,7 +181,7 @@ held_no_flag (b ∷ x) r rest h e =
     let same = same_head b 33 (x ++ 93 ∷ r) rest e in
     absurd (false≢true (sym flag_not_held ∙ ap is_held (sym same) ∙ head_passes is_held b x h))
 
--- the brackets in front of a text are seen in one way
+-- brackets at the start of a text are determined
 pub brackets_once : (c d : Bool) (x y r s : List ℕ) → AllPass is_held x → AllPass is_held y → bracketed c x ++ r ≡ bracketed d y ++ s
     → (c ≡ d) × (x ≡ y) × (r ≡ s)
 brackets_once c d x y r s h k e =
@@ -233,12 +233,12 @@ split_first : (c : ℕ) (xs ys : List ℕ) → Lacks c xs → slice_split (λ x.
 split_first c [] ys h = rw (same_test c)
 split_first c (x ∷ xs) ys h = rw (head_differs c x xs h, split_first c xs ys (tail_lacks c x xs h))
 
--- what holds of all of a list holds of its first and of the others
+-- a fact of all of a list holds for its first element and for the others
 pub all_cons : {X : Type 0} (P : X → Type 0) (x : X) (xs : List X) → P x → All P xs → All P (x ∷ xs)
 all_cons P x xs first others zero d l = first
 all_cons P x xs first others (suc k) d l = others k d (omega arith)
 
--- a name with a slash is its first part and a name
+-- a name with a slash is its first part, a slash and a name
 pub part_and_name : (part after : List ℕ) → Lacks 47 part → IsPart part → IsZoneName after → IsZoneName (part ++ 47 ∷ after)
 part_and_name part after lacks is name =
     subst (All IsPart) (sym (split_first 47 part after lacks)) (all_cons IsPart part (slice_split (λ b. b == 47) after) is name)
@@ -248,14 +248,14 @@ name_after part after lacks name =
     let all = subst (All IsPart) (split_first 47 part after lacks) name in
     (all 0 [] (omega arith), λ k d l. all (suc k) d (omega arith))
 
--- a name with no slash is one part
+-- a name without a slash is one part
 pub one_part : (name : List ℕ) → Lacks 47 name → IsPart name → IsZoneName name
 one_part name lacks is = subst (All IsPart) (sym (split_alone 47 name lacks)) (all_cons IsPart name [] is (λ k d l. absurd (omega arith)))
 
 pub part_of_one : (name : List ℕ) → Lacks 47 name → IsZoneName name → IsPart name
 part_of_one name lacks is = subst (All IsPart) (split_alone 47 name lacks) is 0 [] (omega arith)
 
--- a setting that is neither empty nor begins with a colon
+-- a setting that isn't empty and doesn't begin with a colon
 pub by_text : (setting : List ℕ) (place : Option Place) → setting ≢ [] → ((rest : List ℕ) → setting ≢ 58 ∷ rest)
     → IsRuleOrPath (read_whole setting) setting place → AsksBySetting setting place
 by_text [] place some colon h = absurd (some refl)
@@ -269,7 +269,7 @@ pub none_of : {X : Type 0} (o : Option X) → (IsSome o → ⊥) → o ≡ None
 none_of None h = refl
 none_of (Some x) h = absurd (h refl)
 
--- ---- Names of zones in suffixes, beside those of files
+-- ---- Names of zones in suffixes, compared to those of files
 
 part_in_folder : (part : List ℕ) → IsTimeZonePart part → IsPart part
 part_in_folder [] h = absurd h.0

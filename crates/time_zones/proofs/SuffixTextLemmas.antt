@@ -1,4 +1,4 @@
--- Of which bytes the texts in brackets are, and what each of them tells.
+-- The bytes of the texts in brackets, and what each text represents.
 use Rattle.std.specs.Prelude.{All, option_map, if◌then◌else◌}
 use Rattle.std.specs.Char.{is_ascii_alphanumeric, is_ascii_digit}
 use Rattle.std.specs.Int.{is_in_range}
@@ -33,7 +33,7 @@ parts_step : (p : ℕ → Bool) (c x : ℕ) (parts : List (List ℕ)) (b : Bool)
 parts_step p c x parts true e h = (or_right (p x) (x == c) e, λ k d l. h (suc k) d (omega arith))
 parts_step p c x parts false e h = let both = onto_first_passes p x parts h in (or_left (p x) (x == c) both.0, both.1)
 
--- a text has the bytes of its parts, and those between them
+-- a text consists of the bytes of its parts, and of those between them
 parts_pass : (p : ℕ → Bool) (c : ℕ) (text : List ℕ) → All (AllPass p) (slice_split (λ b. b == c) text) → AllPass (λ b. p b || b == c) text
 parts_pass p c [] h = none_passes (λ b. p b || b == c)
 parts_pass p c (x ∷ xs) h =
@@ -92,7 +92,7 @@ or_cases : (a b : Bool) → (a || b) ≡ true → (a ≡ true) ⊎ (b ≡ true)
 or_cases true b e = inl refl
 or_cases false b e = inr e
 
--- tests of letters and digits, over the tests that they are made of
+-- tests of letters and digits, by the tests that they consist of
 alphanumeric_of : (upper lower dot under digit dash plus : Bool) → ((digit || upper) || lower) ≡ true
     → ((((((upper || lower) || dot) || under) || digit) || dash) || plus) ≡ true
 alphanumeric_of true lower dot under digit dash plus e = refl
@@ -180,14 +180,14 @@ offset_once text o u h k =
       ]
     ]
 
--- a text tells one zone
+-- a text specifies one zone
 pub zone_once : (text : List ℕ) (z w : Zone) → IsZoneText text z → IsZoneText text w → z ≡ w
 zone_once text (named a) (named b) h k = ap named (sym h.0 ∙ k.0)
 zone_once text (named a) (at_offset o) h k = absurd (name_no_offset text o (subst IsTimeZoneName (sym h.0) h.1) k)
 zone_once text (at_offset o) (named a) h k = absurd (name_no_offset text o (subst IsTimeZoneName (sym k.0) k.1) h)
 zone_once text (at_offset o) (at_offset u) h k = ap at_offset (offset_once text o u h k)
 
--- ---- Zones and tags in front of a text, each seen in one way
+-- ---- Zones and tags at the start of a text, each in one way
 
 pub tag_brackets : (text : List ℕ) (t : Tag) (rest : List ℕ) → BeginsWithTag text t rest
     → BeginsBracketed text t.is_critical (t.key ++ 61 ∷ t.values) rest
@@ -260,7 +260,7 @@ zone_found text z inside rest found told = record {
   };
 }
 
--- tags that were read, what is left after them, and the first critical key
+-- tags that were read, the rest after them, and the first critical key
 pub record TagsRead (text rest : List ℕ) (key : Option (List ℕ)) : Type 0 where
   pub tags : List Tag
   pub whole : text ≡ tags_text tags ++ rest

@@ -1,4 +1,4 @@
--- The offset that a table gives an instant is one that the kit gives the date and time shown then.
+-- The offset of a table at an instant is one that the kit returns for the local date and time then.
 use Rattle.std.proofs.Common.{◌≡◌, ℕ, zero, suc, ◌+◌, ◌-◌, ◌≤◌, ◌<◌, ℤ, ◌+ℤ◌, ◌≤ℤ◌, ◌<ℤ◌, true, false, cond, ◌==◌, int_le, int_lt, List, length, None, refl, sym, ap, subst, ◌∙◌, arith, inl, inr}
 use Rattle.std.proofs.lemmas.Bool.Decides.{leb_tells, nat_tests}
 use Rattle.std.proofs.lemmas.List.Sums.{prefix_len_passes, prefix_len_stops, prefix_len-le-length}
@@ -91,13 +91,13 @@ has_row : (z : Tzif) (k : ℕ) (c : ℤ) → is_inside z k c ≡ true → 0 < k
 has_row z zero c h = absurd (cc)
 has_row z (suc k) c h = omega arith
 
--- what holds after some rows is what the last of them sets
+-- the type after some rows is the one that the last of them sets
 last_type : (z : Tzif) (k : ℕ) → 0 < k → type_after z k ≡ (transition_at z (k - 1)).after
 last_type z k l =
     let some : (k == 0) ≡ false = grind (arith, nat_tests) in
     subst (λ b. cond b z.first (transition_at z (k - 1)).after ≡ (transition_at z (k - 1)).after) (sym some) refl
 
--- and the offset before the next
+-- and it is the type before the next row
 next_before : (z : Tzif) (k : ℕ) → k < length (rows z) → (transition_at z k).before.seconds ≡ (type_after z k).offset.seconds
 next_before z zero l = first_goes_on z l
 next_before z (suc k) l =
@@ -111,7 +111,7 @@ next_before z (suc k) l =
     parts.2 ∙ ap (λ i. (transition_at z i).before.seconds) same in
     sym next ∙ sym type
 
--- inside a gap or fold the kit gives its two offsets
+-- inside a gap or fold the kit returns its two offsets
 inside_sides : (z : Tzif) (dt : DateTime) (o : ℤ) → is_inside z (civil_count_at z (civil_seconds dt)) (civil_seconds dt) ≡ true
     → IsSide (offsets_in (transition_at z (civil_count_at z (civil_seconds dt) - 1))) o → IsSide (ambiguous_at z dt) o
 inside_sides z dt o inside side =
@@ -179,7 +179,7 @@ after_more z c s more shown =
     let later = not_started z c (omega arith) in
     omega (arith, signed_arith)
 
--- the offset of a table at a second is a side of what the civil clock shows then
+-- the offset of a table at a second is a side of the local time then
 pub table_side : (z : Tzif) (dt : DateTime) (s : ℤ) → rule_after z (count_at z s) ≡ None
     → s +ℤ (type_after z (count_at z s)).offset.seconds ≡ civil_seconds dt
     → IsSide (ambiguous_at z dt) (type_after z (count_at z s)).offset.seconds

@@ -1,4 +1,4 @@
--- The offsets that a zone can have where its clocks show a date and time.
+-- The offsets that a zone can have at a local date and time.
 use Rattle.std.specs.Borrow.{Bor}
 use Rattle.std.specs.Prelude.{IfSome, option_map}
 use Rattle.std.proofs.Common.{◌≡◌, ℕ, ◌-◌, ◌<◌, ℤ, pos, neg_ℤ, ◌≤ℤ◌, true, false, ◌==◌, if◌then◌else◌, List, length, map, get_or, Option, None, Some, refl, sym, ap, subst, ◌∙◌, arith, vec_len, ◌⊎◌, ◌+ℤ◌, ◌-ℤ◌, ◌<ℤ◌, cond, inl, inr}
@@ -50,7 +50,7 @@ module _ (z : Tzif) (rows : List Transition) (same : map transition_text rows �
       let b : length (map transition_text z.transitions.items) ≡ length z.transitions.items = grind (arith, common_steps) in
       sym a ∙ ap length same ∙ b
 
-  -- a row that was read is the table's, as far as its text goes
+  -- the text of a row that was read is that of the table's row
   row_is : (k : ℕ) (e : Transition) → e ≡ get_or rows k e → k < length rows → transition_text e ≡ transition_text (transition_at z k)
   row_is k e is below =
       sym (row_at rows k e is below) ∙ ap (λ (texts : List _). get_or texts k no_row) same
@@ -70,7 +70,7 @@ module _ (z : Tzif) (rows : List Transition) (same : map transition_text rows �
         count_is z second r.place (omega (arith, r.within, same_length))
         (λ l. omega (arith, signed_arith, last, r.begun, within)) (λ l. omega (arith, signed_arith, next, r.ended, within))
 
-    -- the rule doesn't go on there
+    -- no rule follows there
     no_rule : rule_after z r.place ≡ None
     no_rule =
         let within : r.place < length z.transitions.items = omega (arith, r.within, same_length) in
@@ -89,7 +89,7 @@ module _ (z : Tzif) (rows : List Transition) (same : map transition_text rows �
         sym (ap (λ (k : ℕ). (match_some (rule_after z k) (type_after z k).offset (λ tz. Rule.offset_at tz n)).seconds) there
         ∙ ap (λ rule. (match_some rule (type_after z r.place).offset (λ tz. Rule.offset_at tz n)).seconds) no_rule ∙ type_is)
 
-  -- from the last row on all rows lie before
+  -- from the last row on all rows are before
   pub past_rows : (second : ℤ) (last : Transition) → 0 < length rows → last ≡ get_or rows (length rows - 1) last → last.second ≤ℤ second
       → count_at z second ≡ vec_len z.transitions
   past_rows second last some is begun =
@@ -98,7 +98,7 @@ module _ (z : Tzif) (rows : List Transition) (same : map transition_text rows �
       (λ l. absurd (omega (arith, same_length, l))) in
       omega (arith, count, same_length)
 
--- what follows from a value
+-- implications of a value
 pub if_some : {A : Type 0} (o : Option A) (P Q : A → Type 0) → ((a : A) → P a → Q a) → IfSome o P → IfSome o Q
 if_some None P Q each h = h
 if_some (Some a) P Q each h = each a h
@@ -113,12 +113,12 @@ zone_row zone table n s is e = subst (λ (x : TimeZone). s ≡ Zone.offset_at x 
 pub floor_of_whole : (n z : ℤ) → IsWhole 1_000_000_000 n z → floor_second n ≡ z
 floor_of_whole n z is = omega (arith, signed_arith, is)
 
--- zones tell of an instant in one of their seconds
+-- an instant in one of those seconds is in the range of zones
 pub second_told : (n begin end : ℤ) → IsBetween begin end (floor_second n) → neg_ℤ (pos 377_705_023_201) ≤ℤ begin
     → end ≤ℤ pos 253_402_207_200 → IsTimestampNanos n
 second_told n begin end within first last = omega (arith, signed_arith, within, first, last)
 
--- the offset of a rule that has one
+-- the offset of a rule with one offset
 one_offset : (rule : PosixTimeZone) (o : Offset) (n : ℤ) → HasOneOffset rule o → o ≡ Rule.offset_at rule n
 one_offset rule o n one =
     one.1 ∙ ap (λ dst. match_some (Rule.dst_at_by rule.std_offset dst n) rule.std_offset (λ d. d.offset)) (sym one.0)
@@ -127,7 +127,7 @@ no_dst : (dst : Option Dst) → option_map dst_view dst ≡ None → dst ≡ Non
 no_dst None e = refl
 no_dst (Some d) e = absurd cc
 
--- a rule that reads as that one
+-- a rule whose text is equal to that rule's
 same_rule : (rule tz : PosixTimeZone) (o : Offset) (n : ℤ) → HasOneOffset rule o → tz_view rule ≡ tz_view tz
     → o.seconds ≡ (Rule.offset_at tz n).seconds
 same_rule rule tz o n one same =
@@ -135,7 +135,7 @@ same_rule rule tz o n one same =
     ap (λ (p : Offset). p.seconds) one.1 ∙ ap (λ t. t.std_seconds) same
     ∙ ap (λ (p : Offset). p.seconds) (one_offset tz tz.std_offset n (none, refl))
 
--- behind all rows of a table such a rule has its offset
+-- after all rows of a table such a rule has its offset
 pub behind_rows : (z : Tzif) (rule : PosixTimeZone) (o : Offset) (n : ℤ) → Some (tz_view rule) ≡ option_map tz_view z.posix_tz
     → HasOneOffset rule o → count_at z (floor_second n) ≡ vec_len z.transitions → o.seconds ≡ (Table.offset_at z n).seconds
 behind_rows z rule o n reads one there =
@@ -159,7 +159,7 @@ unfolding Zone.offset_at
 zone_rule zone rule o n is one =
     subst (λ (x : TimeZone). o.seconds ≡ Zone.offset_at x n) (sym is) (ap (λ (p : Offset). p.seconds) (one_offset rule o n one))
 
--- each offset of a zone is one of a clock
+-- each offset of a zone is in the range of offsets
 pub zone_offset_in : (zone : TimeZone) (n : ℤ) → IsOffsetSeconds (Zone.offset_at zone n)
 unfolding Zone.offset_at
 zone_offset_in UTC n = Zone.zero_in_range
@@ -183,7 +183,7 @@ rule_offset_by std (Some d) n = elim (Rule.in_window (Rule.utc_window d (year_of
 rule_offset : (tz : PosixZone) (n : ℤ) → IsOfRule (Some (tz_view tz)) (Rule.offset_at tz n).seconds
 rule_offset tz n = rule_offset_by tz.std_offset tz.dst n
 
--- the rule that goes on after a table is the zone's
+-- the rule that follows a table is the zone's
 rule_is : (z : TableZone) (j : ℕ) (tz : PosixZone) → rule_after z j ≡ Some tz → z.posix_tz ≡ Some tz
 rule_is z j tz = elim (j == vec_len z.transitions) as (λ b. cond b z.posix_tz None ≡ Some tz → z.posix_tz ≡ Some tz) [
   | true ↦ λ e. e
@@ -208,7 +208,7 @@ table_candidate z dt s =
           (subst (IsOfRule (Some (tz_view tz))) e (rule_offset tz n)))
     ] refl
 
--- where a zone has an offset, the kit gives it or it is one of the rule
+-- an offset of a zone is one that the kit returns, or one of the rule
 pub zone_candidate : (zone : TimeZone) (dt : DateTime) (s : ℤ) → HasOffset zone (civil_nanos dt) s
     → IsSide (Zone.ambiguous_at zone dt) s ⊎ IsOfRule (rule_text zone) s
 unfolding Zone.offset_at Zone.ambiguous_at
@@ -218,7 +218,7 @@ zone_candidate (Fixed offset) dt s h = inl (sym h.same)
 zone_candidate (Posix tz) dt s h = inr (subst (IsOfRule (Some (tz_view tz))) h.same (rule_offset tz (civil_nanos dt -ℤ nanos_of_seconds s)))
 zone_candidate (TimeTzif z) dt s h = table_candidate z.now dt s h.same
 
--- an instant that shows a reading has its offset there
+-- an instant with a local time has its offset there
 pub shows-HasOffset : (zone : TimeZone) (reading n : ℤ) → Shows zone reading n
     → HasOffset zone reading (Zone.offset_at zone n) × (n ≡ reading -ℤ nanos_of_seconds (Zone.offset_at zone n))
 shows-HasOffset zone reading n h =
@@ -238,28 +238,28 @@ spread_reaches zone reading w each n h =
     let within = each (Zone.offset_at zone n) at.0 in
     omega (arith, ints, within, at.1)
 
--- a reading that is shown is one of the years that the kit counts
+-- a local time that occurs is in the years of the kit
 pub shows-IsCivilNanos : (zone : TimeZone) (reading n : ℤ) → Shows zone reading n → IsCivilNanos reading
 shows-IsCivilNanos zone reading n h = omega (arith, ints, h, zone_offset_in zone n)
 
--- an offset at both ends of the range tells of all
+-- if both ends of a range of offsets are in the range of zones, all are
 pub told_between : (reading s : ℤ) → IsTimestampNanos (reading -ℤ nanos_of_seconds (neg_ℤ (pos 93_599)))
     → IsTimestampNanos (reading -ℤ nanos_of_seconds (pos 93_599)) → IsOffsetSeconds s → IsTimestampNanos (reading -ℤ nanos_of_seconds s)
 told_between reading s first last within = omega (arith, ints, first, last, within)
 
--- a moment at an offset that the zone has there is shown in it
+-- a moment at an offset that the zone has there has that local time in the zone
 pub clock-IsShownIn : (zone : TimeZone) (clock : PlainDateTime) (m : OffsetDateTime) (s : ℤ) → HasClock clock s m
     → HasOffset zone (plain_instant greatest_year clock) s → IsShownIn zone clock m
 clock-IsShownIn zone clock m s h o =
     let at = sym h.instant in
     (h.date, h.time, h.offset ∙ subst (λ n. s ≡ Zone.offset_at zone n) at (sym o.same), subst IsTimestampNanos at o.told)
 
--- an instant at which a clock shows a reading lies as near to it as offsets reach
+-- an instant with a local time is as near to it as offsets reach
 near : (reading n s second : ℤ) → IsOffsetSeconds s → n +ℤ nanos_of_seconds s ≡ reading → floor_second reading ≡ second
     → IsBetween (second -ℤ pos 93_599) (second +ℤ pos 93_599) (floor_second n)
 near reading n s second within shows is = omega (arith, signed_arith, within, shows, is)
 
--- with one offset that near there is one moment
+-- with one offset as near as that there is one moment
 pub one_moment : (zone : TimeZone) (clock : PlainDateTime) (m : OffsetDateTime) (o : Offset) (second : ℤ)
     → floor_second (plain_instant greatest_year clock) ≡ second
     → ((n : ℤ) → IsBetween (second -ℤ pos 93_599) (second +ℤ pos 93_599) (floor_second n)
@@ -275,7 +275,7 @@ one_moment zone clock m o second is same has =
           omega (arith, ints, there.1, h.1, has.instant),
     )
 
--- a reading whose moment is told of at each offset is one of those years
+-- a local time whose moment is in the range of zones at every offset is in those years
 pub told-IsCivilNanos : (reading : ℤ) → ((s : ℤ) → IsOffsetSeconds s → IsTimestampNanos (reading -ℤ nanos_of_seconds s)) → IsCivilNanos reading
 told-IsCivilNanos reading all =
     let utc = all (pos 0) Zone.zero_in_range in
@@ -293,13 +293,13 @@ two_of_rule : (std : Offset) (dst : Option Dst) → (a : ℤ) × (b : ℤ)
 two_of_rule std None = (std.seconds, std.seconds, λ n. inl refl)
 two_of_rule std (Some d) = (std.seconds, d.offset.seconds, rule_offset_by std (Some d))
 
--- and of what the kit gives a date and time
+-- and of the kit's result for a date and time
 two_sides : (offsets : AmbiguousOffset) → (a : ℤ) × (b : ℤ) × ((s : ℤ) → IsSide offsets s → (s ≡ a) ⊎ (s ≡ b))
 two_sides (Unambiguous offset) = (offset.seconds, offset.seconds, λ s h. inl h)
 two_sides (Gap before after) = (before.seconds, after.seconds, λ s h. h)
 two_sides (Fold before after) = (before.seconds, after.seconds, λ s h. h)
 
--- where a zone has one source, it can have two offsets at most where its clocks show a date and time
+-- a zone with one source has at most two offsets at a local date and time
 pub two_offsets : (zone : TimeZone) (dt : DateTime) → HasOneSource zone
     → (a : ℤ) × (b : ℤ) × ((s : ℤ) → HasOffset zone (civil_nanos dt) s → (s ≡ a) ⊎ (s ≡ b))
 unfolding Zone.offset_at
@@ -319,7 +319,7 @@ two_offsets (TimeTzif z) dt one =
       ],
     )
 
--- of three among two numbers, where two differ, the third is one of them
+-- if three numbers are among two, and the first and the second differ, the third equals one of these
 pub one_of_two : (a b e l s : ℤ) → (e ≡ a) ⊎ (e ≡ b) → (l ≡ a) ⊎ (l ≡ b) → (s ≡ a) ⊎ (s ≡ b) → l <ℤ e → (s ≡ e) ⊎ (s ≡ l)
 one_of_two a b e l s (inl p) (inl q) r apart = absurd (omega (arith, ints, p, q, apart))
 one_of_two a b e l s (inr p) (inr q) r apart = absurd (omega (arith, ints, p, q, apart))

@@ -1,4 +1,4 @@
--- What is found of a zone in files, over what reading a file gives.
+-- Finding a zone in files, for any results of reading a file.
 use Rattle.std.specs.Prelude.{◌≡◌, ◌≢◌, ◌⊎◌, ℕ, ◌==◌, Bool, false, List, [], ◌∷◌, All, Option, Some, None, codes, MatchBool, ◌++◌, Result, Ok, Err, string_bytes, ℤ, pos, Contains}
 use Rattle.std.specs.List.{slice_split}
 use Rattle.std.specs.BTreeMap.{get_by_text}
@@ -23,17 +23,17 @@ use Rattle.time_zones.specs.declared.zone_fault.ZoneFault.TheVariants as Fault
 use Rattle.time_zones.specs.declared.finding.NamedZone.TheVariants.{Utc, Rule, Table as NamedTable}
 use Rattle.time_zones.specs.declared.zones.Zones.{Zones}
 
--- ---- What the name of a zone asks for, and what the variable TZ does
+-- ---- The places that the name of a zone and the variable TZ specify
 
 -- a part of a name, which leads to no other folder than its own
 abbrev pub IsPart : List ℕ → Type 0
 IsPart part = (part ≢ []) × (part ≢ codes ".") × (part ≢ codes "..")
 
--- a name of the folder of zones: such parts, with slashes between them
+-- a name in the folder of zones: parts with slashes between them
 abbrev pub IsZoneName : List ℕ → Type 0
 IsZoneName name = All IsPart (slice_split (λ b. b == 47) name)
 
--- what a name asks for; nothing where it would leave the folder
+-- the place that a name specifies; none if it would leave the folder
 abbrev pub AsksFor : List ℕ → Option Place → Type 0
 AsksFor name None = (name ≢ codes "UTC") × (¬ (IsZoneName name))
 AsksFor name (Some PlaceUtc) = name ≡ codes "UTC"
@@ -54,11 +54,11 @@ abbrev pub is_absolute : List ℕ → Bool
 is_absolute [] = false
 is_absolute (c ∷ rest) = c == 47
 
--- what a path or a name asks for
+-- the place that a path or a name specifies
 abbrev pub AsksForPath : List ℕ → Option Place → Type 0
 AsksForPath text place = MatchBool (is_absolute text) (IsFileAt text place) (AsksFor text place)
 
--- what a rule asks for
+-- the place that a rule specifies
 abbrev pub IsRule : TzText → Option Place → Type 0
 IsRule text None = ⊥
 IsRule text (Some PlaceUtc) = ⊥
@@ -66,28 +66,28 @@ IsRule text (Some (PlaceRule rule)) = tz_view rule ≡ text
 IsRule text (Some (InFolder below)) = ⊥
 IsRule text (Some (AtPath at)) = ⊥
 
--- a rule where the text is one, and else a path or a name
+-- the place of a rule if the text is one, and else of a path or a name
 abbrev pub IsRuleOrPath : Option TzText → List ℕ → Option Place → Type 0
 IsRuleOrPath (Some rule) text place = IsRule rule place
 IsRuleOrPath None text place = AsksForPath text place
 
--- what a value of TZ asks for: UTC where it is empty, a path or a name after a colon
+-- the place that a value of TZ specifies: UTC if it is empty, a path or a name after a colon
 abbrev pub AsksBySetting : List ℕ → Option Place → Type 0
 AsksBySetting [] place = place ≡ Some PlaceUtc
 AsksBySetting (c ∷ rest) place =
     MatchBool (c == 58) (AsksForPath rest place) (IsRuleOrPath (read_whole (c ∷ rest)) (c ∷ rest) place)
 
--- what the system's zone is: what TZ says where it is set
+-- the place of the system's zone: the one that TZ specifies, if it is set
 abbrev pub IsLocal : Option (List ℕ) → Option Place → Type 0
 IsLocal None place = IsFileAt (codes "/etc/localtime") place
 IsLocal (Some setting) place = AsksBySetting setting place
 
--- what is asked for by a name, `local` among them
+-- the place that a name specifies, which may be `local`
 abbrev pub IsAsked : Option (List ℕ) → List ℕ → Option Place → Type 0
 IsAsked setting name place =
     ((name ≡ codes "local") × IsLocal setting place) ⊎ ((name ≢ codes "local") × AsksFor name place)
 
--- what reading the file at a path gives
+-- the possible results of reading the file at a path
 abbrev pub Giving : Type 1
 Giving = List ℕ → Result (List ℕ) ReadFault → Type 0
 
@@ -115,7 +115,7 @@ pub record HasTable (Gives : Giving) (path : List ℕ) (name : Option (List ℕ)
   pub agrees : RuleAgrees table
   pub named : tzif_name table ≡ name
 
--- what comes of the file at a path; memory may run out at any time
+-- the possible results of reading the zone of the file at a path; memory may run out at any time
 abbrev pub ReadsTo : Giving → List ℕ → Option (List ℕ) → Result NamedZone ZoneFault → Type 0
 ReadsTo Gives path name (Ok Named.Utc) = ⊥
 ReadsTo Gives path name (Ok (Named.Rule rule)) = ⊥
@@ -129,7 +129,7 @@ ReadsTo Gives path name (Err (Fault.Malformed fault)) =
     (bytes : List ℕ) × Gives path (Ok bytes) × IsParseFailure (TzifError fault) bytes
 ReadsTo Gives path name (Err Fault.OutOfMemory) = Unit {0}
 
--- what comes of what is asked for: one file at most is read
+-- the possible results of finding the zone of a place, which reads at most one file
 abbrev pub IsFoundAt : Giving → List ℕ → Option Place → Result NamedZone ZoneFault → Type 0
 IsFoundAt Gives folder None r = r ≡ Err Fault.NotAName
 IsFoundAt Gives folder (Some Place.Utc) r = r ≡ Ok Named.Utc
@@ -137,7 +137,7 @@ IsFoundAt Gives folder (Some (Place.Rule rule)) r = r ≡ Ok (Named.Rule rule)
 IsFoundAt Gives folder (Some (Place.InFolder below)) r = ReadsTo Gives (folder ++ 47 ∷ below.now) (Some below.now) r
 IsFoundAt Gives folder (Some (Place.AtPath path)) r = ReadsTo Gives path.now None r
 
--- what comes of a name
+-- the possible results of finding the zone of a name
 abbrev pub IsFound : Giving → List ℕ → Option (List ℕ) → List ℕ → Result NamedZone ZoneFault → Type 0
 IsFound Gives folder setting name r =
     (place : Option Place) × IsAsked setting name place × IsFoundAt Gives folder place r
@@ -152,30 +152,30 @@ IsVariableFault fault = (fault ≡ Fault.NotText) ⊎ (fault ≡ Fault.OutOfMemo
 abbrev pub zone_named : Zones → List ℕ → Option NamedZone
 zone_named zones name = get_by_text zones.zones name
 
--- the same name has a zone in both
+-- the name has equal zones in both, or none in both
 abbrev pub SameNamed : Zones → Zones → List ℕ → Type 0
 SameNamed old new name = zone_named new name ≡ zone_named old name
 
--- the name has that zone now, and each other name has what it had
+-- the name has that zone now, and each other name has the zone that it had
 pub record IsInserted (old new : Zones) (name : List ℕ) (zone : NamedZone) : Type 0 where
   pub found : zone_named new name ≡ Some zone
   pub others : (other : List ℕ) → other ≢ name → SameNamed old new other
 
--- what comes of a name in the folder
+-- the possible results of finding the zone of a name in the folder
 abbrev pub IsFoundIn : Giving → List ℕ → List ℕ → Result NamedZone ZoneFault → Type 0
 IsFoundIn Gives folder name r = (place : Option Place) × AsksFor name place × IsFoundAt Gives folder place r
 
--- the name is of no zone: there is a fault, which isn't one of memory
+-- no zone has the name: finding it gives a fault other than one of memory
 abbrev pub IsOfNone : Giving → List ℕ → List ℕ → Type 0
 IsOfNone Gives folder name = (fault : ZoneFault) × (fault ≢ Fault.OutOfMemory) × IsFoundIn Gives folder name (Err fault)
 
--- the name has the zone that is found, or none is and each name has what it had
+-- the name has the zone that is found; or none is found, and each name has the zone that it had
 abbrev pub AddsFound : Giving → List ℕ → List ℕ → Zones → Zones → Type 0
 AddsFound Gives folder name old new =
     ((zone : NamedZone) × IsFoundIn Gives folder name (Ok zone) × IsInserted old new name zone)
     ⊎ (IsOfNone Gives folder name × ((other : List ℕ) → SameNamed old new other))
 
--- UTC and the zones of these names: each was found by its name, and a name without one is of no zone
+-- UTC and the zones of these names: each was found by its name, and a name without one isn't that of a zone
 pub record AreZonesOf (Gives : Giving) (folder : List ℕ) (names : List (List ℕ)) (zones : Zones) : Type 0 where
   pub utc : zone_named zones (codes "UTC") ≡ Some Utc
   pub found : (name : List ℕ) (zone : NamedZone) → zone_named zones name ≡ Some zone

@@ -16,12 +16,13 @@ use Rattle.jiff_tz.specs.declared.posix.TimeZone.{TimeZone as PosixZone}
 use Rattle.jiff_tz.specs.declared.tzif.transition.Transition.{Transition}
 use Rattle.time_zones.specs.declared.spread.Spread.{Spread}
 
--- zones tell of the instant at which a clock with that offset shows the reading, and the zone has the offset then
+-- the instant at which a clock with that offset shows the reading is in the range of zones, and the zone has the offset
+-- then
 pub record HasOffset (zone : TimeZone) (reading s : ℤ) : Type 0 where
   pub told : IsTimestampNanos (reading -ℤ nanos_of_seconds s)
   pub same : Zone.offset_at zone (reading -ℤ nanos_of_seconds s) ≡ s
 
--- both ends are such offsets, and the first moment has the greatest
+-- both ends are offsets at which the zone shows the reading, and the first moment has the greatest
 pub record IsSpread (zone : TimeZone) (reading : ℤ) (w : Spread) : Type 0 where
   pub greatest : HasOffset zone reading w.greatest.seconds
   pub least : HasOffset zone reading w.least.seconds
@@ -32,7 +33,7 @@ abbrev pub Covers : Option Spread → ℤ → Type 0
 Covers None s = ⊥
 Covers (Some w) s = IsBetween w.least.seconds w.greatest.seconds s
 
--- one of the offsets that the kit gives for a date and time
+-- one of the two offsets of a result of the kit
 abbrev pub IsSide : AmbiguousOffset → ℤ → Type 0
 IsSide (Unambiguous offset) s = s ≡ offset.seconds
 IsSide (Gap before after) s = (s ≡ before.seconds) ⊎ (s ≡ after.seconds)

@@ -1,4 +1,5 @@
--- The suffix that RFC 9557, section 4.1, puts behind a time of RFC 3339. Each definition has the rule of its grammar.
+-- The suffix that RFC 9557, section 4.1, appends to a timestamp of RFC 3339. Each definition has the rule of its
+-- grammar.
 use Rattle.std.specs.Prelude.{◌≡◌, ◌≢◌, ◌⊎◌, ℕ, ◌+◌, ◌*◌, ◌/◌, ◌%◌, ◌<◌, ◌≤◌, Bool, true, false, ◌||◌, ◌==◌, IsTrue, List, [], ◌∷◌, ◌++◌, length, take, All, Option, Some, None, if◌then◌else◌, codes, pos, neg_ℤ, option_map, ℤ, MatchBool, MatchOption, Result, Ok, Err}
 use Rattle.std.specs.Char.{is_ascii_alphabetic, is_ascii_alphanumeric, is_ascii_digit, is_ascii_lowercase}
 use Rattle.std.specs.List.{AllPass, slice_split}
@@ -23,7 +24,7 @@ use Rattle.time_zones.specs.declared.zones.Zones.{Zones}
 abbrev pub is_zone_initial : ℕ → Bool
 is_zone_initial b = is_ascii_alphabetic b || b == 46 || b == 95
 
--- time-zone-char: one of these, a digit, a dash or a plus
+-- time-zone-char: a time-zone-initial, a digit, a dash or a plus
 abbrev pub is_zone_char : ℕ → Bool
 is_zone_char b = is_zone_initial b || is_ascii_digit b || b == 45 || b == 43
 
@@ -31,11 +32,11 @@ is_zone_char b = is_zone_initial b || is_ascii_digit b || b == 45 || b == 43
 abbrev pub is_key_initial : ℕ → Bool
 is_key_initial b = is_ascii_lowercase b || b == 95
 
--- key-char: one of these, a digit or a dash
+-- key-char: a key-initial, a digit or a dash
 abbrev pub is_key_char : ℕ → Bool
 is_key_char b = is_key_initial b || is_ascii_digit b || b == 45
 
--- a first byte of the one kind, and then any number of the other
+-- a first byte of one kind, and then any number of bytes of the other kind
 abbrev pub IsWord : (ℕ → Bool) → (ℕ → Bool) → List ℕ → Type 0
 IsWord initial char [] = ⊥
 IsWord initial char (b ∷ rest) = IsTrue (initial b) × AllPass char rest
@@ -52,7 +53,7 @@ IsTimeZoneName name = All IsTimeZonePart (slice_split (λ b. b == 47) name)
 abbrev pub two_digits : ℕ → List ℕ
 two_digits n = (48 + n / 10) ∷ (48 + n % 10) ∷ []
 
--- time-hour ":" time-minute, of so many seconds
+-- time-hour ":" time-minute, with their seconds
 pub record IsHourMinute (text : List ℕ) (seconds : ℕ) : Type 0 where
   pub hour : ℕ
   pub minute : ℕ
@@ -61,7 +62,7 @@ pub record IsHourMinute (text : List ℕ) (seconds : ℕ) : Type 0 where
   pub whole : text ≡ two_digits hour ++ 58 ∷ two_digits minute
   pub are_seconds : seconds ≡ hour * 3600 + minute * 60
 
--- time-numoffset, of that offset: ahead of UTC after a plus, behind it after a minus
+-- time-numoffset, with its offset: ahead of UTC after a plus, behind it after a minus
 pub record IsNumOffset (text : List ℕ) (o : UtcOffset) : Type 0 where
   pub time : List ℕ
   pub seconds : ℕ
@@ -91,7 +92,7 @@ IsSuffixValue value = (value ≢ []) × AllPass is_ascii_alphanumeric value
 abbrev pub AreSuffixValues : List ℕ → Type 0
 AreSuffixValues text = All IsSuffixValue (slice_split (λ b. b == 45) text)
 
--- critical-flag, before what stands in the brackets
+-- critical-flag, before the contents of the brackets
 abbrev pub flagged : Bool → List ℕ → List ℕ
 flagged false text = text
 flagged true text = 33 ∷ text
@@ -134,7 +135,7 @@ abbrev pub tags_text : List Tag → List ℕ
 tags_text [] = []
 tags_text (t ∷ ts) = tag_text t ++ tags_text ts
 
--- suffix, of that zone and these tags
+-- suffix, with that zone and these tags
 pub record IsSuffix (text : List ℕ) (zone : Option ZoneTag) (tags : List Tag) : Type 0 where
   pub front : List ℕ
   pub whole : text ≡ front ++ tags_text tags
@@ -146,12 +147,12 @@ abbrev pub critical_key : List Tag → Option (List ℕ)
 critical_key [] = None
 critical_key (t ∷ ts) = if t.is_critical then Some t.key else critical_key ts
 
--- no front of the text that is a suffix is longer
+-- no longer prefix of the text is a suffix
 abbrev pub IsLongest : List ℕ → ℕ → Type 0
 IsLongest text len = (n : ℕ) (zone : Option ZoneTag) (tags : List Tag) → n ≤ length text
     → IsSuffix (take n text) zone tags → n ≤ len
 
--- what is written of a zone is a suffix of that zone, with no tags
+-- the text that is written of a zone is a suffix of that zone, with no tags
 abbrev pub WrittenIsSuffix : Type 0
 WrittenIsSuffix = (text : List ℕ) (z : Zone) → IsZoneText text z
     → IsSuffix (bracketed false text) (Some (record { is_critical = false; zone = z })) []
@@ -161,21 +162,21 @@ abbrev pub OneSuffix : Type 0
 OneSuffix = (text : List ℕ) (zone zone' : Option ZoneTag) (tags tags' : List Tag) → IsSuffix text zone tags
     → IsSuffix text zone' tags' → (zone ≡ zone') × (tags ≡ tags')
 
--- a name is one of a file in the folder of zones
+-- each zone name that a suffix can have names a file in the folder of zones
 abbrev pub NamesInFolder : Type 0
 NamesInFolder = (name : List ℕ) → IsTimeZoneName name → IsZoneName name
 
--- the one text is a part of the other
+-- the first text is a part of the second
 pub record StandsIn (part bytes : List ℕ) : Type 0 where
   pub before : List ℕ
   pub after : List ℕ
   pub whole : bytes ≡ before ++ (part ++ after)
 
--- a time of RFC 3339 ends with a digit, or with the letter of UTC
+-- a timestamp of RFC 3339 ends with a digit, or with the letter of UTC
 abbrev pub is_time_end : ℕ → Bool
 is_time_end b = is_ascii_digit b || b == 90 || b == 122
 
--- the name of a zone stands in brackets in the text where a time may end
+-- the text has the name of a zone in brackets, at a place at which a timestamp may end
 pub record IsNameIn (text name : List ℕ) : Type 0 where
   pub end : ℕ
   pub is_critical : Bool
@@ -183,7 +184,7 @@ pub record IsNameIn (text name : List ℕ) : Type 0 where
   pub is_name : IsTimeZoneName name
   pub stands : StandsIn (end ∷ bracketed is_critical name) text
 
--- ---- What contracts see of a suffix that was read
+-- ---- Suffixes that were read, as contracts view them
 
 abbrev pub zone_of : ZoneText → Zone
 zone_of (Name name) = named name.now
@@ -195,46 +196,47 @@ zone_tag_of z = record {
   zone = zone_of z.zone;
 }
 
--- the text is a suffix with that zone, and with tags of which that is the first critical key
+-- the text is a suffix with that zone, and with tags whose first critical key is that one
 abbrev pub Says : List ℕ → Suffixed → Type 0
 Says text s = (tags : List Tag) × IsSuffix text (option_map zone_tag_of s.zone) tags
     × (option_map (λ key. key.now) s.critical_key ≡ critical_key tags)
 
--- ---- Which suffixes go with a moment, by RFC 9557, sections 3.3, 3.4 and 4.1.
+-- ---- Which suffixes agree with a moment, by RFC 9557, sections 3.3, 3.4 and 4.1.
 
--- nothing, or why a suffix doesn't go with a moment
+-- nothing, or why a suffix doesn't agree with a moment
 abbrev pub Checked : Type 0
 Checked = Result (Unit {0}) SuffixFault
 
--- a moment has the offset of a zone, both in seconds, or another
+-- nothing if the moment's offset equals the zone's, both in seconds, and else a fault
 abbrev pub compared : ℤ → ℤ → Checked
 compared own zone = if int_eq own zone then Ok tt else Err OtherOffset
 
--- a moment has the offset of a zone with those offsets at each instant, where zones tell of it
+-- compares a moment's offset with that of a zone with those offsets at each instant, if the moment is in the range of
+-- zones
 abbrev pub HasItsOffset : OffsetDateTime → (ℤ → ℤ) → Checked → Type 0
 HasItsOffset m zone result =
     ((¬ (IsTold m)) × (result ≡ Err Untold))
     ⊎ (IsTold m × (result ≡ compared (offset_seconds (offset_of m)) (zone (offset_instant greatest_year m))))
 
--- a moment that tells its offset has that of a named zone
+-- a moment that specifies its offset has that of a named zone
 abbrev pub GoesWithNamed : Bool → OffsetDateTime → NamedZone → Checked → Type 0
 GoesWithNamed tells m zone result = MatchBool tells (HasItsOffset m (offset_in zone) result) (result ≡ Ok tt)
 
--- a moment goes with a zone
+-- a moment agrees with a zone
 abbrev pub GoesWithZone : Zones → Bool → OffsetDateTime → Zone → Checked → Type 0
 GoesWithZone zones tells m (named name) result =
     MatchOption (zone_named zones name) (result ≡ Err UnknownZone) (λ zone. GoesWithNamed tells m zone result)
 GoesWithZone zones tells m (at_offset o) result =
     MatchBool tells (result ≡ compared (offset_seconds (offset_of m)) (offset_seconds o)) (result ≡ Ok tt)
 
--- A moment goes with a suffix that has that zone and that critical key. Whoever doesn't know the key has to refuse it,
--- and none is known here.
+-- A moment agrees with a suffix that has that zone and that critical key. A program that doesn't know the key has to
+-- reject the suffix, and no key is known here.
 abbrev pub GoesWith : Zones → Bool → OffsetDateTime → Option ZoneTag → Option (List ℕ) → Checked → Type 0
 GoesWith zones tells m z (Some key) result = result ≡ Err CriticalKey
 GoesWith zones tells m None None result = result ≡ Ok tt
 GoesWith zones tells m (Some z) None result = GoesWithZone zones tells m z.zone result
 
--- a suffix and a moment have one answer
+-- checking a suffix and a moment has one result
 abbrev pub OneCheck : Type 0
 OneCheck =
     (zones : Zones) (tells : Bool) (m : OffsetDateTime) (zone : Option ZoneTag) (key : Option (List ℕ))

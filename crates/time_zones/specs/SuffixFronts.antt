@@ -1,10 +1,10 @@
 -- No public contract rests on this file.
--- What stands in front of a text: brackets, a zone, a tag.
+-- The parts that a text begins with: brackets, a zone, a tag.
 use Rattle.std.specs.Prelude.{◌≡◌, ◌||◌, ◌==◌, ℕ, Bool, List, ◌∷◌, ◌++◌, All, Option, Some}
 use Rattle.std.specs.List.{AllPass}
 use Rattle.time_zones.specs.Suffix.{is_zone_char, IsSuffixKey, AreSuffixValues, bracketed, ZoneTag, Tag, IsZoneTagIfAny, tag_text, IsSuffixTag, tags_text}
 
--- the bytes of what stands in brackets
+-- the bytes that brackets may contain
 abbrev pub is_held : ℕ → Bool
 is_held b = is_zone_char b || b == 47 || b == 58 || b == 61
 
@@ -14,12 +14,12 @@ pub record IsKeyed (text key values : List ℕ) : Type 0 where
   pub is_key : IsSuffixKey key
   pub are_values : AreSuffixValues values
 
--- such brackets stand in front of the text, and so much is left
+-- the text begins with these brackets, followed by the rest
 pub record BeginsBracketed (text : List ℕ) (is_critical : Bool) (inside rest : List ℕ) : Type 0 where
   pub whole : text ≡ bracketed is_critical inside ++ rest
   pub are_held : AllPass is_held inside
 
--- a zone or none stands in front of the text, and so much is left
+-- the text begins with a zone or none, followed by the rest
 pub record BeginsWithZone (text : List ℕ) (zone : Option ZoneTag) (rest : List ℕ) : Type 0 where
   pub front : List ℕ
   pub whole : text ≡ front ++ rest
@@ -28,7 +28,7 @@ pub record BeginsWithZone (text : List ℕ) (zone : Option ZoneTag) (rest : List
 abbrev pub HasNoZone : List ℕ → Type 0
 HasNoZone text = (z : ZoneTag) (rest : List ℕ) → BeginsWithZone text (Some z) rest → ⊥
 
--- a tag
+-- the text begins with a tag, followed by the rest
 pub record BeginsWithTag (text : List ℕ) (t : Tag) (rest : List ℕ) : Type 0 where
   pub whole : text ≡ tag_text t ++ rest
   pub is_tag : IsSuffixTag t
@@ -36,7 +36,7 @@ pub record BeginsWithTag (text : List ℕ) (t : Tag) (rest : List ℕ) : Type 0 
 abbrev pub HasNoTag : List ℕ → Type 0
 HasNoTag text = (t : Tag) (rest : List ℕ) → BeginsWithTag text t rest → ⊥
 
--- tags, and no further one
+-- the text begins with these tags, and the rest with no further one
 pub record BeginsWithTags (text : List ℕ) (tags : List Tag) (rest : List ℕ) : Type 0 where
   pub whole : text ≡ tags_text tags ++ rest
   pub are_tags : All IsSuffixTag tags

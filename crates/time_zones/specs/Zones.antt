@@ -1,5 +1,5 @@
--- What the clocks of time zones show, over the kit's words. Zones tell of the instants of `IsTimestampNanos`, from
--- -9999-01-02T01:59:59Z to 9999-12-30T22:00:00.999999999Z.
+-- The local times of time zones, in terms of the kit's definitions. The range of zones are the instants of
+-- `IsTimestampNanos`, from -9999-01-02T01:59:59Z to 9999-12-30T22:00:00.999999999Z.
 use Rattle.std.specs.Prelude.{◌≡◌, ◌⊎◌, ℤ, ◌+ℤ◌, ◌-ℤ◌, ◌<ℤ◌, None, Result, Ok, Err, ℕ, List, ◌++◌, Option, Some, codes, string_bytes}
 use Rattle.jiff_core.specs.Calendar.{IsBetween}
 use Rattle.jiff_core.specs.Timestamp.{IsTimestampNanos, IsOffsetSeconds, nanos_of_seconds}
@@ -19,7 +19,7 @@ use Rattle.time_zones.specs.declared.checking.SuffixFault.TheVariants as Suffix
 use Rattle.time_zones.specs.declared.zone_fault.ZoneFault.{ZoneFault}
 use Rattle.time_zones.specs.declared.zone_fault.ZoneFault.TheVariants as Fault
 
--- zones tell what their clocks show at the moment
+-- the moment is in the range of zones
 abbrev pub IsTold : OffsetDateTime → Type 0
 IsTold m = IsTimestampNanos (offset_instant greatest_year m)
 
@@ -31,7 +31,7 @@ HasZoneOffset zone m = offset_seconds (offset_of m) ≡ Zone.offset_at zone (off
 abbrev pub Shows : TimeZone → ℤ → ℤ → Type 0
 Shows zone reading n = IsTimestampNanos n × (n +ℤ nanos_of_seconds (Zone.offset_at zone n) ≡ reading)
 
--- a moment with that date and time, at an offset of so many seconds
+-- a moment with that date and time, at an offset of s seconds
 pub record HasClock (clock : PlainDateTime) (s : ℤ) (m : OffsetDateTime) : Type 0 where
   pub date : offset_date m ≡ plain_date clock
   pub time : offset_time m ≡ plain_time clock
@@ -47,7 +47,7 @@ IsShownIn zone clock m =
 abbrev pub AtEach : TimeZone → PlainDateTime → (ℤ → Type 0) → Type 0
 AtEach zone clock P = (n : ℤ) → Shows zone (plain_instant greatest_year clock) n → P n
 
--- whatever the offset of the clock that shows it, zones tell of the moment
+-- the moment of the date and time is in the range of zones at every offset
 abbrev pub IsToldAtEachOffset : PlainDateTime → Type 0
 IsToldAtEachOffset clock =
     (s : ℤ) → IsOffsetSeconds s → IsTimestampNanos (plain_instant greatest_year clock -ℤ nanos_of_seconds s)
@@ -67,7 +67,7 @@ AreFirstAndLast zone clock first last =
     × (offset_instant greatest_year first <ℤ offset_instant greatest_year last)
     × AtEach zone clock (IsBetween (offset_instant greatest_year first) (offset_instant greatest_year last))
 
--- why a date and time isn't one moment of the zone
+-- why a date and time isn't exactly one moment in the zone
 abbrev pub IsNotOne : TimeZone → PlainDateTime → NotOne → Type 0
 IsNotOne zone clock Gap = IsNeverShown zone clock × IsToldAtEachOffset clock
 IsNotOne zone clock (Fold earlier later) = AreFirstAndLast zone clock earlier later
@@ -88,12 +88,12 @@ HasNoThird zone clock (Fold earlier later) =
     AtEach zone clock (λ n. (n ≡ offset_instant greatest_year earlier) ⊎ (n ≡ offset_instant greatest_year later))
 HasNoThird zone clock Untold = Unit {0}
 
--- what is answered of a date and time
+-- the result for a date and time
 abbrev pub IsAnswer : TimeZone → PlainDateTime → Result OffsetDateTime NotOne → Type 0
 IsAnswer zone clock (Ok m) = IsOnlyMoment zone clock m
 IsAnswer zone clock (Err why) = IsNotOne zone clock why
 
--- the answer is the moment, or a fold around it
+-- the result is the moment, or a fold around it
 abbrev pub GivesBack : OffsetDateTime → Result OffsetDateTime NotOne → Type 0
 GivesBack m (Ok back) = offset_instant greatest_year back ≡ offset_instant greatest_year m
 GivesBack m (Err Gap) = ⊥
@@ -102,22 +102,22 @@ GivesBack m (Err (Fold earlier later)) =
     (offset_instant greatest_year m)
 GivesBack m (Err Untold) = ⊥
 
--- ---- What refusals print
+-- ---- Printed messages of errors
 
--- of a date and time that isn't one moment
+-- the message for a date and time that isn't one moment
 abbrev pub not_one_text : NotOne → List ℕ
 not_one_text Gap = codes "clocks of the time zone leave out this date and time"
 not_one_text (Fold earlier later) = codes "clocks of the time zone show this date and time more than once"
 not_one_text Untold = codes "no time zone tells of this date and time"
 
--- of a suffix that doesn't go with its moment
+-- the message for a suffix that doesn't agree with its moment
 abbrev pub suffix_fault_text : SuffixFault → List ℕ
 suffix_fault_text Suffix.CriticalKey = codes "a key of its suffix is critical, and not known"
 suffix_fault_text Suffix.UnknownZone = codes "there is no time zone of the name in its suffix"
 suffix_fault_text Suffix.OtherOffset = codes "the time zone in its suffix has another offset then"
 suffix_fault_text Suffix.Untold = codes "no time zone tells of that time"
 
--- of a zone that wasn't found; the reason of an unreadable or a malformed file is the kit's
+-- the message for a zone that wasn't found; the reason of an unreadable or a malformed file is the kit's
 abbrev pub fault_text : ZoneFault → Option (List ℕ)
 fault_text Fault.NotAName = Some (codes "the name of a time zone has no `.` or `..` and no slash at an end")
 fault_text Fault.NotText = Some (codes "the variable of the time zone is not UTF-8")

@@ -1,4 +1,4 @@
-//! Whether a suffix goes with the moment that it stands behind.
+//! Checks whether a suffix agrees with the moment in front of it.
 ghost use Rattle.std.specs.Prelude.{◌≡◌, option_map};
 ghost use Rattle.time_values.specs.Moments.{offset_of};
 ghost use Rattle.time_values.specs.Offsets.{offset_seconds};
@@ -12,16 +12,16 @@ use jiff_tz::TimeZone;
 use std::fmt;
 use time_values::{OffsetDateTime, UtcOffset};
 
-/// Why a suffix refuses the moment that it stands behind.
+/// Why a suffix doesn't agree with the moment in front of it.
 #[derive(Clone, Copy, Debug, PartialEq, Eq)]
 pub enum SuffixFault {
-    /// One of its tags is critical, and no key is known.
+    /// One of its tags is critical, and this crate knows no keys.
     CriticalKey,
-    /// There is no zone of its name.
+    /// No zone has its name.
     UnknownZone,
-    /// The moment has another offset than its zone.
+    /// The moment's offset differs from the zone's.
     OtherOffset,
-    /// No zone tells of the moment: it lies before the year -9999 or after 9999, or within a day of either end.
+    /// The moment is outside the range of zones: before the year -9999 or after 9999, or within a day of either end.
     Untold,
 }
 
@@ -43,7 +43,7 @@ impl fmt::Display for SuffixFault {
 
 impl std::error::Error for SuffixFault {}
 
-// Whether the moment has that offset.
+// Checks that the moment has that offset.
 fn check_fixed(moment: OffsetDateTime, offset: UtcOffset) -> Result<(), SuffixFault>
     ensures { result ≡ compared (offset_seconds (offset_of moment)) (offset_seconds offset) }
 {
@@ -53,7 +53,7 @@ fn check_fixed(moment: OffsetDateTime, offset: UtcOffset) -> Result<(), SuffixFa
     Err(SuffixFault::OtherOffset)
 }
 
-// Whether the moment has the offset of the zone.
+// Checks that the moment has the offset of the zone.
 fn check_zone(moment: OffsetDateTime, zone: &TimeZone<'_>) -> Result<(), SuffixFault>
     ensures { HasItsOffset moment (Zone.offset_at zone.now) result }
 {
@@ -64,7 +64,7 @@ fn check_zone(moment: OffsetDateTime, zone: &TimeZone<'_>) -> Result<(), SuffixF
     }
 }
 
-// Whether the moment goes with the zone of a suffix.
+// Checks that the moment agrees with the zone of a suffix.
 fn check_told(
     zone: ZoneText<'_>,
     moment: OffsetDateTime,
@@ -84,9 +84,9 @@ fn check_told(
     }
 }
 
-/// Whether the suffix goes with the moment, by RFC 9557, sections 3.3, 3.4 and 4.1: none of its keys is critical, since none is known,
-/// its zone is one of these, and the moment has the zone's offset. `Z` and `-00:00` say nothing of a zone's offset: behind
-/// them `tells_offset` is false, and a zone of any offset goes with the moment.
+/// Checks that the suffix agrees with the moment, by RFC 9557, sections 3.3, 3.4 and 4.1: none of its keys is critical,
+/// since none is known, `zones` has its zone, and the moment has the zone's offset. `Z` and `-00:00` specify no offset
+/// of a zone: for them `tells_offset` is false, and a zone of any offset agrees with the moment.
 pub fn check_suffix(
     suffix: &Suffixed<'_>,
     moment: OffsetDateTime,

@@ -1,6 +1,6 @@
-//! Moments on the clocks of a zone.
+//! Moments in the local time of a zone.
 //!
-//! `fast` finds the offset of most moments in the rows of a table, and is asked first.
+//! The calls try `fast` first, which finds the offset of most moments in the rows of a table.
 ghost use Rattle.std.specs.Prelude.{◌≡◌, ◌↔◌, ℤ, ◌-ℤ◌, IsTrue, IsSome, IfSome, IfNone, IfOk, IfErr};
 ghost use Rattle.jiff_core.specs.DateTime.{civil_nanos, IsCivilNanos};
 ghost use Rattle.jiff_core.specs.Timestamp.{IsTimestampNanos, IsOffsetSeconds, nanos_of_seconds};
@@ -19,7 +19,7 @@ use jiff_tz::TimeZone;
 use std::fmt;
 use time_values::{OffsetDateTime, PlainDateTime, UtcOffset};
 
-// An offset of a zone as one of ours.
+// Converts an offset of the kit's zone to a `UtcOffset`.
 fn offset_from(offset: Offset) -> UtcOffset
     ensures { offset_seconds result ≡ offset.seconds }
 {
@@ -30,7 +30,7 @@ fn offset_from(offset: Offset) -> UtcOffset
 }
 
 /// The offset of the zone at the moment. `None` before the year -9999 and after 9999, and within a day of either end,
-/// where no zone has one.
+/// for which no zone has an offset.
 pub fn offset_at(zone: &TimeZone<'_>, moment: OffsetDateTime) -> Option<UtcOffset>
     ensures told { IsSome result ↔ IsTold moment }
     ensures value { IfSome result (λ o. offset_seconds o ≡ Zone.offset_at zone.now (offset_instant greatest_year moment)) }
@@ -45,7 +45,7 @@ pub fn offset_at(zone: &TimeZone<'_>, moment: OffsetDateTime) -> Option<UtcOffse
     Some(offset_from(zone.to_offset(stamp)))
 }
 
-/// The same moment at the offset of the zone. `None` where [`offset_at`] is.
+/// The moment at the offset of the zone. `None` if [`offset_at`] returns `None`.
 pub fn checked_to_zone(moment: OffsetDateTime, zone: &TimeZone<'_>) -> Option<OffsetDateTime>
     ensures told { IsSome result ↔ IsTold moment }
     ensures instant { IfSome result (λ v. offset_instant greatest_year v ≡ offset_instant greatest_year moment) }
@@ -55,7 +55,7 @@ pub fn checked_to_zone(moment: OffsetDateTime, zone: &TimeZone<'_>) -> Option<Of
     Some(moment.to_offset(offset))
 }
 
-/// Whether the offsets are the same.
+/// Whether the offsets are equal.
 pub(crate) fn is_same(a: UtcOffset, b: UtcOffset) -> bool
     ensures { IsTrue result ↔ (offset_seconds a ≡ offset_seconds b) }
 {
@@ -63,7 +63,8 @@ pub(crate) fn is_same(a: UtcOffset, b: UtcOffset) -> bool
 }
 
 /// Whether the moment has the offset of the zone, as the one of `2026-11-27T15:00:00+01:00[Europe/Berlin]` does. `None`
-/// where [`offset_at`] is. An offset of whole minutes is no offset that has seconds, as many had before 1920.
+/// if [`offset_at`] returns `None`. An offset of whole minutes doesn't equal an offset with seconds, as many zones had
+/// before 1920.
 pub fn has_zone_offset(moment: OffsetDateTime, zone: &TimeZone<'_>) -> Option<bool>
     ensures told { IsSome result ↔ IsTold moment }
     ensures value { IfSome result (λ same. IsTrue same ↔ HasZoneOffset zone.now moment) }
@@ -72,20 +73,20 @@ pub fn has_zone_offset(moment: OffsetDateTime, zone: &TimeZone<'_>) -> Option<bo
     Some(is_same(moment.offset(), shown))
 }
 
-/// Why a date and time isn't one moment on the clocks of a zone.
+/// Why a local date and time isn't exactly one moment in a zone.
 #[derive(Clone, Copy, Debug, PartialEq, Eq)]
 pub enum NotOne {
-    /// The clocks leave it out.
+    /// The local time is nonexistent: the clocks skip it.
     Gap,
-    /// The clocks show it more than once.
+    /// The local time is ambiguous: it occurs more than once.
     Fold {
         /// The first moment.
         earlier: OffsetDateTime,
-        /// The last one.
+        /// The last moment.
         later: OffsetDateTime,
     },
-    /// The clocks show it at no moment of which zones tell, and it lies past the years -9999 to 9999 or within two days
-    /// of their ends.
+    /// The local time occurs at no moment in the range of zones, and is outside the years -9999 to 9999 or within two
+    /// days of their ends.
     Untold,
 }
 
@@ -106,14 +107,14 @@ impl fmt::Display for NotOne {
 
 impl std::error::Error for NotOne {}
 
-// Whether zones tell of the moment at which a clock shows the date and time, whatever the clock's offset.
+// Whether the moment of the date and time is in the range of zones at every offset.
 fn is_told_at_each_offset(civil: DateTime) -> bool
     ensures { IsTrue result ↔ ((s : ℤ) → IsOffsetSeconds s → IsTimestampNanos (civil_nanos civil -ℤ nanos_of_seconds s)) }
 {
     Offset::MIN.to_timestamp(civil).is_ok() && Offset::MAX.to_timestamp(civil).is_ok()
 }
 
-// The date and time as the kit's, in the years of which zones tell.
+// Converts the date and time to the kit's type. `None` for years outside the range of zones.
 fn civil_from(clock: PlainDateTime) -> Option<DateTime>
     ensures value { IfSome result (λ civil. civil_nanos civil ≡ plain_instant greatest_year clock) }
     ensures none { IfNone result (¬ (IsCivilNanos (plain_instant greatest_year clock))) }
@@ -129,8 +130,8 @@ fn moment_with(clock: PlainDateTime, offset: Offset) -> OffsetDateTime
     clock.assume_offset(offset_from(offset))
 }
 
-// The moment at which clocks of the zone show the date and time, by each offset that they can have then. It isn't inlined, so
-// that it takes no place beside `fast`.
+// The moment of the date and time in the zone, by each offset that the zone can have then. Not inlined, so that it
+// needs no stack space beside `fast`.
 #[inline(never)]
 fn assume_by_offsets(clock: PlainDateTime, zone: &TimeZone<'_>) -> Result<OffsetDateTime, NotOne>
     ensures ok { IfOk result (IsOnlyMoment zone.now clock) }
@@ -154,13 +155,14 @@ fn assume_by_offsets(clock: PlainDateTime, zone: &TimeZone<'_>) -> Result<Offset
     Ok(earlier)
 }
 
-/// The moment at which clocks of the zone show the date and time.
+/// The moment of the local date and time in the zone.
 #[inline(always)]
 pub fn assume_zone(clock: PlainDateTime, zone: &TimeZone<'_>) -> Result<OffsetDateTime, NotOne>
     ensures ok { IfOk result (IsOnlyMoment zone.now clock) }
     ensures err { IfErr result (IsNotOne zone.now clock) }
 
-    // Where clocks go back by the last row of a table and again by its rule within hours, there may be more than two.
+    // If clocks go back by the last row of a table and again by its rule within hours, there may be more than two
+    // moments.
     ensures two { HasOneSource zone.now → IfErr result (HasNoThird zone.now clock) }
 {
     match fast::only_moment(clock, zone) {

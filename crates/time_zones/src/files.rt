@@ -1,4 +1,4 @@
-//! What reads the files of zones.
+//! Reads the files of zones.
 ghost use Rattle.std.specs.Prelude.{ℕ, List, Result, Ok, Err, IfOk, IfErr};
 ghost use Rattle.time_zones.specs.declared.files.ReadFault.{ReadFault as Fault};
 
@@ -12,19 +12,19 @@ const MOST_BYTES: u64 = 1 << 20;
 /// Why a file wasn't read.
 #[derive(Clone, Copy, Debug, PartialEq, Eq)]
 pub enum ReadFault {
-    /// There is none.
+    /// There is no such file.
     Missing,
-    /// It is a folder.
+    /// The path is a folder.
     Folder,
-    /// It can't be read.
+    /// The file can't be read.
     Unreadable(ErrorKind),
     /// Memory ran out.
     OutOfMemory,
 }
 
-/// What reads files by their paths.
+/// Reads files by their paths.
 pub trait ZoneFiles {
-    // What reading the file at a path may give.
+    // The possible results of reading the file at a path.
     ghost gives: { Self → List ℕ → Result (List ℕ) Fault → Type 0 };
 
     /// The bytes of the file at the path.
@@ -39,7 +39,7 @@ pub(crate) struct Disk<'a, R> {
     pub(crate) rt: &'a R,
 }
 
-// An error of the system as one of a file.
+// Converts an error of the system to one of a file.
 fn fault_from(error: io::Error) -> ReadFault {
     match error.kind() {
         ErrorKind::NotFound => ReadFault::Missing,
@@ -48,7 +48,7 @@ fn fault_from(error: io::Error) -> ReadFault {
     }
 }
 
-// The bytes of a regular file. A pipe or a device might never end.
+// The bytes of a regular file. Reading stops at the limit, since a pipe or a device might never end.
 fn read_whole<R: Files + AllocGlobal>(rt: &R, path: &str) -> io::Result<Vec<u8>> {
     let mut bytes = Vec::new(rt.alloc());
     let mut file = fs::open(rt, path)?.take(MOST_BYTES + 1);
@@ -59,7 +59,7 @@ fn read_whole<R: Files + AllocGlobal>(rt: &R, path: &str) -> io::Result<Vec<u8>>
     Ok(bytes)
 }
 
-// Nothing is known beforehand of what files hold.
+// The contents of files are unknown beforehand.
 impl<R: Files + AllocGlobal> ZoneFiles for Disk<'_, R> {
     ghost gives = { λ _ _ _. Unit {0} };
 

@@ -1,4 +1,4 @@
-//! Zones by their names, each from its own file.
+//! Finds zones by their names, each in its own file.
 ghost use Rattle.std.specs.Prelude.{◌≡◌, ◌≢◌, ◌↔◌, Ok, Err, Some, None, option_map, string_bytes, codes, IfOk, IfErr, ◌++◌, ◌∷◌};
 ghost use Rattle.time_zones.specs.Finding.{IsZoneOf, ReadsTo, IsFoundAt, IsFound, IsVariableFault, name_of, IsZoneName};
 
@@ -11,10 +11,10 @@ use std::alloc::{AllocError, Global};
 use std::env;
 use std::rt::{Env, Files};
 
-// Where systems keep their zones.
+// The folder of zones on most systems.
 const FOLDER: &str = "/usr/share/zoneinfo";
 
-/// A zone with what it is read from.
+/// A zone with the data that it was read from.
 #[derive(Debug, Drop)]
 pub enum NamedZone {
     /// UTC.
@@ -26,7 +26,7 @@ pub enum NamedZone {
 }
 
 impl NamedZone {
-    /// The zone, for the calls of this crate and of the kit.
+    /// The zone, as this crate's functions and the kit's take it.
     pub fn time_zone(&self) -> TimeZone<'_>
         ensures { IsZoneOf self.now result }
     {
@@ -37,7 +37,7 @@ impl NamedZone {
         }
     }
 
-    /// Its name, if it is UTC or was found by its name in a folder of zones.
+    /// The zone's name, if it is UTC or was found by its name in a folder of zones.
     pub fn name(&self) -> Option<&str>
         ensures { option_map (λ name. name.now) result ≡ name_of self.now }
     {
@@ -49,7 +49,7 @@ impl NamedZone {
     }
 }
 
-// The zone of the file at the path.
+// Reads the zone of the file at the path.
 fn table_at<F: ZoneFiles>(
     alloc: Global,
     files: &F,
@@ -82,7 +82,7 @@ fn path_below(alloc: Global, folder: &str, name: &str) -> Result<String, AllocEr
     Ok(path)
 }
 
-/// The zone of what is asked for.
+/// Finds the zone at a place.
 pub(crate) fn find_at<F: ZoneFiles>(
     alloc: Global,
     files: &F,
@@ -110,8 +110,8 @@ pub(crate) fn find_at<F: ZoneFiles>(
     }
 }
 
-/// The zone of that name in a folder of zone files, `UTC`, or `local`: what the given value of `TZ` asks for, and
-/// /etc/localtime where there is none. One file at most is read.
+/// The zone of that name in a folder of zone files, `UTC`, or `local`: the zone that the given value of `TZ` specifies,
+/// or /etc/localtime without one. Reads at most one file.
 pub fn find_zone_in<F: ZoneFiles>(
     alloc: Global,
     files: &F,
@@ -124,7 +124,7 @@ pub fn find_zone_in<F: ZoneFiles>(
     find_at(alloc, files, folder, asked(setting, name))
 }
 
-// The value of a variable, where it has one.
+// The value of a variable, if it is set.
 fn variable<R: Env + AllocGlobal>(rt: &R, name: &str) -> Result<Option<String>, ZoneFault>
     ensures { IfErr result IsVariableFault }
 {
@@ -136,7 +136,7 @@ fn variable<R: Env + AllocGlobal>(rt: &R, name: &str) -> Result<Option<String>, 
     }
 }
 
-// What `TZ` says, where the name asks for it.
+// The value of `TZ`, if the name is `local`.
 fn setting_for<R: Env + AllocGlobal>(rt: &R, name: &str) -> Result<Option<String>, ZoneFault>
     ensures { name.now ≢ codes "local" → result ≡ Ok None }
 {
@@ -157,7 +157,7 @@ pub(crate) fn folder<R: Env + AllocGlobal>(rt: &R) -> Result<String, ZoneFault>
     }
 }
 
-// The zone of what is asked for, in the system's files.
+// Finds the zone at a place in the system's files.
 fn find_on_disk<R: Env + Files + AllocGlobal>(
     rt: &R,
     place: Option<Place<'_>>,
@@ -173,8 +173,8 @@ fn find_on_disk<R: Env + Files + AllocGlobal>(
 }
 
 /// The zone of that name, from one file: an IANA name such as `Europe/Berlin` in the folder that `TZDIR` names, or else
-/// in /usr/share/zoneinfo; `UTC`; or `local`, which is what `TZ` asks for, or else /etc/localtime. `TZ` holds a name, a
-/// path, with or without a colon before either, or a rule such as `CET-1CEST,M3.5.0,M10.5.0/3`.
+/// in /usr/share/zoneinfo; `UTC`; or `local`, which is the zone that `TZ` specifies, or else /etc/localtime. `TZ` holds
+/// a name, a path, with or without a colon before either, or a rule such as `CET-1CEST,M3.5.0,M10.5.0/3`.
 pub fn find_zone<R: Env + Files + AllocGlobal>(rt: &R, name: &str) -> Result<NamedZone, ZoneFault>
     ensures utc { name.now ≡ codes "UTC" → result ≡ Ok NamedZone.Utc }
     ensures refused { name.now ≢ codes "local" → ((result ≡ Err ZoneFault.NotAName)

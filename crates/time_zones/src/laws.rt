@@ -1,4 +1,4 @@
-//! Laws of the clocks of zones: each contract is a law of what the function hands out.
+//! Laws of the local times of zones. Each contract is a law of what the function returns.
 ghost use Rattle.std.specs.Prelude.{◌≡◌, ◌↔◌, Some, IsSome, IfSome, Result};
 ghost use Rattle.time_zones.specs.Suffix.{OneCheck, OneSuffix, NamesInFolder, WrittenIsSuffix};
 ghost use Rattle.time_zones.specs.Zones.{IsTold, HasZoneOffset, IsAnswer, GivesBack};
@@ -9,7 +9,7 @@ use crate::clocks::{NotOne, assume_zone, checked_to_zone};
 use jiff_tz::TimeZone;
 use time_values::{OffsetDateTime, PlainDateTime};
 
-/// What clocks of a zone show at a moment is read back as the moment, or as a fold around it.
+/// The local time of a moment in a zone resolves to the moment again, or to a fold around it.
 pub fn law_read_back(
     moment: OffsetDateTime,
     zone: &TimeZone<'_>,
@@ -21,14 +21,14 @@ pub fn law_read_back(
     Some(assume_zone(PlainDateTime::new(shown.date(), shown.time()), zone))
 }
 
-/// A moment at the offset of a zone's clocks is left as it is.
+/// Converting a moment that has the zone's offset to the zone leaves it unchanged.
 pub fn law_left_as_it_is(moment: OffsetDateTime, zone: &TimeZone<'_>) -> Option<OffsetDateTime>
     ensures { IsTold moment → HasZoneOffset zone.now moment → result ≡ Some moment }
 {
     checked_to_zone(moment, zone)
 }
 
-/// A date and time has one answer.
+/// A date and time resolves to one result in a zone.
 pub fn law_one_answer(clock: PlainDateTime, zone: &TimeZone<'_>) -> Result<OffsetDateTime, NotOne>
     ensures { (other : Result Moment NotOne_) → IsAnswer zone.now clock other → other ≡ result }
 {
@@ -40,19 +40,19 @@ pub fn law_one_suffix()
     ensures { OneSuffix }
 {}
 
-/// What `write_suffix` writes of a zone is a suffix of that zone, with no tags.
+/// The text that `write_suffix` writes of a zone is a suffix of that zone, with no tags.
 #[tactic(auto, using(crate::proofs::NameLemmas::written_is_suffix))]
 pub fn law_written_suffix()
     ensures { WrittenIsSuffix }
 {}
 
-/// The name of a zone in a suffix is that of a file in the folder of zones.
+/// Each zone name that a suffix can have names a file in the folder of zones.
 #[tactic(auto, using(crate::proofs::NameLemmas::names_in_folder))]
 pub fn law_names_in_folder()
     ensures { NamesInFolder }
 {}
 
-/// A suffix goes with a moment or is refused for one reason, by what both say and the zones.
+/// A suffix agrees with a moment or is rejected for one reason, which depends on the suffix, the moment and the zones.
 #[tactic(auto, using(crate::proofs::FolderLemmas::one_check))]
 pub fn law_one_check()
     ensures { OneCheck }

@@ -1,4 +1,4 @@
-//! Moments on the clocks of named time zones, and the suffixes of times that name one.
+//! Moments in the local time of named time zones, and the suffixes of timestamps that name one.
 #![tactic(auto)]
 
 mod checking;

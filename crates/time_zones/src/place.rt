@@ -1,15 +1,15 @@
-//! What the name of a zone asks for, and what the variable `TZ` does.
+//! Finds the place of a zone from its name and from the variable `TZ`.
 ghost use Rattle.std.specs.Prelude.{◌≡◌, ◌↔◌, IsTrue, option_map};
 ghost use Rattle.time_zones.specs.Finding.{IsPart, IsZoneName, AsksFor, AsksForPath, AsksBySetting, IsAsked};
 
 use jiff_tz::posix;
 
-/// What is asked for.
+/// The place of a zone.
 #[derive(Clone, Copy)]
 pub(crate) enum Place<'a> {
     /// UTC, which needs no file.
     Utc,
-    /// A rule, which needs none either.
+    /// A rule, which needs no file either.
     Rule(posix::TimeZone),
     /// The file of that name in the folder of zones.
     InFolder(&'a str),
@@ -38,7 +38,7 @@ fn is_zone_name(name: &str) -> bool
     is_part(rest)
 }
 
-/// What a name asks for.
+/// The place that a name specifies. `None` if it would leave the folder of zones.
 pub(crate) fn named(name: &str) -> Option<Place<'_>>
     ensures { AsksFor name.now result }
 {
@@ -51,7 +51,7 @@ pub(crate) fn named(name: &str) -> Option<Place<'_>>
     Some(Place::InFolder(name))
 }
 
-// What a path or a name asks for.
+// The place that a path or a name specifies.
 fn at_path(text: &str) -> Option<Place<'_>>
     ensures { AsksForPath text.now result }
 {
@@ -61,7 +61,7 @@ fn at_path(text: &str) -> Option<Place<'_>>
     }
 }
 
-// What a value of `TZ` asks for.
+// The place that a value of `TZ` specifies.
 fn by_setting(setting: &str) -> Option<Place<'_>>
     ensures { AsksBySetting setting.now result }
 {
@@ -77,7 +77,7 @@ fn by_setting(setting: &str) -> Option<Place<'_>>
     }
 }
 
-/// What a name asks for, `local` among them, which is what `TZ` says where it is set.
+/// The place that a name specifies. `local` is the place that `TZ` specifies, or /etc/localtime if `TZ` isn't set.
 pub(crate) fn asked<'a>(setting: Option<&'a str>, name: &'a str) -> Option<Place<'a>>
     ensures { IsAsked (option_map (λ s. s.now) setting.entry) name.now result }
 {

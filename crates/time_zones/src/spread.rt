@@ -1,4 +1,4 @@
-//! The offsets at which clocks of a zone show a date and time.
+//! The offsets at which a local date and time occurs in a zone.
 ghost use Rattle.std.specs.Prelude.{◌≡◌, ◌↔◌, ◌⊎◌, ℤ, IsTrue, IfSome, option_map};
 ghost use Rattle.std.specs.Option.{ForSome};
 ghost use Rattle.jiff_core.specs.DateTime.{civil_nanos};
@@ -17,7 +17,7 @@ pub(crate) struct Spread {
     pub(crate) least: Offset,
 }
 
-// The offsets that the kit gives for a date and time.
+// The two offsets of a result of the kit.
 fn sides(offsets: AmbiguousOffset) -> (Offset, Offset)
     ensures { (s : ℤ) → IsSide offsets s → (s ≡ result.0.seconds) ⊎ (s ≡ result.1.seconds) }
 {
@@ -39,7 +39,7 @@ fn rule_of(zone: &TimeZone<'_>) -> Option<posix::TimeZone>
     }
 }
 
-// Whether the zone has the offset where a clock with it shows the date and time.
+// Whether the zone has the offset at the moment at which a clock with it shows the date and time.
 fn has_offset(zone: &TimeZone<'_>, civil: DateTime, offset: Offset) -> bool
     ensures { IsTrue result ↔ HasOffset zone.now (civil_nanos civil) offset.seconds }
 {
@@ -60,7 +60,7 @@ fn covers(spread: Option<Spread>, offset: Offset) -> bool
     }
 }
 
-// The spread with the offset, where the zone has it then. One that lies in it needs no look-up.
+// The spread extended by the offset, if the zone has it at the date and time. An offset in the spread needs no look-up.
 fn widened(
     spread: Option<Spread>,
     zone: &TimeZone<'_>,
@@ -99,7 +99,7 @@ fn widened(
     spread
 }
 
-/// The offsets at which clocks of the zone show the date and time.
+/// The offsets at which the date and time occurs in the zone.
 pub(crate) fn spread_at(zone: &TimeZone<'_>, civil: DateTime) -> Option<Spread>
     ensures ends { IfSome result (IsSpread zone.now (civil_nanos civil)) }
     ensures each { (s : ℤ) → HasOffset zone.now (civil_nanos civil) s → Covers result s }

@@ -1,4 +1,4 @@
-//! The suffix that RFC 9557, section 4.1, puts behind a time of RFC 3339.
+//! Parses the suffix that RFC 9557, section 4.1, appends to a timestamp of RFC 3339.
 ghost use Rattle.std.specs.Prelude.{◌≡◌, ◌≢◌, ◌<◌, ◌≤◌, ℕ, Bool, false, List, [], ◌∷◌, Some, length, take, option_map, IfSome, IfNone};
 ghost use Rattle.std.specs.List.{prefix_len};
 ghost use Rattle.time_zones.specs.Suffix as suffix;
@@ -12,7 +12,7 @@ pub use texts::write_suffix;
 use texts::{after, is_zone_char, is_zone_name, key_of, offset_of};
 use time_values::UtcOffset;
 
-/// How a suffix tells the zone.
+/// How a suffix specifies the zone.
 #[derive(Clone, Copy, Debug, PartialEq, Eq)]
 pub enum ZoneText<'a> {
     /// By a name, which is ASCII.
@@ -21,7 +21,7 @@ pub enum ZoneText<'a> {
     Offset(UtcOffset),
 }
 
-// The zone that the text tells.
+// The zone that the text specifies.
 fn zone_of(text: &[u8]) -> Option<ZoneText<'_>>
     ensures some { IfSome result (λ z. IsZoneText text.now (zone_of z)) }
     ensures none { IfNone result ((z : Zone) → IsZoneText text.now z → ⊥) }
@@ -35,14 +35,14 @@ fn zone_of(text: &[u8]) -> Option<ZoneText<'_>>
     }
 }
 
-// Whether the byte may stand in brackets, after a flag.
+// Whether the byte may be inside brackets, after a flag.
 fn is_held(byte: u8) -> bool
     ensures { result ≡ fronts.is_held byte }
 {
     is_zone_char(byte) || matches!(byte, b'/' | b':' | b'=')
 }
 
-// How many such bytes stand in front of the text.
+// The number of such bytes at the start of the text.
 fn held_len(text: &[u8]) -> usize
     ensures count { result ≡ prefix_len fronts.is_held text.now }
     ensures within { result ≤ length text.now }
@@ -50,7 +50,7 @@ fn held_len(text: &[u8]) -> usize
     text.iter().take_while(|byte| is_held(**byte)).count()
 }
 
-// Whether a flag stands in front of the text, and what is left after it.
+// Whether the text starts with a flag, and the rest after it.
 fn flag(text: &[u8]) -> (bool, &[u8])
     ensures whole { text.now ≡ suffix.flagged result.0 result.1.now }
     ensures none { result.0 ≡ false → (rest : List ℕ) → text.now ≢ 33 ∷ rest }
@@ -61,16 +61,16 @@ fn flag(text: &[u8]) -> (bool, &[u8])
     }
 }
 
-/// What stands in brackets.
+/// The contents of brackets.
 #[derive(Clone, Copy)]
 struct Bracketed<'a> {
-    /// Whether a flag says that it is critical.
+    /// Whether a flag marks it as critical.
     is_critical: bool,
-    /// What follows the flag.
+    /// The bytes after the flag.
     inside: &'a [u8],
 }
 
-// What stands in the brackets in front of the text, and what is left after them.
+// The contents of the brackets at the start of the text, and the rest after them.
 fn brackets(text: &[u8]) -> Option<(Bracketed<'_>, &[u8])>
     ensures some { IfSome result (λ x. BeginsBracketed text.now x.0.is_critical x.0.inside.now x.1.now) }
     ensures none { IfNone result ((is_critical : Bool) (inside rest : List ℕ)
@@ -93,11 +93,11 @@ fn brackets(text: &[u8]) -> Option<(Bracketed<'_>, &[u8])>
 pub struct ZoneTag<'a> {
     /// Whether it is critical, as in `[!Europe/Berlin]`.
     pub is_critical: bool,
-    /// Which zone.
+    /// The zone itself.
     pub zone: ZoneText<'a>,
 }
 
-// The zone in front of the text, and what is left after it.
+// The zone at the start of the text, and the rest after it.
 fn zone_in_front(text: &[u8]) -> Option<(ZoneTag<'_>, &[u8])>
     ensures some { IfSome result (λ x. BeginsWithZone text.now (Some (zone_tag_of x.0)) x.1.now) }
     ensures none { IfNone result (HasNoZone text.now) }
@@ -108,7 +108,7 @@ fn zone_in_front(text: &[u8]) -> Option<(ZoneTag<'_>, &[u8])>
     Some((ZoneTag { is_critical, zone }, rest))
 }
 
-// The zone in front of the text, if there is one, and what is left after it.
+// The zone at the start of the text, if there is one, and the rest after it.
 fn zone_if_any(text: &[u8]) -> (Option<ZoneTag<'_>>, &[u8])
     ensures zone { BeginsWithZone text.now (option_map zone_tag_of result.0) result.1.now }
     ensures none { IfNone result.0 (HasNoZone text.now) }
@@ -119,7 +119,7 @@ fn zone_if_any(text: &[u8]) -> (Option<ZoneTag<'_>>, &[u8])
     }
 }
 
-// The tag in front of the text: its key if it is critical, and what is left after it.
+// The tag at the start of the text: its key if it is critical, and the rest after it.
 fn tag_in_front(text: &[u8]) -> Option<(Option<&[u8]>, &[u8])>
     ensures some { IfSome result (λ x. (t : Tag) × BeginsWithTag text.now t x.1.now
         × (option_map (λ key. key.now) x.0 ≡ critical_key (t ∷ []))) }
@@ -131,7 +131,7 @@ fn tag_in_front(text: &[u8]) -> Option<(Option<&[u8]>, &[u8])>
     Some((found.is_critical.then_some(key), rest))
 }
 
-// The first critical key of the tags in front of the text, and what is left after them.
+// The first critical key of the tags at the start of the text, and the rest after them.
 fn tags_in_front(text: &[u8]) -> (Option<&[u8]>, &[u8])
     ensures { (tags : List Tag) × BeginsWithTags text.now tags result.1.now
         × (option_map (λ key. key.now) result.0 ≡ critical_key tags) }
@@ -145,19 +145,20 @@ fn tags_in_front(text: &[u8]) -> (Option<&[u8]>, &[u8])
     (critical_key, rest)
 }
 
-/// What a suffix says.
+/// A suffix that was read.
 #[derive(Clone, Copy, Debug, PartialEq, Eq)]
 pub struct Suffixed<'a> {
-    /// How many bytes the suffix has.
+    /// The length of the suffix in bytes.
     pub len: usize,
     /// Its zone, if it has one.
     pub zone: Option<ZoneTag<'a>>,
-    /// The key of its first critical tag, if one is. Whoever doesn't know the key has to refuse the text.
+    /// The key of its first critical tag, if it has one. A caller that doesn't know the key has to reject the text.
     pub critical_key: Option<&'a [u8]>,
 }
 
-/// Reads the longest front of the text that is a suffix by RFC 9557, section 4.1, such as `[Europe/Berlin][u-ca=gregory]`.
-/// It has no bytes where the text begins otherwise. Values aren't judged, nor whether there is such a zone.
+/// Reads the longest prefix of the text that is a suffix by RFC 9557, section 4.1, such as
+/// `[Europe/Berlin][u-ca=gregory]`. Its length is 0 if the text begins otherwise. It checks neither values, nor whether
+/// there is such a zone.
 pub fn read_suffix(text: &[u8]) -> Suffixed<'_>
     ensures within { result.len ≤ length text.now }
     ensures says { Says (take result.len text.now) result }

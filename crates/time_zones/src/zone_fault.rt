@@ -1,4 +1,4 @@
-//! Why a zone wasn't found.
+//! Errors of finding a zone.
 use jiff_core::Error;
 use jiff_core::error::TzifFault;
 use std::alloc::AllocError;
@@ -11,16 +11,16 @@ pub enum ZoneFault {
     NotAName,
     /// A variable that names the zone isn't UTF-8.
     NotText,
-    /// There is no file of the zone.
+    /// The zone has no file.
     Unknown {
-        /// Where it would lie.
+        /// The path of the missing file.
         path: String,
     },
-    /// The name is one of a folder of zones.
+    /// The name is that of a folder of zones.
     Folder,
     /// The file can't be read.
     Unreadable(io::ErrorKind),
-    /// The file isn't one of a zone.
+    /// The file isn't a zone file.
     Malformed(TzifFault),
     /// Memory ran out.
     OutOfMemory,

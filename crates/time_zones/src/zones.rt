@@ -15,7 +15,7 @@ use std::io::ErrorKind;
 use std::rt::{Env, Files};
 use std::str;
 
-/// Zones by their names.
+/// A map from names to zones.
 #[derive(Debug, Drop)]
 pub struct Zones {
     alloc: Global,
@@ -23,7 +23,7 @@ pub struct Zones {
 }
 
 impl Zones {
-    /// None yet.
+    /// The empty map.
     pub fn new(alloc: Global) -> Zones
         ensures { (name : List ℕ) → zone_named result name ≡ None }
     {
@@ -33,7 +33,7 @@ impl Zones {
         }
     }
 
-    /// Gives the zone that name, in place of any other that had it. Where memory runs out, all stay as they were.
+    /// Sets the zone of that name, and replaces an earlier one. If memory runs out, all zones are unchanged.
     pub fn insert(&mut self, name: &str, zone: NamedZone) -> Result<(), AllocError>
         ensures ok { OnOk result (IsInserted self.old self.new name.now zone) }
         ensures err { OnErr result ((other : List ℕ) → SameNamed self.old self.new other) }
@@ -76,7 +76,7 @@ fn fault_from(error: Error, path: String) -> ZoneFault
     }
 }
 
-// Adds the zone of that name, if its file is one.
+// Adds the zone of that name, if its file is a zone file.
 fn add<F: ZoneFiles>(
     alloc: Global,
     files: &F,
@@ -95,8 +95,8 @@ fn add<F: ZoneFiles>(
     }
 }
 
-/// `UTC`, and the zones in the files of a folder that have these names. A name whose file is missing or isn't one of a zone is
-/// left out. If a name stands twice, its file is read twice, and the zone that was read last stays.
+/// `UTC`, and the zones in the files of a folder that have these names. Skips a name whose file is missing or isn't a
+/// zone file. If a name occurs twice, its file is read twice, and the last zone that was read is kept.
 pub fn find_zones_in<F: ZoneFiles>(
     alloc: Global,
     files: &F,
@@ -114,8 +114,8 @@ pub fn find_zones_in<F: ZoneFiles>(
     Ok(zones)
 }
 
-/// `UTC`, and all zones of the folder that `TZDIR` names, or else of /usr/share/zoneinfo, by their paths below it, such as
-/// `Europe/Berlin`. A file that isn't one of a zone is left out, and so are the folders `posix` and `right`.
+/// `UTC`, and all zones of the folder that `TZDIR` names, or else of /usr/share/zoneinfo, by their paths below it, such
+/// as `Europe/Berlin`. Skips files that aren't zone files, and the folders `posix` and `right`.
 pub fn find_zones<R: Env + Files + AllocGlobal + Clone + Drop>(rt: &R) -> Result<Zones, ZoneFault>
     ensures utc { IfOk result (λ zones. zone_named zones (codes "UTC") ≡ Some Named.Utc) }
     ensures err { IfErr result IsFolderFault }

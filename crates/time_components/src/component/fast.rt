@@ -1,7 +1,7 @@
-//! The commonest texts of components, read with no call.
+//! Fast paths for the commonest texts of components, parsed without function calls.
 //!
-//! Each reader answers what the component's plain reader answers, under each padding, or `None`: not this form. Then the
-//! plain reader decides.
+//! Each parser returns what the component's plain parser returns, with any padding, or `None` if the text has another
+//! form. After `None`, call the plain parser.
 ghost use Rattle.std.specs.Prelude.{◌≡◌, IfSome, take, true};
 ghost use Rattle.std.specs.Int.NonZero.{non_zero_u16_get};
 ghost use Rattle.time_digits.specs.Digits.{Cut};
@@ -15,7 +15,7 @@ use crate::{Padding, ParsedItem, Period, SubsecondDigits, modifier};
 use std::num::NonZero;
 use time_values::{Month, Weekday};
 
-/// Reads a year of four digits without a sign. `None`: not this form.
+/// Parses a year of four digits without a sign. Returns `None` for another form.
 #[inline(always)]
 pub fn year<const MOST: u8>(
     input: &[u8],
@@ -32,7 +32,7 @@ pub fn year<const MOST: u8>(
     Some(ParsedItem(year.0, year.1 as i32))
 }
 
-/// Reads an ordinal of three digits. `None`: not this form.
+/// Parses a day of the year of three digits. Returns `None` for another form.
 #[inline(always)]
 pub fn ordinal(input: &[u8], padding: Padding) -> Option<ParsedItem<'_, NonZero<u16>>>
     ensures { IfSome result (λ found. Cut (Says number (IsPositiveRun padding 3))
@@ -42,7 +42,8 @@ pub fn ordinal(input: &[u8], padding: Padding) -> Option<ParsedItem<'_, NonZero<
     Some(ParsedItem(ordinal.0, NonZero::<u16>::new(ordinal.1 as u16)?))
 }
 
-/// Reads a sign and two digits of an offset's hour. The bool says whether the sign is a minus. `None`: not this form.
+/// Parses a sign and two digits of an offset's hour. The bool is whether the sign is a minus. Returns `None` for
+/// another form.
 #[inline(always)]
 pub fn offset_hour(
     input: &[u8],
@@ -57,7 +58,7 @@ pub fn offset_hour(
     Some(ParsedItem(hour.0, signed_hour(sign.1, hour.1)))
 }
 
-/// Reads a fraction of up to nine digits, where it may have any number of them. `None`: not this form.
+/// Parses a fraction of up to nine digits, if any number of digits is allowed. Returns `None` for another form.
 #[inline(always)]
 pub fn subsecond(input: &[u8], digits: SubsecondDigits) -> Option<ParsedItem<'_, u32>>
     ensures { IfSome result (λ found. Cut (Says number (IsFractionRun (least_digits digits) (most_digits digits)))
@@ -69,14 +70,14 @@ pub fn subsecond(input: &[u8], digits: SubsecondDigits) -> Option<ParsedItem<'_,
     }
 }
 
-// Reads a fraction of one to nine digits, in nanoseconds.
+// Parses a fraction of one to nine digits, in nanoseconds.
 #[inline(always)]
 fn short_fraction(input: &[u8]) -> Option<ParsedItem<'_, u32>>
     ensures { IfSome result (λ found. Cut (Says number (IsFractionRun 1 32))
         input.now found.0.now (number found.1)) }
 {
     let mut nanoseconds = 0;
-    // What a one counts at the last place that is read.
+    // The nanoseconds in one unit of the last place read so far.
     let mut unit = 1_000_000_000;
     let mut rest = input;
     while let [digit @ b'0'..=b'9', tail @ ..] = rest {
@@ -93,7 +94,7 @@ fn short_fraction(input: &[u8]) -> Option<ParsedItem<'_, u32>>
     Some(ParsedItem(rest, nanoseconds))
 }
 
-// Reads a month's first three letters, a capital and two small ones. `None`: not this form.
+// Parses the first three letters of a month's name, a capital and two small ones. Returns `None` for another form.
 #[inline(always)]
 pub(super) fn month_short(input: &[u8], case_sensitive: bool) -> Option<ParsedItem<'_, Month>>
     ensures { IfSome result (λ found. Cut (Says month (IsShortOf case_sensitive Names.month_name))
@@ -106,7 +107,7 @@ pub(super) fn month_short(input: &[u8], case_sensitive: bool) -> Option<ParsedIt
     Some(ParsedItem(rest, month))
 }
 
-// Reads a weekday's first three letters, a capital and two small ones. `None`: not this form.
+// Parses the first three letters of a weekday's name, a capital and two small ones. Returns `None` for another form.
 #[inline(always)]
 pub(super) fn weekday_short(input: &[u8], case_sensitive: bool) -> Option<ParsedItem<'_, Weekday>>
     ensures { IfSome result (λ found. Cut (Says weekday (IsShortOf case_sensitive Names.weekday_name))
@@ -119,7 +120,7 @@ pub(super) fn weekday_short(input: &[u8], case_sensitive: bool) -> Option<Parsed
     Some(ParsedItem(rest, weekday))
 }
 
-/// The month whose name begins with these letters as they stand. `None`: not this form.
+/// The month whose name begins with these letters, in exactly this case. Returns `None` for other letters.
 #[inline(always)]
 pub fn month_name(letters: [u8; 3]) -> Option<Month>
     ensures { IfSome result (λ v. letters ≡ take 3 (Names.month_name v)) }
@@ -141,7 +142,7 @@ pub fn month_name(letters: [u8; 3]) -> Option<Month>
     }
 }
 
-/// The weekday whose name begins with these letters as they stand. `None`: not this form.
+/// The weekday whose name begins with these letters, in exactly this case. Returns `None` for other letters.
 #[inline(always)]
 pub fn weekday_name(letters: [u8; 3]) -> Option<Weekday>
     ensures { IfSome result (λ v. letters ≡ take 3 (Names.weekday_name v)) }
@@ -158,7 +159,7 @@ pub fn weekday_name(letters: [u8; 3]) -> Option<Weekday>
     }
 }
 
-// Reads `AM` or `PM`, where capitals are taken. `None`: not this form.
+// Parses `AM` or `PM`, if the modifiers accept capitals. Returns `None` for another form.
 #[inline(always)]
 pub(super) fn period(input: &[u8], modifiers: modifier::Period) -> Option<ParsedItem<'_, Period>>
     ensures { IfSome result (λ found. Cut (Says Spelling.period (IsNameOf modifiers.case_sensitive (period_name modifiers.is_uppercase)))
@@ -170,7 +171,7 @@ pub(super) fn period(input: &[u8], modifiers: modifier::Period) -> Option<Parsed
     }
 }
 
-// Reads `AM` or `PM`.
+// Parses `AM` or `PM`.
 #[inline(always)]
 fn capitals(input: &[u8]) -> Option<ParsedItem<'_, Period>>
     ensures { IfSome result (λ found. Cut (λ text rest v. text ≡ period_name true v) input.now found.0.now found.1) }

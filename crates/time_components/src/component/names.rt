@@ -10,7 +10,7 @@ ghost use Rattle.time_components.specs.Spelling as Spelling;
 use crate::{ParsedItem, Period, modifier};
 use time_values::{Month, Weekday, names};
 
-// Reads the first three letters of a month's name.
+// Parses the first three letters of a month's name.
 #[inline(always)]
 pub(super) fn month_short(input: &[u8], case_sensitive: bool) -> Option<ParsedItem<'_, Month>>
     ensures { Finds (Says month (IsShortOf case_sensitive month_name)) month input.now result }
@@ -20,7 +20,7 @@ pub(super) fn month_short(input: &[u8], case_sensitive: bool) -> Option<ParsedIt
     Some(ParsedItem(letters.0, month))
 }
 
-// Reads the first three letters of a weekday's name.
+// Parses the first three letters of a weekday's name.
 #[inline(always)]
 pub(super) fn weekday_short(input: &[u8], case_sensitive: bool) -> Option<ParsedItem<'_, Weekday>>
     ensures { Finds (Says weekday (IsShortOf case_sensitive weekday_name)) weekday input.now result }
@@ -30,7 +30,7 @@ pub(super) fn weekday_short(input: &[u8], case_sensitive: bool) -> Option<Parsed
     Some(ParsedItem(letters.0, weekday))
 }
 
-// Reads three bytes as small letters. Where the case matters, they have to be a capital and two small
+// Parses three bytes, and returns them in lower case. If the case matters, they must be a capital and two small
 // letters.
 #[inline(always)]
 fn three_letters(input: &[u8], case_sensitive: bool) -> Option<ParsedItem<'_, [u8; 3]>>
@@ -98,21 +98,21 @@ fn weekday_of(letters: [u8; 3]) -> Option<Weekday>
     }
 }
 
-// What follows the first three letters of the month's name.
+// The month's name after its first three letters.
 pub(super) fn month_ending(month: Month) -> &'static [u8]
     ensures { result.now ≡ drop 3 (month_name month) }
 {
     &names::month_name(month).as_bytes()[3..]
 }
 
-// What follows the first three letters of the weekday's name.
+// The weekday's name after its first three letters.
 pub(super) fn weekday_ending(weekday: Weekday) -> &'static [u8]
     ensures { result.now ≡ drop 3 (weekday_name weekday) }
 {
     &names::weekday_name(weekday).as_bytes()[3..]
 }
 
-// Reads the ending of a name.
+// Parses the rest of a name.
 pub(super) fn ending_of<'a>(
     input: &'a [u8],
     ending: &[u8],
@@ -139,7 +139,7 @@ fn is_named(text: &[u8], name: &[u8], case_sensitive: bool) -> bool
     }
 }
 
-// Reads one digit of `0` to `6`, or of `1` to `7` where it is one-indexed, as 0 to 6.
+// Parses one digit, `0` to `6`, or `1` to `7` if it is one-indexed, as 0 to 6.
 #[inline]
 pub(super) fn weekday_digit(input: &[u8], one_indexed: bool) -> Option<ParsedItem<'_, u8>>
     ensures { Finds (IsDayDigit one_indexed) (λ v. v) input.now result }
@@ -163,7 +163,7 @@ fn first_digit(one_indexed: bool) -> u8
     if one_indexed { b'1' } else { b'0' }
 }
 
-// Reads two bytes: as they stand where the case matters, and otherwise as small letters.
+// Parses two bytes, and returns them unchanged if the case matters, otherwise in lower case.
 #[inline]
 fn two_letters(input: &[u8], case_sensitive: bool) -> Option<ParsedItem<'_, [u8; 2]>>
     ensures { Finds (IsLetters case_sensitive) (λ v. v) input.now result }
@@ -174,7 +174,7 @@ fn two_letters(input: &[u8], case_sensitive: bool) -> Option<ParsedItem<'_, [u8;
     Some(ParsedItem(rest, folded([*first, *second], case_sensitive)))
 }
 
-// The letters as they stand where the case matters, and otherwise as small letters.
+// The letters, unchanged if the case matters, otherwise in lower case.
 #[inline]
 fn folded(letters: [u8; 2], case_sensitive: bool) -> [u8; 2]
     ensures { result ≡ ShortNames.folded case_sensitive letters }
@@ -187,7 +187,7 @@ fn folded(letters: [u8; 2], case_sensitive: bool) -> [u8; 2]
     }
 }
 
-// Reads the half of the day.
+// Parses the half of the day.
 #[inline(always)]
 pub(super) fn period(input: &[u8], modifiers: modifier::Period) -> Option<ParsedItem<'_, Period>>
     ensures { Finds (Says Spelling.period (IsNameOf modifiers.case_sensitive (period_name modifiers.is_uppercase)))

@@ -1,4 +1,4 @@
-//! Numbers under a padding, numbers with a sign, and fractions of a second.
+//! Numbers with a padding, numbers with a sign, and fractions of a second.
 ghost use Rattle.std.specs.Prelude.{◌≡◌, ◌+◌, ◌*◌, ◌^◌, ◌<◌, ◌≤◌, pos};
 ghost use Rattle.time_values.specs.Sign.{signed_by};
 ghost use Rattle.time_digits.specs.Digits.{is_negative, Finds, NoCut, IsDigitRun, IsPaddedRun};
@@ -12,7 +12,7 @@ use crate::combinator::{
 use crate::{Integer, Padding, ParsedItem, Sign};
 use std::num::NonZero;
 
-// Reads `N` to `M` digits under the padding, where the type holds each number of `M` digits.
+// Parses `N` to `M` digits with the given padding. The type must hold every number of `M` digits.
 #[inline(always)]
 fn run<const N: u8, const M: u8, T: Integer>(
     input: &[u8],
@@ -27,7 +27,7 @@ fn run<const N: u8, const M: u8, T: Integer>(
     n_to_m_digits_padded::<N, M, T>(input, padding)
 }
 
-// Reads a number in two places: two digits under each padding, else one digit, alone or after a space.
+// Parses a number in two places: two digits, whatever the padding; otherwise one digit, alone or after a space.
 #[inline(always)]
 pub(super) fn two_digits(input: &[u8], padding: Padding) -> Option<ParsedItem<'_, u8>>
     ensures { Finds (IsPaddedRun padding 2 2) (λ v. v) input.now result }
@@ -42,7 +42,7 @@ pub(super) fn two_digits(input: &[u8], padding: Padding) -> Option<ParsedItem<'_
     }
 }
 
-// Reads a space and a digit, where two digits don't stand.
+// Parses a space and a digit. The input doesn't begin with two digits.
 #[inline(always)]
 #[tactic(auto, using(time_digits::proofs::Runs::no_spaced_digit))]
 fn spaced_digit(input: &[u8]) -> Option<ParsedItem<'_, u8>>
@@ -59,7 +59,7 @@ fn spaced_digit(input: &[u8]) -> Option<ParsedItem<'_, u8>>
     }
 }
 
-// Reads a number in two places.
+// Parses a number in two places.
 #[inline(always)]
 pub(super) fn two_places(input: &[u8], padding: Padding) -> Option<ParsedItem<'_, u8>>
     ensures { Finds (Says number (IsPaddedRun padding 2 2)) number input.now result }
@@ -67,7 +67,7 @@ pub(super) fn two_places(input: &[u8], padding: Padding) -> Option<ParsedItem<'_
     two_digits(input, padding)
 }
 
-// Reads an ordinal in three places, 1 to 999.
+// Parses a day of the year in three places, 1 to 999.
 #[inline]
 pub(super) fn ordinal(input: &[u8], padding: Padding) -> Option<ParsedItem<'_, NonZero<u16>>>
     ensures { Finds (Says number (IsPositiveRun padding 3)) (λ n. number n.value) input.now result }
@@ -76,8 +76,8 @@ pub(super) fn ordinal(input: &[u8], padding: Padding) -> Option<ParsedItem<'_, N
     Some(ParsedItem(ordinal.0, NonZero::<u16>::new(ordinal.1)?))
 }
 
-// Reads a sign and `N` to `M` digits under the padding. Without a sign, which then mustn't be
-// mandatory, it reads `A` to `B` digits under the second padding.
+// Parses a sign and `N` to `M` digits with the first padding, or, if the sign is missing and isn't mandatory, `A` to
+// `B` digits with the second padding.
 #[inline]
 fn sign_and_run<const N: u8, const M: u8, const A: u8, const B: u8, T: Integer>(
     input: &[u8],
@@ -109,7 +109,7 @@ fn sign_and_run<const N: u8, const M: u8, const A: u8, const B: u8, T: Integer>(
     }
 }
 
-// Reads a year: four digits, or a sign and four to `MOST` digits.
+// Parses a year: four digits, or a sign and four to `MOST` digits.
 #[cold]
 #[inline(never)]
 pub(super) fn full_year<const MOST: u8>(
@@ -125,8 +125,8 @@ pub(super) fn full_year<const MOST: u8>(
     Some(ParsedItem(found.0, signed_year(found.1.0, found.1.1)))
 }
 
-// Reads a century: one or two digits, or a sign and two to `MOST` digits under the padding. The
-// bool says whether the sign is a minus.
+// Parses a century: one or two digits, or a sign and two to `MOST` digits with the given padding. The bool is whether
+// the sign is a minus.
 #[inline]
 pub(super) fn century<const MOST: u8>(
     input: &[u8],
@@ -146,8 +146,8 @@ pub(super) fn century<const MOST: u8>(
     Some(ParsedItem(found.0, signed_century(found.1.0, found.1.1)))
 }
 
-// Reads a time since 1970-01-01T00:00:00Z in up to `MOST` digits, in units of so many nanoseconds,
-// and answers it in nanoseconds.
+// Parses a time since 1970-01-01T00:00:00Z in up to `MOST` digits, in units of the given number of nanoseconds, and
+// returns it in nanoseconds.
 #[inline]
 pub(super) fn timestamp<const MOST: u8>(
     input: &[u8],
@@ -168,7 +168,7 @@ pub(super) fn timestamp<const MOST: u8>(
     Some(ParsedItem(found.0, signed_nanoseconds(found.1.0, found.1.1 * unit)))
 }
 
-// Reads the hours of an offset. The bool says whether the sign is a minus.
+// Parses the hours of an offset. The bool is whether the sign is a minus.
 #[cold]
 #[inline(never)]
 pub(super) fn offset_hour(
@@ -182,7 +182,7 @@ pub(super) fn offset_hour(
     Some(ParsedItem(found.0, signed_hour(found.1.0, found.1.1)))
 }
 
-// Reads the minutes or the seconds of an offset, which have no sign.
+// Parses the minutes or the seconds of an offset, which have no sign.
 #[inline]
 pub(super) fn offset_part(input: &[u8], padding: Padding) -> Option<ParsedItem<'_, i8>>
     ensures { Finds (Says positive (IsPaddedRun padding 2 2)) signed input.now result }
@@ -231,7 +231,7 @@ fn signed_nanoseconds(sign: Sign, nanoseconds: u128) -> i128
     }
 }
 
-// Reads a fraction of exactly `N` digits, in nanoseconds.
+// Parses a fraction of exactly `N` digits, in nanoseconds.
 #[inline]
 pub(super) fn fraction<const N: u8>(input: &[u8]) -> Option<ParsedItem<'_, u32>>
     requires least { 1 ≤ N }
@@ -242,7 +242,7 @@ pub(super) fn fraction<const N: u8>(input: &[u8]) -> Option<ParsedItem<'_, u32>>
     Some(ParsedItem(digits.0, digits.1 * power_of_ten(9 - usize::from(N))))
 }
 
-// Reads a fraction of 1 to 32 digits, in nanoseconds. The first nine digits count.
+// Parses a fraction of 1 to 32 digits, in nanoseconds. The first nine digits count.
 #[inline]
 pub(super) fn long_fraction(input: &[u8]) -> Option<ParsedItem<'_, u32>>
     ensures { Finds (Says number (IsFractionRun 1 32)) number input.now result }
@@ -253,7 +253,7 @@ pub(super) fn long_fraction(input: &[u8]) -> Option<ParsedItem<'_, u32>>
     Some(ParsedItem(&digits.0[dropped..], digits.1 * power_of_ten(9 - count)))
 }
 
-// Ten to that power, below nine.
+// Ten to the given power, which must be below nine.
 #[inline]
 fn power_of_ten(exponent: usize) -> u32
     requires { exponent < 9 }

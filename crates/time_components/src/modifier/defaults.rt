@@ -1,4 +1,5 @@
-//! Modifiers that a description doesn't name, where one of them is true by default. For the others the default is derived.
+//! Defaults of modifiers that a description doesn't name, if one of them is true by default. Other defaults are
+//! derived.
 ghost use Rattle.std.specs.Prelude.{◌≡◌, true};
 
 use crate::modifier::{

@@ -1,6 +1,6 @@
-//! The commonest fractions of a second.
+//! Fast paths for the commonest fractions of a second.
 //!
-//! Each reader returns what the grammar's reader returns, or `None`: the input is of another form.
+//! Each parser returns what the plain parser in `grammar` returns, or `None` if the input has another form.
 ghost use Rattle.std.specs.Prelude.{IfSome};
 ghost use Rattle.time_digits.specs.Digits.{Cut, IsFraction};
 
@@ -8,12 +8,12 @@ use crate::ParsedItem;
 use crate::combinator::grammar::without_digits;
 use crate::combinator::{any_digit, nine_digits, three_digits};
 
-// Reads a fraction of a second of nine digits or more, or of exactly six or three. `None`: not this form.
+// Parses a fraction of a second of nine or more digits, or of exactly six or three. Returns `None` for another form.
 #[inline(always)]
 pub(super) fn fraction(input: &[u8]) -> Option<ParsedItem<'_, u32>>
     ensures { IfSome result (λ found. Cut IsFraction input.now found.0.now found.1) }
 {
-    // One test of the length for all nine.
+    // One length test covers all nine digits.
     if input.len() > 8 {
         if let Some(nine) = nine_digits(input) {
             return Some(ParsedItem(without_digits(nine.0), nine.1));
@@ -22,7 +22,7 @@ pub(super) fn fraction(input: &[u8]) -> Option<ParsedItem<'_, u32>>
     fraction_by_threes(input)
 }
 
-// Reads a fraction of a second of exactly six digits or three. `None`: not this form.
+// Parses a fraction of a second of exactly six or three digits. Returns `None` for another form.
 #[inline(always)]
 fn fraction_by_threes(input: &[u8]) -> Option<ParsedItem<'_, u32>>
     ensures { IfSome result (λ found. Cut IsFraction input.now found.0.now found.1) }

@@ -1,11 +1,11 @@
-//! Runs of digits and of spaces, one byte after another.
+//! Runs of digits and of spaces, parsed byte by byte.
 ghost use Rattle.std.specs.Prelude.{◌≡◌, ◌-◌, ◌^◌, ◌<◌, ◌≤◌, ◌⊎◌, ℕ, List, ◌++◌, MatchOption, IsTrue, ◌↔◌, length, take, drop, replicate};
 ghost use Rattle.time_digits.specs.Digits.{Finds, IsDigit, AllDigits, digits_value, NoDigitFirst, NoSpaceFirst, IsDigitRun, IsDigitRunUpTo, IsFraction};
 
 use crate::combinator::n_to_m_digits;
 use crate::{Integer, ParsedItem};
 
-// How many nanoseconds a one counts so many places after the point of a second.
+// The nanoseconds in one unit of a decimal place, by the number of places after the point of a second.
 const NANOSECONDS_OF_PLACE: [u32; 10] = [
     1_000_000_000,
     100_000_000,
@@ -19,7 +19,7 @@ const NANOSECONDS_OF_PLACE: [u32; 10] = [
     1,
 ];
 
-// Reads exactly `n` digits, one after another.
+// Parses exactly `n` digits, one after another.
 #[inline]
 pub(super) fn exact_run(input: &[u8], n: u8) -> Option<ParsedItem<'_, u32>>
     requires { n ≤ 9 }
@@ -28,7 +28,7 @@ pub(super) fn exact_run(input: &[u8], n: u8) -> Option<ParsedItem<'_, u32>>
     digit_run(input, usize::from(n), usize::from(n))
 }
 
-// The run of digits with which the input begins, if it is long enough and its value fits.
+// The run of leading digits, if it is long enough and its value fits `T`.
 #[inline]
 pub(super) fn digit_run<T: Integer>(
     input: &[u8],
@@ -46,7 +46,7 @@ pub(super) fn digit_run<T: Integer>(
     Some(ParsedItem(&input[count..], value))
 }
 
-/// How many digits the input begins with, counted up to `most`.
+/// The number of digits that the input begins with, counted up to `most`.
 #[inline]
 pub fn leading_digits(input: &[u8], most: usize) -> usize
     ensures in_range { result ≤ length input.now }
@@ -68,7 +68,7 @@ fn is_digit(byte: u8) -> bool
     byte >= b'0' && byte <= b'9'
 }
 
-// The number that the digits say, if it fits. It moves at each digit, so `T` need not be `Copy`.
+// The decimal value of the digits, if it fits `T`. The value moves at each digit, so `T` need not be `Copy`.
 #[inline]
 fn value_of_digits<T: Integer>(digits: &[u8]) -> Option<T>
     requires all { AllDigits digits.now }
@@ -91,7 +91,7 @@ fn value_of_digits<T: Integer>(digits: &[u8]) -> Option<T>
     Some(value)
 }
 
-// How many spaces the input begins with, counted up to `most`.
+// The number of spaces that the input begins with, counted up to `most`.
 #[inline]
 pub(super) fn leading_spaces(input: &[u8], most: usize) -> usize
     ensures in_range { result ≤ length input.now }
@@ -106,8 +106,8 @@ pub(super) fn leading_spaces(input: &[u8], most: usize) -> usize
     count
 }
 
-// Reads the digits of a fraction of a second, as many as stand there, and answers nanoseconds: nine
-// digits count, later ones are dropped.
+// Parses all leading digits as a fraction of a second, in nanoseconds. The first nine digits count, and later ones are
+// dropped. Returns `None` if the input doesn't begin with a digit.
 pub(super) fn fraction(input: &[u8]) -> Option<ParsedItem<'_, u32>>
     ensures { Finds IsFraction (λ v. v) input.now result }
 {
@@ -119,7 +119,7 @@ pub(super) fn fraction(input: &[u8]) -> Option<ParsedItem<'_, u32>>
     Some(ParsedItem(without_digits(found.0), nanoseconds))
 }
 
-// What follows the digits with which the input begins.
+// The input after its leading digits.
 #[inline(always)]
 pub(super) fn without_digits(input: &[u8]) -> &[u8]
     ensures { (digits : List ℕ) × (input.now ≡ digits ++ result.now) × AllDigits digits × NoDigitFirst result.now }
@@ -131,7 +131,7 @@ pub(super) fn without_digits(input: &[u8]) -> &[u8]
     rest
 }
 
-// How many nanoseconds a one counts so many places after the point of a second.
+// The nanoseconds in one unit of a decimal place, by the number of places after the point of a second.
 #[inline]
 fn nanoseconds_of_place(digits: usize) -> u32
     requires { digits ≤ 9 }

@@ -1,4 +1,4 @@
-//! Digits that stand in one word.
+//! Up to eight digits at once, in one machine word.
 ghost use Rattle.std.specs.Prelude.{◌≡◌, ◌≤◌, ◌-◌, ◌++◌, MatchOption, length, replicate, take};
 ghost use Rattle.std.specs.Int.{to_le_bytes, w64};
 ghost use Rattle.time_digits.specs.Digits.{AllDigits, digits_value, Finds, IsDigitRun};
@@ -7,7 +7,7 @@ ghost use Rattle.time_digits.specs.Words.{first_bytes};
 use crate::ParsedItem;
 use crate::combinator::any_digit;
 
-// Reads exactly `N` digits by one word.
+// Parses exactly `N` digits from one machine word.
 #[inline(always)]
 pub(super) fn digits<const N: u8>(input: &[u8]) -> Option<ParsedItem<'_, u32>>
     requires least { 4 ≤ N }
@@ -18,7 +18,7 @@ pub(super) fn digits<const N: u8>(input: &[u8]) -> Option<ParsedItem<'_, u32>>
     Some(ParsedItem(&input[usize::from(N)..], value))
 }
 
-/// Reads exactly nine digits, and returns their decimal value.
+/// Parses exactly nine digits, as their decimal value. Returns `None` if the input begins with fewer.
 #[inline(always)]
 pub fn nine_digits(input: &[u8]) -> Option<ParsedItem<'_, u32>>
     ensures { Finds (IsDigitRun 9 9) (λ v. v) input.now result }
@@ -28,8 +28,7 @@ pub fn nine_digits(input: &[u8]) -> Option<ParsedItem<'_, u32>>
     Some(ParsedItem(ninth.0, 10 * eight.1 + u32::from(ninth.1 - b'0')))
 }
 
-// The first eight bytes of the input in one word, the first of them its lowest byte. An absent byte is 0, which is no
-// digit.
+// The first eight bytes of the input in one word, the first byte lowest. A missing byte is 0, which isn't a digit.
 #[inline(always)]
 fn leading_word(input: &[u8]) -> u64
     ensures { to_le_bytes w64 result ≡ take 8 (input.now ++ replicate 8 0) }
@@ -40,7 +39,7 @@ fn leading_word(input: &[u8]) -> u64
     }
 }
 
-// At most eight bytes in one word, as `leading_word`. It is not inlined, since most inputs have eight bytes.
+// At most eight bytes in one word, in the order of `leading_word`. Not inlined, since most inputs have eight bytes.
 #[cold]
 #[inline(never)]
 fn short_word(bytes: &[u8]) -> u64
@@ -50,7 +49,7 @@ fn short_word(bytes: &[u8]) -> u64
     u64::from_le_bytes(with_zeros(bytes))
 }
 
-// The bytes, and a 0 for each that is absent.
+// The bytes, filled up to eight with zeros.
 fn with_zeros(bytes: &[u8]) -> [u8; 8]
     requires { length bytes.now ≤ 8 }
     ensures { result ≡ bytes.now ++ replicate (8 - length bytes.now) 0 }
@@ -60,8 +59,7 @@ fn with_zeros(bytes: &[u8]) -> [u8; 8]
     word
 }
 
-// Joins the first `n` bytes of the text in the word, of which the lowest byte is the first, where all are
-// digits.
+// The decimal value of the first `n` bytes of the word, the lowest byte first, or `None` if not all of them are digits.
 #[inline(always)]
 fn join_word(word: u64, n: u8) -> Option<u32>
     requires least { 4 ≤ n }
@@ -71,32 +69,32 @@ fn join_word(word: u64, n: u8) -> Option<u32>
         (λ value. AllDigits (first_bytes word n) × (value ≡ digits_value (first_bytes word n))) }
 {
     let absent = 64 - 8 * u32::from(n);
-    // Each digit becomes its value. A byte below `0` borrows from the next one, but itself becomes more than 9.
+    // Maps each digit to its value. A byte below `0` borrows from the next byte, but its own result exceeds 9.
     let values = word.wrapping_sub(0x3030_3030_3030_3030);
-    // A value is below 10 where it is below 16, and six more is too.
+    // A value is below 10 if both it and its sum with 6 are below 16.
     let high = 0xf0f0_f0f0_f0f0_f0f0 >> absent;
     let are_digits = (values & high == 0)
         & (values.wrapping_add(0x0606_0606_0606_0606) & high == 0);
     if !are_digits {
         return None;
     }
-    // The last digit moves to the highest byte, and the bytes after it fall away.
+    // Moves the last digit to the highest byte, which shifts out the bytes after it.
     let digits = values << absent;
-    // Two, then four, then eight digits are joined in each step.
-    let pairs = (digits * 10 + (digits >> 8)) & 0x00ff_00ff_00ff_00ff;
-    let fours = (pairs * 100 + (pairs >> 16)) & 0x0000_ffff_0000_ffff;
+    // The steps join two, then four, then eight digits.
+    let pairs = (digits.wrapping_mul(2_561) >> 8) & 0x00ff_00ff_00ff_00ff;
+    let fours = (pairs.wrapping_mul(6_553_601) >> 16) & 0x0000_ffff_0000_ffff;
     let value = (fours * 10_000 + (fours >> 32)) & 0xffff_ffff;
     Some(value as u32)
 }
 
 #[cfg(test)]
 mod tests {
-    //! Digits that one word holds, with each byte in each place.
+    //! Digits in one word, with every byte value at every place.
     use crate::combinator::words::join_word;
 
     const DIGITS: [u8; 8] = *b"98765432";
 
-    // How many of the digits are joined, and their number.
+    // How many digits are joined, and their decimal value.
     const NUMBERS: [(u8, u32); 5] = [
         (4, 9_876),
         (5, 98_765),
@@ -105,7 +103,7 @@ mod tests {
         (8, 98_765_432),
     ];
 
-    // The number of the first 4 to 8 bytes.
+    // The decimal value of the first 4 to 8 bytes.
     fn joined(bytes: [u8; 8], n: u8) -> Option<u32> {
         match n {
             4..=8 => join_word(u64::from_le_bytes(bytes), n),
@@ -113,7 +111,7 @@ mod tests {
         }
     }
 
-    // The first `count` digits. The bytes after them are absent.
+    // The first `count` digits, and zeros for the missing bytes after them.
     fn first_digits(count: u8) -> [u8; 8] {
         let mut bytes = DIGITS;
         for place in count..8 {
@@ -124,7 +122,7 @@ mod tests {
         bytes
     }
 
-    // Fewer digits than `n` are not joined.
+    // Whether `join_word` rejects every count of digits below `n`.
     fn is_refused_short(n: u8) -> bool {
         let mut all_refused = true;
         for count in 0..n {
@@ -133,7 +131,7 @@ mod tests {
         all_refused
     }
 
-    // No byte but a digit is joined in that place.
+    // Whether `join_word` rejects every byte other than a digit at that place.
     fn is_refused_at(place: usize, n: u8) -> bool {
         let mut all_refused = true;
         for byte in 0..=u8::MAX {
@@ -146,7 +144,7 @@ mod tests {
         all_refused
     }
 
-    // No byte but a digit is joined in any place.
+    // Whether `join_word` rejects every byte other than a digit at every place.
     fn is_refused(n: u8) -> bool {
         let mut all_refused = true;
         for place in 0..n {

@@ -1,4 +1,4 @@
--- A text has one place by the places of a format.
+-- A text has one place in a format by places.
 use Rattle.std.specs.Option.{option_or}
 use Rattle.std.proofs.Common.{◌≡◌, ℕ, ◌⊎◌, List, [], ◌∷◌, ◌++◌, length, ap, sym, ◌∙◌, subst, inl, inr, true, false, Option, Some}
 use Rattle.std.proofs.lemmas.Option.{none-some, same_Some}
@@ -26,7 +26,7 @@ use Rattle.time_locating.specs.Misses as misses
 use Rattle.time_locating.specs.Rfc2822.{Locates as Rfc2822Locates, Marks as Rfc2822Marks, wanted_at, wanted_from}
 use Rattle.time_locating.specs.Rfc3339.{Locates as Rfc3339Locates, Marks as Rfc3339Marks, wanted_at as rfc3339_wanted_at}
 
--- the bytes before which a place doesn't stand
+-- the bytes at the start of the place that doesn't match
 abbrev StopsBefore : {P N : Type 0} → Format P N → List P → N → List ℕ → List ℕ → Type 0
 StopsBefore A [] n bytes mid = ⊥
 StopsBefore {P} {N} A (p ∷ ps) n bytes mid =
@@ -80,7 +80,7 @@ module _ {P N : Type 0} (A : Format P N) (one : AtMostOneEach A) (ps : List P) (
   LocatesPlace-unread wanted_at b m n (inr s) k =
       s.3 ((one_form A one ps start b).one_reading s.0 [] s.1 n s.2 k).0
 
-  -- a format that reads no more than the places has one place of each text
+  -- a format that reads exactly the places has one place for each text
   pub place_exact : (wanted_at : P → Wanted) (reads : Reading)
       → ((b : List ℕ) (r q : Record) → reads b r [] q → (n : N) × Stand A ps start b [] n)
       → IsExactPlace reads (λ b r m. LocatesPlace A ps start wanted_from wanted_at b m)
@@ -89,7 +89,7 @@ module _ {P N : Type 0} (A : Format P N) (one : AtMostOneEach A) (ps : List P) (
     not_read = λ b r q m h k. let f = form b r q k in LocatesPlace-unread wanted_at b m f.0 h f.1;
   }
 
--- a format by places has one mark of each name
+-- a format by places has one mark for each name
 module _ {P N : Type 0} (A : Format P N) (one : AtMostOneEach A) (wanted_from : Beginning P) (fault : P → Refusal)
     (name : List ℕ) where
   MarksPlaces-one : (ps : List P) (n : N) (b : List ℕ) (x y : Option ℕ) → MarksPlaces A wanted_from fault name ps n b x
@@ -122,7 +122,7 @@ module _ {P N : Type 0} (A : Format P N) (one : AtMostOneEach A) (wanted_from : 
   pub place_exact_mark : IsExactMark (λ name b r mark. MarksText A wanted_from fault ps start name b mark)
   place_exact_mark name b r x y h k = MarksText-one name b x y h k
 
--- ---- A text has one place by ISO 8601, since the place is a function. `Y` is the greatest year.
+-- ---- A text has one place in ISO 8601, since the place is a function. `Y` is the greatest year.
 
 -- the place after what is read
 abbrev place_of : ℕ → List ℕ → Record → Option (List ℕ × Record) → Option Miss
@@ -137,7 +137,7 @@ iso8601_exact_place Y = record {
 pub iso8601_exact_mark : (Y : ℕ) → IsExactMark (Marks Y)
 iso8601_exact_mark Y name b r x y h k = h ∙ sym k
 
--- ---- A text has one mark of each name by a tree. `Y` is the greatest year.
+-- ---- A text has one mark for each name by a tree. `Y` is the greatest year.
 
 mutual
   unfolding TreeMarks MarksAll MarksFirst
@@ -247,7 +247,7 @@ tree_exact_place Y told t = record {
   not_read = λ b r q m h k. MissesText-unread Y told t b r q h.0 h.1 k;
 }
 
--- ---- A text has one place by RFC 2822. `Y` is the greatest year.
+-- ---- A text has one place in RFC 2822. `Y` is the greatest year.
 
 pub rfc2822_exact_place : (Y : ℕ) → IsExactPlace (Rfc2822Reads Y) Rfc2822Locates
 rfc2822_exact_place Y =
@@ -257,7 +257,7 @@ rfc2822_exact_place Y =
 pub rfc2822_exact_mark : IsExactMark Rfc2822Marks
 rfc2822_exact_mark = place_exact_mark (Asks true) (MailAsks-unique true) wanted_from fault places nothing_read
 
--- ---- A text has one place by RFC 3339. `Y` is the greatest year.
+-- ---- A text has one place in RFC 3339. `Y` is the greatest year.
 
 pub rfc3339_exact_place : (Y : ℕ) → IsExactPlace (Rfc3339Reads Y) Rfc3339Locates
 rfc3339_exact_place Y =

@@ -1,4 +1,4 @@
-//! Where the components begin that a text of ISO 8601 says.
+//! Where the components of an ISO 8601 text begin.
 ghost use Rattle.std.specs.Prelude.{◌≡◌, map};
 ghost use Rattle.std.specs.Option.{option_copied};
 ghost use Rattle.time_values.specs.Calendar.{greatest_year};
@@ -22,7 +22,7 @@ fn expects(expected: Expected<'_>, name: &str) -> bool
     }
 }
 
-// Whether the piece says the component of this name.
+// Whether the piece belongs to the component of this name.
 #[tactic(auto, using(crate::proofs::IsoDates::other_piece))]
 fn is_piece_of(piece: Piece, name: &str) -> bool
     ensures { result ≡ spec.is_piece_of name.now piece }
@@ -33,7 +33,7 @@ fn is_piece_of(piece: Piece, name: &str) -> bool
     }
 }
 
-// What is left after the pieces of a row.
+// The rest after the pieces of a row, or `None` if one doesn't match.
 fn past_row<'a>(row: &[Piece], input: &'a [u8]) -> Option<&'a [u8]>
     ensures { option_copied result ≡ spec.after_row row.now input.now }
 {
@@ -44,7 +44,7 @@ fn past_row<'a>(row: &[Piece], input: &'a [u8]) -> Option<&'a [u8]>
     Some(rest)
 }
 
-// How many bytes are left where the first piece of this name begins.
+// How many bytes are left at the start of the row's first piece of this name.
 fn row_mark(row: &[Piece], input: &[u8], name: &str) -> Option<usize>
     ensures { result ≡ spec.row_mark name.now row.now input.now }
 {
@@ -58,7 +58,7 @@ fn row_mark(row: &[Piece], input: &[u8], name: &str) -> Option<usize>
     None
 }
 
-// Whether the row leaves so many bytes.
+// Whether the row leaves exactly `left` bytes.
 fn leaves(left: usize, row: &[Piece], input: &[u8]) -> bool
     ensures { result ≡ spec.leaves left (spec.after_row row.now input.now) }
 {
@@ -68,7 +68,7 @@ fn leaves(left: usize, row: &[Piece], input: &[u8]) -> bool
     }
 }
 
-// The same of the first row that leaves so many bytes.
+// The `row_mark` of the first row that leaves exactly `left` bytes.
 fn rows_mark(rows: &[&[Piece]], left: usize, input: &[u8], name: &str) -> Option<usize>
     ensures { result ≡ spec.rows_mark name.now left (map (λ row. row.now) rows.now) input.now }
 {
@@ -80,14 +80,14 @@ fn rows_mark(rows: &[&[Piece]], left: usize, input: &[u8], name: &str) -> Option
     None
 }
 
-// Of an offset of that kind.
+// The `rows_mark` of an offset of that kind.
 fn offset_mark(kind: ExtendedKind, left: usize, input: &[u8], name: &str) -> Option<usize>
     ensures { result ≡ spec.offset_mark name.now left kind input.now }
 {
     rows_mark(offsets_of(kind), left, input, name)
 }
 
-// Of a time of that kind, which may begin with `T`.
+// The `rows_mark` of a time of that kind, which may begin with `T`.
 fn time_mark(kind: ExtendedKind, left: usize, input: &[u8], name: &str) -> Option<usize>
     ensures { result ≡ spec.time_mark name.now left kind input.now }
 {
@@ -95,7 +95,7 @@ fn time_mark(kind: ExtendedKind, left: usize, input: &[u8], name: &str) -> Optio
     rows_mark(times_of(kind), left, after, name)
 }
 
-// Of a time and an offset after it, or `otherwise` where there is no time.
+// The mark of a time and an offset after it, or `otherwise` if there is no time.
 fn mark_from_time(
     needs_t: bool,
     kind: ExtendedKind,
@@ -117,7 +117,7 @@ fn mark_from_time(
     }
 }
 
-// Of a text without a date.
+// The mark of a text without a date.
 fn mark_without_date(left: usize, input: &[u8], name: &str) -> Option<usize>
     ensures { result ≡ spec.without_date name.now left input.now }
 {
@@ -125,7 +125,7 @@ fn mark_without_date(left: usize, input: &[u8], name: &str) -> Option<usize>
     mark_from_time(false, ExtendedKind::Unknown, left, input, name, offset)
 }
 
-/// How many bytes are left where the component of this name begins in a text of which so many bytes are left unread.
+/// How many bytes are left at the start of the component of this name, in a text that leaves `left` bytes unread.
 pub(crate) fn text_mark(left: usize, input: &[u8], name: &str) -> Option<usize>
     ensures { (r : Record) → result ≡ spec.text_mark greatest_year name.now left input.now r }
 {

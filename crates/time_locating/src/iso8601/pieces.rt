@@ -1,4 +1,4 @@
-//! The pieces of ISO 8601: what is left after each, and what each wants.
+//! The pieces of ISO 8601: the rest after each, and what each expects.
 ghost use Rattle.std.specs.Prelude.{◌≡◌, ◌<◌, option_map, option_and_then};
 ghost use Rattle.std.specs.Option.{option_copied};
 ghost use Rattle.time_readers.specs.IsoPieces.{byte, number, up_to};
@@ -12,7 +12,7 @@ use time_readers::ParsedItem;
 use time_readers::combinator::{ascii_char, sign};
 use time_readers::iso8601::{day, dayk, dayo, float, hour, month, round_fraction, week, year};
 
-// What a piece wants.
+// What a piece expects.
 pub(crate) fn expected_at(piece: Piece) -> Expected<'static>
     ensures { wants result ≡ spec.wanted_at piece }
 {
@@ -35,7 +35,7 @@ pub(crate) fn expected_at(piece: Piece) -> Expected<'static>
     }
 }
 
-// What is left after a piece.
+// The rest after a piece, or `None` if the piece doesn't match.
 #[tactic(auto, using(crate::proofs::IsoLengths::signed))]
 pub(crate) fn past(piece: Piece, input: &[u8]) -> Option<&[u8]>
     ensures { option_copied result ≡ spec.after piece input.now }
@@ -62,14 +62,14 @@ pub(crate) fn past(piece: Piece, input: &[u8]) -> Option<&[u8]>
     }
 }
 
-// What is left after a value.
+// The rest after a value.
 fn past_value<V: Copy>(found: Option<ParsedItem<'_, V>>) -> Option<&[u8]>
     ensures { option_copied result ≡ option_map (λ p. p.0.now) found.entry }
 {
     Some(found?.0)
 }
 
-// What is left after that byte.
+// The rest after that byte.
 #[tactic(auto, using(crate::proofs::IsoLengths::finds_byte))]
 pub(crate) fn past_byte<const C: u8>(input: &[u8]) -> Option<&[u8]>
     ensures { option_copied result ≡ byte C input.now }
@@ -77,7 +77,7 @@ pub(crate) fn past_byte<const C: u8>(input: &[u8]) -> Option<&[u8]>
     past_value(ascii_char::<C>(input))
 }
 
-// What is left after two digits of a number up to the greatest.
+// The rest after two digits whose number is at most `greatest`.
 fn past_digits(greatest: u8, input: &[u8]) -> Option<&[u8]>
     ensures { option_copied result ≡ spec.rest_of (up_to greatest 2 input.now) }
 {
@@ -88,7 +88,7 @@ fn past_digits(greatest: u8, input: &[u8]) -> Option<&[u8]>
     Some(found.0)
 }
 
-// What is left after a number up to the greatest without a fraction.
+// The rest after a number without a fraction, of at most `greatest`.
 fn past_whole(greatest: u8, input: &[u8]) -> Option<&[u8]>
     ensures { option_copied result ≡ option_and_then (whole_up_to greatest) (number input.now) }
 {
@@ -99,7 +99,7 @@ fn past_whole(greatest: u8, input: &[u8]) -> Option<&[u8]>
     Some(found.0)
 }
 
-// What is left after a number up to the greatest with a fraction.
+// The rest after a number with a fraction, whose whole part is at most `greatest`.
 fn past_part(greatest: u8, input: &[u8]) -> Option<&[u8]>
     ensures { option_copied result ≡ option_and_then (part_up_to greatest) (number input.now) }
 {
@@ -110,7 +110,7 @@ fn past_part(greatest: u8, input: &[u8]) -> Option<&[u8]>
     Some(found.0)
 }
 
-// What is left after a second.
+// The rest after a second.
 fn past_second(input: &[u8]) -> Option<&[u8]>
     ensures { option_copied result ≡ option_and_then second_up_to (number input.now) }
 {

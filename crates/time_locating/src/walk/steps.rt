@@ -1,4 +1,4 @@
-//! The walk over the steps of a description that was read from a text.
+//! Walks the steps of a description that was parsed from a text.
 ghost use Rattle.std.specs.Prelude.{◌≡◌, ◌∷◌, ℕ, List, length, MatchOption};
 ghost use Rattle.time_values.specs.Calendar.{greatest_year};
 ghost use Rattle.time_components.specs.Tree as steps_;
@@ -17,7 +17,7 @@ use std::slice;
 use time_components::{Group, Step};
 use time_record::Parsed;
 
-/// Reads the steps in front of the input as a list, as `walk` reads an item.
+/// Reads the steps as a list at the front of the input, and returns what `walk` returns for an item.
 #[cycle(steps)]
 pub(crate) fn walk_list<'a, 'd>(
     steps: &'d [Step],
@@ -51,7 +51,7 @@ pub(crate) fn walk_list<'a, 'd>(
     (Some(rest), furthest, last)
 }
 
-// Reads the first item that reads, and nothing where there are none.
+// Reads the first item that matches, or nothing if there are no items.
 #[cycle(steps)]
 fn walk_first<'a, 'd>(
     steps: &'d [Step],
@@ -153,7 +153,7 @@ fn literal<'a, 'd>(
     }
 }
 
-// What is missed of a literal: its first byte that isn't there, of this one and the further ones in front of the steps.
+// The miss in a literal of this byte and the further ones at the front of the steps: its first byte that isn't there.
 fn missed_in<'d>(byte: &'d u8, steps: &'d [Step], input: &[u8]) -> Option<Miss<'d>>
     ensures { seen_miss result ≡ furthest (literal_misses first_byte (byte.now ∷ steps_.further steps.now) input.now) }
 {
@@ -196,7 +196,7 @@ fn inside(step: &Step, behind: &[Step]) -> usize
     }
 }
 
-// How many further bytes of a literal stand in front of the steps.
+// How many further bytes of a literal are at the front of the steps.
 #[tactic(auto, using(crate::proofs::MissLemmas::other_at))]
 fn more_bytes(steps: &[Step]) -> usize
     ensures { result ≡ length (steps_.further steps.now) }

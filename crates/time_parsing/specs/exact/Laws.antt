@@ -1,4 +1,4 @@
--- A format has one answer to a text over a record, and a direct path one to a text. `Y` is the greatest year.
+-- A format has one answer for a text over a record, and a direct path has one for a text. `Y` is the greatest year.
 use Rattle.std.specs.Prelude.{ℕ}
 use Rattle.std.proofs.Common.{false, None, ◌≡◌, ◌∙◌, sym, ap, List, Option, Some, Result, Ok, Err, true}
 use Rattle.time_values.specs.Calendar.{greatest_year}
@@ -31,7 +31,7 @@ use Rattle.time_parsing.specs.Iso8601.{Reads as Iso8601Reads, Refuses as Iso8601
 use Rattle.time_parsing.specs.Rfc3339.{without_offset_sign, with_leap_second, entries as rfc3339_entries, Reads as Rfc3339Reads, Refuses as Rfc3339Refuses}
 use Rattle.time_parsing.specs.Rfc2822.{entries, Reads as Rfc2822Reads, Refuses as Rfc2822Refuses}
 
--- ---- A description has one answer to a text over a record. `Y` is the greatest year.
+-- ---- A description has one answer for a text over a record. `Y` is the greatest year.
 
 pub tree_exact : (Y : ℕ) (t : Tree) → IsExact (Reads Y t) (Refuses Y t)
 tree_exact Y t = record {
@@ -41,7 +41,7 @@ tree_exact Y t = record {
   not_both = λ b r x p e u v. Reads-unrefused Y t b r x p e u v;
 }
 
--- ---- The direct paths of RFC 3339 and RFC 2822 have one answer to a text
+-- ---- The direct paths of RFC 3339 and RFC 2822 have one answer for a text
 
 pub rfc3339_exact_path :
     IsExactPath greatest_year (direct (RefusesRfc3339 greatest_year)) (Rfc3339.Reads greatest_year)
@@ -67,7 +67,7 @@ rfc2822_exact_path =
           refused,
     )
 
--- ---- ISO 8601 has one answer to a text over a record, since a reading is a function. `Y` is the greatest year.
+-- ---- ISO 8601 has one answer for a text over a record, since a reading is a function. `Y` is the greatest year.
 
 abbrev rest_of : List ℕ → Option (List ℕ × Record) → List ℕ
 rest_of x (Some p) = p.0
@@ -90,7 +90,7 @@ iso8601_exact Y = record {
       let clash : ◌≡◌ {A = Option (List ℕ × Record)} (Some (x, p)) None = sym u ∙ v.0 in cc;
 }
 
--- ---- RFC 2822 has one answer to a text over a record. `Y` is the greatest year.
+-- ---- RFC 2822 has one answer for a text over a record. `Y` is the greatest year.
 
 rfc2822_form : (b : List ℕ) → OneForm (Asks true) places nothing_read b
 rfc2822_form b = one_form (Asks true) (MailAsks-unique true) places nothing_read b
@@ -98,7 +98,7 @@ rfc2822_form b = one_form (Asks true) (MailAsks-unique true) places nothing_read
 same_value : (p q : Record) → Some p ≡ Some q → p ≡ q
 same_value p q same = cc
 
--- one text's numbers are put into a record in one way
+-- storing one text's numbers in a record has one result
 rfc2822_put-unique : (Y : ℕ) (n m : Numbers) (r p q : Record) → n ≡ m
     → put_all Y (entries n) r ≡ Some p → put_all Y (entries m) r ≡ Some q → p ≡ q
 rfc2822_put-unique Y n m r p q same u v =
@@ -114,12 +114,12 @@ rfc2822_exact Y = record {
   not_both = λ b r x p e u v. (rfc2822_form b).never_both x u.0 v.0 u.1 v.1;
 }
 
--- ---- RFC 3339 has one answer to a text over a record. `Y` is the greatest year.
+-- ---- RFC 3339 has one answer for a text over a record. `Y` is the greatest year.
 
 form : (b : List ℕ) → OneForm (Rfc3339Asks true) rfc3339_places rfc3339_nothing_read b
 form b = one_form (Rfc3339Asks true) (Asks-unique true) rfc3339_places rfc3339_nothing_read b
 
--- one text's numbers are put into a record in one way
+-- storing one text's numbers in a record has one result
 put-unique : (Y : ℕ) (n m : Rfc3339Numbers) (k l : Month) (r p q : Record) → n ≡ m
     → month_number k ≡ n.month → month_number l ≡ m.month
     → put_all Y (rfc3339_entries n k) r ≡ Some p → put_all Y (rfc3339_entries m l) r ≡ Some q → p ≡ q

@@ -1,4 +1,4 @@
--- The record of a mail date, over an empty one.
+-- The record of a mail date, parsed over an empty one.
 use Rattle.std.specs.Prelude.{◌≡◌, ℕ, List, [], ◌∷◌, ◌++◌, Some, refl, ◌==◌, if◌then◌else◌, unsigned_abs, is_none, unwrap_or}
 use Rattle.std.proofs.Common.{◌≤◌, pos, Bool, true, false, sym, ap, ◌∙◌, subst, arith, Option, None, Result, Ok, Err, IfSome}
 use Rattle.std.proofs.lemmas.Bool.{le-leb}
@@ -26,14 +26,14 @@ use Rattle.time_parsing.specs.Rfc2822.{entries, weekday_entries, date_entries, s
 use Rattle.time_parsing.specs.Rfc3339.{without_offset_sign, with_leap_second}
 use Rattle.time_parsing.specs.exact.ToldMoment.{Tells, clock_said, accepted_ranges, made-resolves, resolves-made}
 
--- ---- Entries that are all in their ranges, put into a record one after another
+-- ---- Entries that are all in their ranges, stored in a record in turn
 
--- the record with the entries put one after another
+-- the record with the entries stored in turn
 abbrev pub put_each : List Entry → Record → Record
 put_each [] r = r
 put_each (e ∷ es) r = put_each es (put_here e r)
 
--- each value is one that its option may hold
+-- each value is one that its option may have
 abbrev pub AllInRange : ℕ → List Entry → Type 0
 AllInRange Y [] = Unit {0}
 AllInRange Y (e ∷ es) = InRange Y e × AllInRange Y es
@@ -46,7 +46,7 @@ pub in_range-append : (Y : ℕ) (es fs : List Entry) → AllInRange Y es → All
 in_range-append Y [] fs all others = others
 in_range-append Y (e ∷ es) fs (one, all) others = (one, in_range-append Y es fs all others)
 
--- the record with the numbers: a zone name, which has no sign, says also minute and second
+-- the record with the numbers: a zone name, which has no sign, also determines minute and second
 abbrev recorded : Numbers → Record
 recorded n = record (with_leap_second (without_offset_sign empty)) {
   weekday = n.weekday;
@@ -138,7 +138,7 @@ tells n none = record {
   stamp = refl;
 }
 
--- a second that stands is the one that is said
+-- a second, if there is one, is the one in the text
 second_within : (o : Option ℕ) → unwrap_or o 0 ≤ 60 → IfSome o (λ v. (0 ≤ v) × (v ≤ 60))
 second_within None h = tt
 second_within (Some v) h = (omega arith, h)
@@ -147,7 +147,7 @@ second_of : (o : Option ℕ) → IfSome o (λ v. (0 ≤ v) × (v ≤ 60)) → If
 second_of None h = tt
 second_of (Some v) h = h.1
 
--- the ranges of numbers of which a moment is made
+-- the ranges of numbers that form a moment
 in_ranges : (n : Numbers) → first_refusal greatest_year (said_rfc2822 n) ≡ None → InRanges n
 in_ranges n none =
     let a = accepted_ranges (said_rfc2822 n) none in
@@ -182,7 +182,7 @@ month_named : (m : Month) → month_refusal (month_number m) ≡ None
 month_named = each_month (λ m. month_refusal (month_number m) ≡ None)
     (refl, refl, refl, refl, refl, refl, refl, refl, refl, refl, refl, refl)
 
--- and the record's value that of the direct path
+-- the record's value is that of the direct path
 pub record-value : (bytes : List ℕ) (v : OffsetDateTime)
     → IsOutcome (IsMoment greatest_year) (Reads greatest_year) (Refuses greatest_year) bytes empty (Ok v)
     → IsDirectRfc2822 greatest_year bytes v

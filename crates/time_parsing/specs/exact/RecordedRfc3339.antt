@@ -1,4 +1,4 @@
--- The record of a text of RFC 3339, over an empty one.
+-- The record of an RFC 3339 text, parsed over an empty one.
 use Rattle.std.proofs.Common.{◌≡◌, ◌≢◌, ◌≤◌, ℕ, pos, Bool, true, false, refl, sym, ap, ◌∙◌, subst, arith, List, [], Option, Some, None, Result, Ok, Err, IfSome}
 use Rattle.std.specs.Prelude.{◌==◌, ◌++◌, ◌∷◌, if◌then◌else◌, unsigned_abs, nat_le}
 use Rattle.std.proofs.lemmas.Bool.{le-leb}
@@ -24,7 +24,7 @@ use Rattle.time_parsing.specs.Rfc3339.{entries, date_entries, time_entries, subs
 use Rattle.time_parsing.specs.exact.RecordedRfc2822.{AllInRange, put_each, put-each, in_range-append}
 use Rattle.time_parsing.specs.exact.ToldMoment.{Tells, clock_said, accepted_ranges, made-resolves, resolves-made}
 
--- the record with the numbers, of which m is the month
+-- the record with the numbers, whose month is m
 abbrev recorded : Numbers → Month → Record
 recorded n m = record (with_leap_second (without_offset_sign empty)) {
   year = Some (pos n.year);
@@ -102,7 +102,7 @@ tells n m month = record {
   stamp = refl;
 }
 
--- the ranges of numbers of which a moment is made
+-- the ranges of numbers that form a moment
 in_ranges : (n : Numbers) → n.month ≢ 0 → first_refusal greatest_year (said_rfc3339 n) ≡ None
     → n.offset_minute ≤ 59 → InRanges n
 in_ranges n some none minute =
@@ -140,7 +140,7 @@ direct-value bytes v (n, form, last, made) =
       made-resolves (recorded n m) m (said_rfc3339 n) v (tells n m month) refl made,
     )
 
--- and the record's value that of the direct path
+-- the record's value is that of the direct path
 pub record-value : (bytes : List ℕ) (v : OffsetDateTime)
     → IsOutcome (IsMoment greatest_year) (Reads greatest_year) (Refuses greatest_year) bytes empty (Ok v)
     → IsDirectRfc3339 greatest_year bytes v

@@ -1,4 +1,4 @@
--- A record that tells of a moment what a text says of it resolves to that moment.
+-- A record with a text's numbers for a moment resolves to that moment.
 use Rattle.std.proofs.Common.{◌≡◌, ◌≤◌, ℕ, ℤ, pos, refl, sym, ap, ◌∙◌, subst, inl, inr, arith, Option, Some, None, Result, Ok, Err, IsTrue, MatchOption, IsOkAnd}
 use Rattle.std.specs.Prelude.{◌==◌, if◌then◌else◌, unsigned_abs}
 use Rattle.std.proofs.lemmas.Bool.Decides.{nat_tests}
@@ -23,11 +23,11 @@ use Rattle.time_record.specs.Record.{Record}
 use Rattle.time_record.specs.Resolution as Resolution
 use Rattle.time_record.specs.Resolution.{IsConstructed, Clock, clock_of, is_leap_second, stand_in, offset_part, offset_seconds_of, IsDated, IsTimed, IsOffset, IsMomentOfParts, IsStamped, Row, by_month_and_day, first_row, HasRow, IsRowDate}
 
--- what is said of the clock
+-- the clock of a text's numbers
 abbrev pub clock_said : Said → Clock
 clock_said s = record { hour = s.hour; minute = s.minute; second = shown_second s; nanosecond = shown_nanosecond s }
 
--- the record tells what is said, of the month m
+-- the record has the text's numbers, with the month m
 pub record Tells (r : Record) (m : Month) (s : Said) : Type 0 where
   pub row : first_row r ≡ Some (by_month_and_day (pos s.year) m s.day)
   pub month : month_number m ≡ s.month
@@ -38,7 +38,7 @@ pub record Tells (r : Record) (m : Month) (s : Said) : Type 0 where
   pub leap : is_leap_second r ≡ (s.second == 60)
   pub stamp : r.unix_timestamp_nanos ≡ None
 
--- two refusals one after another are none where neither is one
+-- the first of two errors is none only if both are
 or-none : (a b : Option Refusal) → option_or a b ≡ None → (a ≡ None) × (b ≡ None)
 or-none None b e = (refl, e)
 or-none (Some r) b e = absurd (cc)
@@ -49,7 +49,7 @@ leap_told r s same leap = eqb-true s.second 60 (sym same ∙ leap)
 accepted : {V : Type 0} (o : Option Refusal) (P : V → Type 0) (v : V) → o ≡ None → P v → IsConstructed o P (Ok v)
 accepted o P v none is = subst (λ x. IsConstructed x P (Ok v)) (sym none) is
 
--- what is refused nothing
+-- a constructed value had no error
 pub given : {V : Type 0} (o : Option Refusal) (P : V → Type 0) (v : V) → IsConstructed o P (Ok v) → (o ≡ None) × P v
 given None P v h = (refl, h)
 given (Some e) P v h = absurd h
@@ -86,7 +86,7 @@ of_time : (r : Record) (c : Clock) (t : Time) → clock_of r ≡ Some c → IsTi
 unfolding IsTimed
 of_time r c t e h = subst (λ x. TimedBy x t) e h
 
--- the offset of its parts
+-- the offset with these parts
 abbrev OffsetGives : ℤ → ℤ → ℤ → UtcOffset → Type 0
 OffsetGives h m s o = IsConstructed (offset_refusal h m s) (HasOffset h m s) (Ok o)
 
@@ -112,7 +112,7 @@ of_offset r s o hour minute second h =
     (subst (λ x. OffsetGives s.offset_hour x (offset_seconds_of r) o) minute
     (subst (λ x. OffsetBy x (offset_part r r.offset_minute) (offset_seconds_of r) o) hour h))
 
--- no timestamp stands in the way
+-- the record has no timestamp that overrides the parts
 abbrev MomentBy : Option ℤ → Record → OffsetDateTime → Type 0
 MomentBy stamp r v =
     MatchOption stamp (IsMomentOfParts greatest_year r (Ok v))
@@ -168,7 +168,7 @@ made-resolves r m s v t same made =
 Err-Ok : {A : Type 0} (a : A) (e : Refusal) → ◌≡◌ {A = Result A Refusal} (Ok a) (Err e) → ⊥
 Err-Ok a e h = cc
 
--- the ranges of what is refused by none of its parts
+-- the ranges of numbers that no part rejects
 pub record Accepted (s : Said) : Type 0 where
   pub month : s.month ≤ 12
   pub day : (1 ≤ s.day) × (s.day ≤ 31)
@@ -222,7 +222,7 @@ accepted_ranges s none =
       offset_minute = offset.1;
     }
 
--- a date that is there is refused by none of its parts
+-- no part rejects a date that exists
 dated-accepted : (s : Said) (m : Month) (d : Date) → s.year ≤ greatest_year → month_number m ≡ s.month
     → month_refusal s.month ≡ None
     → HasParts (pos s.year) m s.day d → date_refusal greatest_year s ≡ None
@@ -241,7 +241,7 @@ dated-accepted s m d year month named parts =
       le-leb s.day (month_length (pos s.year) s.month) high,
     ) refl
 
--- the parts of a moment of the record are those that are said
+-- the parts of the record's moment are those of the text
 by_parts : (r : Record) (m : Month) (s : Said) (v : OffsetDateTime) → Tells r m s → s.year ≤ greatest_year
     → month_refusal s.month ≡ None
     → IsMomentOfParts greatest_year r (Ok v) → IsMade greatest_year s v

@@ -1,6 +1,6 @@
-//! The commonest texts of ISO 8601, whole and with no record.
+//! The commonest texts of ISO 8601, parsed whole and without a record.
 //!
-//! Each function answers what the text says by the record, or `None`: not this form.
+//! Each function returns the value that parsing over the record would give, or `None`: not this form.
 ghost use Rattle.std.specs.Prelude.{◌≡◌, [], IfSome, Some, Ok};
 ghost use Rattle.time_values.specs.Moments.{plain_date, plain_time};
 ghost use Rattle.time_values.specs.Calendar.{greatest_year};
@@ -18,7 +18,7 @@ use time_readers::iso8601::{
 };
 use time_values::{Date, OffsetDateTime, PlainDateTime, Time, UtcOffset};
 
-// The date and time of a whole text, after which an offset may stand. `None`: not this form.
+// The date and time of a whole text, which may have an offset after them. `None`: not this form.
 #[inline(always)]
 pub(super) fn date_time(input: &[u8]) -> Option<PlainDateTime>
     ensures { IfSome result (λ p. IsOutcome (IsPlain greatest_year) (Reads greatest_year)
@@ -46,8 +46,8 @@ pub(super) fn moment(input: &[u8]) -> Option<OffsetDateTime>
     Some(OffsetDateTime::new_in_offset(plain.date(), plain.time(), offset))
 }
 
-/// The date and time of these numbers. `None`: not this form, as where they say no date of the calendar, or a leap
-/// second.
+/// The date and time of these numbers. `None`: not this form, for example if they are no date of the calendar, or a
+/// leap second.
 #[inline(always)]
 pub fn date_time_of(date: DateNumbers, time: TimeNumbers) -> Option<PlainDateTime>
     ensures { IfSome result (λ p. (iso_date date ≡ date_said (plain_date p)) × (time ≡ time_said (plain_time p))) }
@@ -75,19 +75,19 @@ fn offset_of(numbers: OffsetNumbers) -> Option<UtcOffset>
 }
 
 // The date and the time of a text that looks as if it began with a date of the calendar, whose year has four digits,
-// and a time. `None`: not this form, which is seen before other dates are read.
+// and a time. `None`: not this form, which is found out before other dates are read.
 #[inline(always)]
 fn parts(input: &[u8]) -> Option<DateAndTime<'_>>
     ensures { IfSome result (λ p. GivesDateAndTime input.now (Ok p)) }
 {
     match input {
-        [_, _, _, _, b'-', _, _, b'-', _, _, b'T', ..]
-        | [_, _, _, _, b'0'..=b'1', _, _, _, b'T', ..] => date_and_time(input).ok(),
+        [_, _, _, _, b'-', _, _, b'-', _, ..] | [_, _, _, _, b'0'..=b'1', _, _, _, b'T', ..] =>
+            date_and_time(input).ok(),
         _ => None,
     }
 }
 
-/// The offset of ISO 8601 that is all of the bytes. `None`: not this form.
+/// The ISO 8601 offset that is all of the bytes. `None`: not this form.
 #[inline(always)]
 pub fn offset_to_the_end(input: &[u8], kind: ExtendedKind) -> Option<UtcOffset>
     ensures { IfSome result (λ o. (n : OffsetNumbers_) × (offset_found kind input.now ≡ Some ([], n)) × IsOffsetSaid n o) }

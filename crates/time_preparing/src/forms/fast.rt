@@ -1,6 +1,6 @@
-//! The readers of forms whose parts stand at fixed places.
+//! Parsers of forms whose parts are at fixed places.
 //!
-//! Each answers the numbers and the rest that the form's steps read one after the other, each number in its range, or
+//! Each returns the numbers and the rest that the form's steps parse one after the other, each number in its range, or
 //! `None`: not this form.
 ghost use Rattle.std.specs.Prelude.{◌≡◌, ◌∷◌, ◌++◌, ◌≤◌, IfSome, ℕ, List, false, true, nat_le, pos, unsigned_abs, FitsSigned};
 ghost use Rattle.std.specs.Int.{w8, w32};
@@ -25,7 +25,7 @@ use time_components::component::fast;
 use time_components::{Padding, ParsedItem, SubsecondDigits, modifier};
 use time_values::Month;
 
-/// What stands after this byte. `None`: another byte stands there.
+/// The rest after this byte. `None`: the input doesn't begin with it.
 #[inline(always)]
 pub(crate) fn after(input: &[u8], byte: u8) -> Option<&[u8]>
     ensures { IfSome result (λ rest. input.now ≡ byte ∷ rest.now) }
@@ -36,7 +36,7 @@ pub(crate) fn after(input: &[u8], byte: u8) -> Option<&[u8]>
     }
 }
 
-/// Reads a number in two places: two digits, or what stands for them under the padding. `None`: neither.
+/// Reads a number in two places: two digits, or what the padding allows instead. `None`: neither.
 #[inline(always)]
 pub(crate) fn places(input: &[u8], padding: Padding) -> Option<ParsedItem<'_, u8>>
     ensures { IfSome result (λ found. Cut (IsPaddedRun padding 2 2) input.now found.0.now found.1) }
@@ -62,7 +62,7 @@ fn spaced_digit(input: &[u8]) -> Option<ParsedItem<'_, u8>>
     }
 }
 
-/// Reads a year of four digits, which is one in either range. `None`: not this form.
+/// Reads a year of four digits, which is in either range of years. `None`: not this form.
 #[inline(always)]
 pub(crate) fn year(
     input: &[u8],
@@ -83,7 +83,7 @@ pub(crate) fn year(
     Some(ParsedItem(year.0, year.1 as i32))
 }
 
-/// Reads a month's number. `None`: none stands there.
+/// Reads a month's number. `None`: no such number.
 #[inline(always)]
 pub(crate) fn month_number(
     input: &[u8],
@@ -115,7 +115,7 @@ pub(crate) fn month_name(
     Some(ParsedItem(rest, month))
 }
 
-/// Reads a day. `None`: none stands there.
+/// Reads a day. `None`: no day.
 #[inline(always)]
 pub(crate) fn day(input: &[u8], modifiers: modifier::Day) -> Option<ParsedItem<'_, NonZero<u8>>>
     ensures { IfSome result (λ found. Cut (Spells false (component.Day modifiers))
@@ -125,7 +125,7 @@ pub(crate) fn day(input: &[u8], modifiers: modifier::Day) -> Option<ParsedItem<'
     Some(ParsedItem(day.0, NonZero::<u8>::new(day.1)?))
 }
 
-/// Reads a number in two places. `None`: none stands there.
+/// Reads a number in two places. `None`: no such number.
 #[inline(always)]
 pub(crate) fn two_places(input: &[u8], padding: Padding) -> Option<ParsedItem<'_, u8>>
     ensures { IfSome result (λ found. Cut (Says number (IsPaddedRun padding 2 2))
@@ -135,7 +135,7 @@ pub(crate) fn two_places(input: &[u8], padding: Padding) -> Option<ParsedItem<'_
     Some(found)
 }
 
-/// Reads the minute of an offset, up to 59. `None`: none stands there.
+/// Reads the minute of an offset, up to 59. `None`: no such minute.
 #[inline(always)]
 pub(crate) fn offset_minute(
     input: &[u8],
@@ -229,7 +229,7 @@ pub(crate) fn clock(between: u8, input: &[u8]) -> Option<(ClockNumbers, &[u8])>
     Some((numbers, second.0))
 }
 
-/// What stands after this byte, where there is one. `None`: another byte stands there.
+/// The rest after this byte, or all of the input if no byte is given. `None`: the input doesn't begin with the byte.
 #[inline(always)]
 pub(crate) fn after_byte(input: &[u8], byte: Option<u8>) -> Option<&[u8]>
     ensures { IfSome result (λ rest. input.now ≡ bytes_of byte ++ rest.now) }
@@ -261,7 +261,7 @@ pub(crate) fn offset(between: Option<u8>, input: &[u8]) -> Option<(OffsetNumbers
     Some((numbers, minute.0))
 }
 
-// Whether this byte stands first.
+// Whether the input begins with this byte.
 #[inline(always)]
 fn begins_with(input: &[u8], byte: u8) -> bool
     ensures { result ≡ false → (rest : List ℕ) → input.now ≡ byte ∷ rest → ⊥ }
@@ -272,7 +272,7 @@ fn begins_with(input: &[u8], byte: u8) -> bool
     }
 }
 
-/// The nanoseconds of a fraction after this byte, and the rest. Where that byte doesn't stand there is no fraction.
+/// The nanoseconds of a fraction after this byte, and the rest. Without that byte there is no fraction.
 #[inline(always)]
 pub(crate) fn fraction(input: &[u8], point: u8) -> Option<(Option<u32>, &[u8])>
     ensures reads { IfSome result (λ f. (r : Record) → Reads greatest_year (fraction_tree point)
@@ -289,7 +289,7 @@ pub(crate) fn fraction(input: &[u8], point: u8) -> Option<(Option<u32>, &[u8])>
     Some((Some(fraction.1), fraction.0))
 }
 
-/// A second after this byte with such a fraction, and the rest. Where that byte doesn't stand there is no second.
+/// A second after this byte with its fraction, and the rest. Without that byte there is no second.
 #[inline(always)]
 pub(crate) fn second(
     input: &[u8],

@@ -1,6 +1,6 @@
-//! Whole texts of one form, as values with no record.
+//! Whole texts of one form, parsed as values without a record.
 //!
-//! Each function answers what the text says by the record, or `None`: not this form.
+//! Each function returns the value that parsing over the record would give, or `None`: not this form.
 ghost use Rattle.std.specs.Prelude.{IfSome, Ok};
 ghost use Rattle.time_components.specs.Tree.{steps_shape};
 ghost use Rattle.time_record.specs.Reading.{Reads, Refuses};

@@ -1,7 +1,7 @@
-//! The readers of steps that are read at once.
+//! Parsers of joined steps.
 //!
-//! Each reader answers the rest after what the steps read one after the other, and puts what they put; or it answers
-//! `None`: not this form, and the record is as it was. Then the steps are walked.
+//! Each returns the rest after what the steps parse one after the other, and stores their values. `None`: not this
+//! form, and the record is unchanged; then the steps are walked.
 ghost use Rattle.std.specs.Prelude.{◌≡◌, ◌<◌, ◌≤◌, IfSome, ◌∷◌, ℕ, List, false, Some, None};
 ghost use Rattle.time_values.specs.Calendar.{greatest_year};
 ghost use Rattle.time_components.specs.Tree.{component as component_tree, more, none as none_};
@@ -20,7 +20,7 @@ use time_components::component::parse_period;
 use time_components::{Component, Period, modifier};
 use time_record::Parsed;
 
-// Reads a component. The commonest ones are read with no call.
+// Reads a component. The commonest ones are parsed inline.
 #[inline(always)]
 pub(super) fn component<'a>(
     parsed: &mut Parsed,
@@ -63,7 +63,7 @@ pub(super) fn year<'a>(
     Some(found.0)
 }
 
-// Reads a year of four digits, by a description that takes no year of more.
+// Reads a year of four digits, by a description that accepts no year of more.
 #[inline(always)]
 fn standard_year<'a>(
     parsed: &mut Parsed,
@@ -82,7 +82,7 @@ fn standard_year<'a>(
     Some(found.0)
 }
 
-// Reads a day of the year of three digits.
+// Reads a day of the year, of three digits.
 #[inline(always)]
 fn ordinal<'a>(
     parsed: &mut Parsed,
@@ -112,7 +112,7 @@ pub(super) fn month_name<'a>(
     Some(found.0)
 }
 
-// Reads an hour of a half day.
+// Reads an hour of the 12-hour clock.
 #[inline(always)]
 fn hour_12<'a>(
     parsed: &mut Parsed,
@@ -127,7 +127,7 @@ fn hour_12<'a>(
     Some(found.0)
 }
 
-// Reads the half of a day.
+// Reads the half of a day, AM or PM.
 #[inline(always)]
 fn period<'a>(parsed: &mut Parsed, input: &'a [u8], modifiers: modifier::Period) -> Option<&'a [u8]>
     ensures { MayRead greatest_year (component_tree false (components.Period modifiers))
@@ -138,7 +138,7 @@ fn period<'a>(parsed: &mut Parsed, input: &'a [u8], modifiers: modifier::Period)
     Some(found.0)
 }
 
-// Whether the half of a day begins at noon.
+// Whether the half of a day is PM.
 #[inline(always)]
 fn is_pm(period: Period) -> bool
     ensures { result ≡ is_pm_ period }
@@ -179,7 +179,7 @@ pub(super) fn day<'a>(
     Some(found.0)
 }
 
-// Reads an hour of 24.
+// Reads an hour of the 24-hour clock.
 #[inline(always)]
 pub(super) fn hour_24<'a>(
     parsed: &mut Parsed,
@@ -239,7 +239,7 @@ fn offset_minute<'a>(
     Some(found.0)
 }
 
-// Puts nanoseconds, if there are any.
+// Stores nanoseconds, if there are any.
 #[inline(always)]
 fn put_fraction(parsed: &mut Parsed, fraction: Option<u32>)
     requires { IfSome fraction (λ n. n ≤ 999_999_999) }
@@ -250,7 +250,7 @@ fn put_fraction(parsed: &mut Parsed, fraction: Option<u32>)
     }
 }
 
-// Puts a second with its nanoseconds, if there is one.
+// Stores a second with its nanoseconds, if there is one.
 #[inline(always)]
 fn put_second(parsed: &mut Parsed, second: Option<(u8, Option<u32>)>)
     requires { IfSome second (λ s. (s.0 ≤ 60) × IfSome s.1 (λ n. n ≤ 999_999_999)) }
@@ -262,7 +262,7 @@ fn put_second(parsed: &mut Parsed, second: Option<(u8, Option<u32>)>)
     }
 }
 
-// Reads a fraction that may be missing.
+// Reads an optional fraction.
 #[inline(always)]
 pub(super) fn fraction<'a>(parsed: &mut Parsed, input: &'a [u8], point: u8) -> Option<&'a [u8]>
     ensures { MayReadAll greatest_year (more (fraction_tree point) none_) input.now parsed.old result parsed.new }
@@ -272,7 +272,7 @@ pub(super) fn fraction<'a>(parsed: &mut Parsed, input: &'a [u8], point: u8) -> O
     Some(found.1)
 }
 
-// Reads a second and its fraction that may be missing.
+// Reads an optional second with its optional fraction.
 #[inline(always)]
 pub(super) fn seconds<'a>(
     parsed: &mut Parsed,

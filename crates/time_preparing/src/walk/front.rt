@@ -1,4 +1,4 @@
-//! What is read at once, in turn and as far as it goes: a second root over the readers of single parts.
+//! Joined steps, parsed in turn and as far as they match: a second root over the parsers of single parts.
 ghost use Rattle.std.specs.Prelude.{◌≡◌, ◌<◌, ◌≤◌, IsTrue, MatchOption, take};
 ghost use Rattle.time_values.specs.Calendar.{greatest_year};
 ghost use Rattle.time_record.specs.Reading.{ReadsAll};
@@ -14,18 +14,18 @@ use crate::joined::Joined;
 use time_components::Component;
 use time_record::Parsed;
 
-/// Steps that were read in turn.
+/// Steps that were parsed in turn.
 #[derive(Clone, Copy)]
 pub(super) struct Front<'a> {
-    /// How many.
+    /// How many there are.
     pub count: usize,
-    /// What stands after them.
+    /// The rest after them.
     pub rest: &'a [u8],
-    /// Whether they are all of those that are read at once, and there is one.
+    /// Whether they are all of the joined steps, and there is one at least.
     pub is_all: bool,
 }
 
-/// Reads steps that are read at once, as far as they go. `left` is how many steps there are from here on.
+/// Parses joined steps as far as they match. `left` is how many steps there are from here on.
 #[inline(always)]
 pub(super) fn read<'a>(
     joined: &Joined,
@@ -53,7 +53,7 @@ pub(super) fn read<'a>(
     }
 }
 
-// None of the steps.
+// No step was parsed.
 #[inline(always)]
 fn none(input: &[u8]) -> Front<'_>
     ensures count { result.count ≡ 0 }
@@ -63,7 +63,7 @@ fn none(input: &[u8]) -> Front<'_>
     part(0, input)
 }
 
-// So many steps, which are not all.
+// The first `count` steps were parsed, and there are more.
 #[inline(always)]
 fn part(count: usize, rest: &[u8]) -> Front<'_>
     ensures count { result.count ≡ count }
@@ -77,7 +77,7 @@ fn part(count: usize, rest: &[u8]) -> Front<'_>
     }
 }
 
-// So many steps, or none.
+// All `count` steps were parsed if there is a rest, and otherwise none.
 #[inline(always)]
 fn whole<'a>(count: usize, rest: Option<&'a [u8]>, input: &'a [u8]) -> Front<'a>
     requires { 0 < count }
@@ -96,7 +96,7 @@ fn whole<'a>(count: usize, rest: Option<&'a [u8]>, input: &'a [u8]) -> Front<'a>
     }
 }
 
-// Reads three components in turn with this byte between them, as far as they go.
+// Reads three components in turn with this byte between them, as far as they match.
 macro_rules! three {
     ($parsed:expr, $input:expr, $between:expr, $first:ident $a:ident, $second:ident $b:ident, $third:ident $c:ident) => {{
         let Some(first) = $first($parsed, $input, $a) else {
@@ -122,7 +122,7 @@ macro_rules! three {
     }};
 }
 
-// Reads a year, a month and a day in turn, as far as they go.
+// Reads a year, a month and a day in turn, as far as they match.
 #[inline(always)]
 fn date<'a>(between: u8, parsed: &mut Parsed, input: &'a [u8]) -> Front<'a>
     ensures within { result.count ≤ 5 }
@@ -133,7 +133,7 @@ fn date<'a>(between: u8, parsed: &mut Parsed, input: &'a [u8]) -> Front<'a>
     three!(parsed, input, between, year YEAR, month MONTH, day DAY)
 }
 
-// Reads a day, a month's name and a year in turn, as far as they go.
+// Reads a day, a month's name and a year in turn, as far as they match.
 #[inline(always)]
 fn day_first<'a>(between: u8, parsed: &mut Parsed, input: &'a [u8]) -> Front<'a>
     ensures within { result.count ≤ 5 }
@@ -144,7 +144,7 @@ fn day_first<'a>(between: u8, parsed: &mut Parsed, input: &'a [u8]) -> Front<'a>
     three!(parsed, input, between, day DAY, month_name MONTH_NAME, year YEAR)
 }
 
-// Reads an hour, a minute and a second in turn, as far as they go.
+// Reads an hour, a minute and a second in turn, as far as they match.
 #[inline(always)]
 fn time<'a>(between: u8, parsed: &mut Parsed, input: &'a [u8]) -> Front<'a>
     ensures within { result.count ≤ 5 }
@@ -155,7 +155,7 @@ fn time<'a>(between: u8, parsed: &mut Parsed, input: &'a [u8]) -> Front<'a>
     three!(parsed, input, between, hour_24 HOUR, minute MINUTE, second SECOND)
 }
 
-// Reads a month's name and a day in turn with this byte between them, as far as they go.
+// Reads a month's name and a day in turn with this byte between them, as far as they match.
 #[inline(always)]
 fn month_day<'a>(between: u8, parsed: &mut Parsed, input: &'a [u8]) -> Front<'a>
     ensures within { result.count ≤ 3 }

@@ -1,6 +1,7 @@
-//! Whole texts of one form, read with no record.
+//! Whole texts of one form, parsed without a record.
 //!
-//! `form` answers a form of steps, and each reader the value that the record of the whole text resolves to, or `None`.
+//! `form` returns the form of some steps. Each parser returns the value that the record of the whole text resolves to,
+//! or `None`.
 ghost use Rattle.std.specs.Prelude.{◌≡◌, ◌≤◌, ◌∷◌, ◌++◌, ℕ, pos, IfSome, Ok};
 ghost use Rattle.time_values.specs.Sign.{signed_by};
 ghost use Rattle.time_values.specs.Calendar.{greatest_year};
@@ -26,15 +27,15 @@ use crate::forms::{
 use time_components::{Group, Step};
 use time_values::{Date, OffsetDateTime, PlainDateTime, Time, UtcOffset};
 
-// At least so many bytes has a text of a date, a time and an offset. Where they are there, no reader looks for their ends.
+// The fewest bytes of a date, of a time and of an offset. Checking them first saves each parser a check for the end.
 const DATE_LEN: usize = 10;
 
 const TIME_LEN: usize = 8;
 
 const OFFSET_LEN: usize = 5;
 
-/// The form of the texts that these steps read; where they are a choice that begins with a list, of those that this reads.
-/// `None`: none of the known forms.
+/// The form of the texts that these steps parse. If the steps are a choice that begins with a list, it is the form of
+/// the texts that the list parses. `None`: none of the known forms.
 pub(super) fn whole(steps: &[Step]) -> Option<Whole>
     ensures { IfSome result (λ whole. Leads whole steps.now) }
 {
@@ -50,7 +51,7 @@ pub(super) fn whole(steps: &[Step]) -> Option<Whole>
     }
 }
 
-// The steps of the first list, where all of the steps are a choice that begins with it.
+// The steps of the first list, if all of the steps are a choice that begins with it.
 fn first_list(steps: &[Step]) -> Option<&[Step]>
     ensures { IfSome result (λ list. IsLed list.now steps.now) }
 {
@@ -69,7 +70,7 @@ fn first_list(steps: &[Step]) -> Option<&[Step]>
     Some(first)
 }
 
-// How many steps such a group has.
+// How many steps a group of the wanted kind has.
 fn len_of(step: &Step, wanted: Group) -> Option<usize>
     ensures { IfSome result (λ len. step.now ≡ step_.Group wanted len) }
 {
@@ -106,7 +107,7 @@ fn form(steps: &[Step]) -> Option<Whole>
     plain_form(date, *between, others)
 }
 
-// The form of a date, this byte, and these steps after it.
+// The form of a date, this byte, and the steps after the byte.
 fn plain_form(date: Dated, between: u8, steps: &[Step]) -> Option<Whole>
     ensures { IfSome result (λ whole. dated_parts date ++ step_.Literal between ∷ steps.now ≡ whole_parts whole) }
 {
@@ -184,7 +185,7 @@ fn time_form(steps: &[Step]) -> Option<u8>
     }
 }
 
-// A date of the calendar in front of the input, and the rest.
+// A date of the calendar at the front of the input, and the rest.
 #[inline(always)]
 fn date_of<'a>(form: &Dated, input: &'a [u8]) -> Option<(Date, &'a [u8])>
     ensures { IfSome result (λ f. (r : Record) → ReadsAll greatest_year (leaves (dated_parts form.now))
@@ -197,7 +198,7 @@ fn date_of<'a>(form: &Dated, input: &'a [u8]) -> Option<(Date, &'a [u8])>
     }
 }
 
-// A time of the clock in front of the input, and the rest. A leap second is none.
+// A time of day at the front of the input, and the rest. `None` for a leap second.
 #[inline(always)]
 fn time_of(between: u8, input: &[u8]) -> Option<(Time, &[u8])>
     ensures reads { IfSome result (λ f. (r : Record) → ReadsAll greatest_year (leaves (time_parts between))
@@ -211,7 +212,7 @@ fn time_of(between: u8, input: &[u8]) -> Option<(Time, &[u8])>
     }
 }
 
-// The minute of an offset, negative where a minus stands before it.
+// The minute of an offset, which is negative after a minus sign.
 #[inline(always)]
 fn signed(is_negative: bool, minute: i8) -> i8
     requires { (n : ℕ) × (n ≤ 59) × (minute ≡ pos n) }
@@ -220,7 +221,7 @@ fn signed(is_negative: bool, minute: i8) -> i8
     if is_negative { -minute } else { minute }
 }
 
-// An offset in front of the input, and the rest.
+// An offset at the front of the input, and the rest.
 #[inline(always)]
 fn offset_of(between: Option<u8>, input: &[u8]) -> Option<(UtcOffset, &[u8])>
     ensures { IfSome result (λ f. (numbers : OffsetNumbers) × IsOf numbers f.0
@@ -300,7 +301,7 @@ pub(crate) fn moment(whole: &Whole, input: &[u8]) -> Option<OffsetDateTime>
     if input.len() < DATE_LEN + 1 + TIME_LEN + OFFSET_LEN {
         return None;
     }
-    // The minute of the offset is read last, so that it is looked at first.
+    // The minute of the offset is parsed last, so its form is checked first.
     let [.., b'0'..=b'5', b'0'..=b'9'] = input else {
         return None;
     };

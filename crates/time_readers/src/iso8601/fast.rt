@@ -1,6 +1,6 @@
-//! The commonest dates and times of ISO 8601, many bytes in one step.
+//! The commonest dates and times of ISO 8601, parsed many bytes at once.
 //!
-//! Each reader answers what the root's reader of its parts answers, or `None`: not this form.
+//! Each parser returns what the parent module's parser of these parts returns, or `None` for any other form.
 ghost use Rattle.std.specs.Prelude.{◌≡◌, ℕ, List, IfSome, Ok, ◌≤◌, ◌<◌, Bool, Some, None};
 ghost use Rattle.time_readers.specs.IsoPieces.{GivesPartOrFault, GivesPart, Number, number, byte, plain, fraction};
 ghost use Rattle.time_readers.specs.IsoDates.{AreCalendarDigits, date_text, iso_date};
@@ -20,7 +20,7 @@ pub(super) use dates_and_times::{basic_date_and_time, extended_date_and_time};
 use std::num::NonZero;
 use time_values::Month;
 
-/// The digits of a date of the calendar, by two, what follows the date, and its kind.
+/// The digits of a calendar date in pairs, the bytes after the date, and its kind.
 #[derive(Clone, Copy)]
 pub struct CalendarDigits<'a> {
     /// The first two digits of the year.
@@ -31,13 +31,13 @@ pub struct CalendarDigits<'a> {
     pub month: u8,
     /// The digits of the day.
     pub day: u8,
-    /// What follows the date.
+    /// The bytes after the date.
     pub rest: &'a [u8],
     /// Whether the date has separators.
     pub kind: ExtendedKind,
 }
 
-// A date of the calendar whose year has four digits. `None`: not this form.
+// Parses a calendar date with a year of four digits. `None` for any other form.
 #[inline(always)]
 pub(in crate::iso8601) fn date(input: &[u8]) -> Option<Part<'_, DateNumbers>>
     ensures { IfSome result (λ p. GivesPartOrFault iso_date (date_text input.now) (Ok p)) }
@@ -53,7 +53,7 @@ pub(in crate::iso8601) fn date(input: &[u8]) -> Option<Part<'_, DateNumbers>>
     })
 }
 
-/// The digits of a date with separators. `None`: not this form.
+/// Parses the digits of a calendar date with separators. `None` for any other form.
 #[inline(always)]
 pub fn extended_date(input: &[u8]) -> Option<CalendarDigits<'_>>
     ensures digits { IfSome result (AreCalendarDigits input.now) }
@@ -86,7 +86,7 @@ pub fn extended_date(input: &[u8]) -> Option<CalendarDigits<'_>>
     })
 }
 
-/// The digits of a date without separators. `None`: not this form.
+/// Parses the digits of a calendar date without separators. `None` for any other form.
 #[inline(always)]
 pub fn basic_date(input: &[u8]) -> Option<CalendarDigits<'_>>
     ensures digits { IfSome result (AreCalendarDigits input.now) }
@@ -117,7 +117,7 @@ pub fn basic_date(input: &[u8]) -> Option<CalendarDigits<'_>>
     })
 }
 
-/// The date of these digits. `None`: no month has that number, or the day is 0.
+/// The date of these digits, or `None` if no month has that number or the day is 0.
 #[inline(always)]
 pub fn date_of(digits: CalendarDigits<'_>) -> Option<DateNumbers>
     ensures { (text : List ℕ) → AreCalendarDigits text digits.entry → IfSome result (λ d. date_text text
@@ -140,7 +140,7 @@ pub fn date_of(digits: CalendarDigits<'_>) -> Option<DateNumbers>
     }
 }
 
-// `T`, a whole hour, a whole minute and a second, with separators or without. `None`: not this form.
+// Parses `T`, a whole hour, a whole minute and a second, with separators or without. `None` for any other form.
 #[inline(always)]
 pub(in crate::iso8601) fn time<'a>(
     input: &'a [u8],
@@ -151,7 +151,7 @@ pub(in crate::iso8601) fn time<'a>(
     after_t(byte::<b'T'>(input)?, kind)
 }
 
-// A whole hour, a whole minute and a second, with separators or without. `None`: not this form.
+// Parses a whole hour, a whole minute and a second, with separators or without. `None` for any other form.
 #[inline(always)]
 fn after_t<'a>(input: &'a [u8], kind: ExtendedKind) -> Option<Part<'a, TimeNumbers>>
     ensures { IfSome result (λ p. GivesPart (spec.time_after kind input.now) (Some p)) }
@@ -166,7 +166,7 @@ fn after_t<'a>(input: &'a [u8], kind: ExtendedKind) -> Option<Part<'a, TimeNumbe
     }
 }
 
-// What stands after a whole hour, where it is a whole minute and a second. `None`: not this form.
+// Parses a whole minute and a second after a whole hour. `None` for any other form.
 #[inline(always)]
 fn basic_time<'a>(input: &'a [u8], kind: ExtendedKind, hour: u8) -> Option<Part<'a, TimeNumbers>>
     requires hour { hour ≤ 23 }
@@ -194,7 +194,7 @@ fn basic_time<'a>(input: &'a [u8], kind: ExtendedKind, hour: u8) -> Option<Part<
     })
 }
 
-// What stands after a whole hour and a colon, where it is a whole minute, a colon and a second. `None`: not this form.
+// Parses a whole minute, a colon and a second after a whole hour and a colon. `None` for any other form.
 #[inline(always)]
 fn extended_time<'a>(input: &'a [u8], kind: ExtendedKind, hour: u8) -> Option<Part<'a, TimeNumbers>>
     requires { hour ≤ 23 }
@@ -222,7 +222,7 @@ fn extended_time<'a>(input: &'a [u8], kind: ExtendedKind, hour: u8) -> Option<Pa
     })
 }
 
-// A second of 0 to 60 and its nanoseconds.
+// Parses a second of 0 to 60 and its nanoseconds.
 #[inline(always)]
 pub(super) fn second(input: &[u8]) -> Option<ParsedItem<'_, (u8, u32)>>
     ensures { IfSome result (λ p. (n : Number) × (number input.now ≡ Some (p.0.now, n))
@@ -243,7 +243,7 @@ pub(super) fn second(input: &[u8]) -> Option<ParsedItem<'_, (u8, u32)>>
     rounded_second(input)
 }
 
-// A second of 0 to 60 and a fraction, rounded to nanoseconds.
+// Parses a second of 0 to 60 and a fraction, rounded to nanoseconds.
 #[inline(never)]
 fn rounded_second(input: &[u8]) -> Option<ParsedItem<'_, (u8, u32)>>
     ensures { IfSome result (λ p. (n : Number) × (number input.now ≡ Some (p.0.now, n))
@@ -258,7 +258,7 @@ fn rounded_second(input: &[u8]) -> Option<ParsedItem<'_, (u8, u32)>>
     Some(ParsedItem(found.0, (found.1.0, nanoseconds as u32)))
 }
 
-// Two digits with neither `.` nor `,` after them. `None`: not this form.
+// Parses two digits with neither `.` nor `,` after them. `None` for any other form.
 #[inline(always)]
 fn whole_number(input: &[u8]) -> Option<ParsedItem<'_, u8>>
     ensures { IfSome result (λ p. number input.now ≡ Some (p.0.now, plain p.1)) }
@@ -270,7 +270,7 @@ fn whole_number(input: &[u8]) -> Option<ParsedItem<'_, u8>>
     }
 }
 
-// Two digits and the nanoseconds of a fraction of nine digits. `None`: not this form.
+// Parses two digits and a fraction of nine digits, which are nanoseconds. `None` for any other form.
 #[inline(always)]
 fn nanoseconds(input: &[u8]) -> Option<ParsedItem<'_, (u8, u32)>>
     ensures { IfSome result (λ p. (digits : List ℕ) × (number input.now ≡ Some (p.0.now, fraction p.1.0 digits))

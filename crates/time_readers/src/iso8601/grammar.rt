@@ -1,4 +1,4 @@
-//! The texts of ISO 8601, one piece after another.
+//! The texts of ISO 8601, parsed one piece after another.
 ghost use Rattle.time_readers.specs.IsoTimes.{GivesDateAndTime, IsFloor, IsRounded};
 ghost use Rattle.std.specs.Prelude.{◌≡◌, ◌≤◌, IfSome, ◌<◌};
 ghost use Rattle.time_readers.specs.IsoPieces.{GivesPart, GivesPartOrFault};
@@ -20,7 +20,7 @@ use crate::iso8601::{DateAndTime, DateNumbers, ExtendedKind, OffsetNumbers, Part
 use time_values::error::ParseFromDescription;
 use time_values::sign::signed;
 
-// The date of a text, and the time after it, whose `T` is needed.
+// Parses the date of a text, and the time after it, whose `T` is required.
 #[inline(never)]
 pub(in crate::iso8601) fn date_and_time(
     input: &[u8],
@@ -34,7 +34,7 @@ pub(in crate::iso8601) fn date_and_time(
     })
 }
 
-// The date of a text.
+// Parses the date of a text.
 #[inline(always)]
 #[tactic(auto, unfolding(crate::specs::IsoDates::date_text))]
 pub(in crate::iso8601) fn date(input: &[u8]) -> Result<Part<'_, DateNumbers>, ParseFromDescription>
@@ -63,7 +63,7 @@ pub(in crate::iso8601) fn date(input: &[u8]) -> Result<Part<'_, DateNumbers>, Pa
     }
 }
 
-// The first of the three forms that stands after a year.
+// Parses the first of the three forms that matches after a year.
 #[inline(always)]
 #[tactic(auto, unfolding(crate::specs::IsoDates::forms))]
 fn after_year(
@@ -125,7 +125,7 @@ fn week_and_weekday(
     Ok(ParsedItem(weekday.0, DateNumbers::Week(year, week.1, weekday.1)))
 }
 
-// What follows a `-`, where the text is extended.
+// Parses `-` in an extended text, and nothing in a basic one.
 #[inline(always)]
 fn dash(input: &[u8], is_extended: bool) -> Option<&[u8]>
     ensures { Leaves (spec.dash is_extended input.now) result }
@@ -137,11 +137,13 @@ fn dash(input: &[u8], is_extended: bool) -> Option<&[u8]>
     }
 }
 
-/// Reads the offset of a text of that kind: `Z`, or a sign and two digits of 0 to 25, and a minute.
+/// Parses the offset of a text of that kind: `Z`, or a sign, an hour of two digits from 0 to 25, and a minute.
 ///
-/// Where the text isn't basic and a colon follows, two digits of 0 to 59 have to stand after it. Where none
-/// follows two digits may stand, and if they do they have to be 0 to 59. It refuses by `None`. A colon makes a
-/// text of unknown kind extended, and else the kind is as before.
+/// If the text isn't basic and a colon follows the hour, two digits from 0 to 59 must follow the colon. Otherwise the
+/// minute is optional, and 0 if it is missing; if two digits follow the hour, they must be 0 to 59. A colon makes an
+/// unknown kind extended, and nothing else changes the kind.
+///
+/// Returns `None` for any other text.
 #[inline(always)]
 #[tactic(auto, using(crate::proofs::IsoTimes::offset_by_pieces_is), unfolding(crate::specs::IsoGrammar::offset_by_pieces))]
 pub fn offset(input: &[u8], kind: ExtendedKind) -> Option<Part<'_, OffsetNumbers>>
@@ -169,7 +171,7 @@ pub fn offset(input: &[u8], kind: ExtendedKind) -> Option<Part<'_, OffsetNumbers
     })
 }
 
-// The minute of an offset, 0 if it is missing, and the kind after it.
+// Parses the minute of an offset, 0 if it is missing, and returns the kind after it.
 #[inline(always)]
 #[tactic(auto, unfolding(crate::specs::IsoGrammar::offset_minute))]
 fn offset_minute(input: &[u8], kind: ExtendedKind) -> Option<Part<'_, u8>>
@@ -198,8 +200,9 @@ fn offset_minute(input: &[u8], kind: ExtendedKind) -> Option<Part<'_, u8>>
     })
 }
 
-/// The fraction of a unit, cut to a whole number: of n digits that say w it is the floor of w times the unit
-/// over ten to the n.
+/// The fraction of a unit, truncated to a whole number.
+///
+/// For n digits of value w, it is the floor of w * unit / 10^n.
 ///
 /// `digits` are the bytes `0` to `9` after the point, any number of them, and `unit` is 1 to 3600000000000,
 /// the nanoseconds of an hour.
@@ -213,8 +216,9 @@ pub fn floor_fraction(digits: &[u8], unit: u64) -> u64
     carried(digits, unit)
 }
 
-/// The fraction of a unit, rounded to the nearest whole number, and a half up. It is the unit itself where
-/// the fraction is close to 1.
+/// The fraction of a unit, rounded to the nearest whole number, and a half up.
+///
+/// It is the unit itself if the fraction is close to 1.
 ///
 /// `digits` are the bytes `0` to `9` after the point, any number of them, and `unit` is 1 to 3600000000000,
 /// the nanoseconds of an hour.
@@ -224,11 +228,12 @@ pub fn round_fraction(digits: &[u8], unit: u64) -> u64
     requires most { unit ≤ 3_600_000_000_000 }
     ensures { IsRounded digits.now unit result }
 {
-    // Half up is the floor of the double and one, halved.
+    // Rounding half up is the floor of twice the fraction, plus one, halved.
     (carried(digits, 2 * unit) + 1) / 2
 }
 
-// From the last digit to the first: what the later digits say, cut, is carried to the one before.
+// The fraction of a unit, truncated, from the last digit to the first: the floor of the later digits' fraction is
+// carried to the digit before.
 fn carried(digits: &[u8], unit: u64) -> u64
     requires digits { AllDigits digits.now }
     requires least { 1 ≤ unit }

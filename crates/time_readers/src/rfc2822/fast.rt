@@ -1,6 +1,6 @@
 //! The commonest parts of mail dates, and the commonest blanks between them.
 //!
-//! Each reader answers what the plain reader of the same name answers, or `None`: not this form. No blank and no
+//! Each parser returns what `grammar`'s parser of that name returns, or `None` for any other form. No blank and no
 //! comment begins with a byte above `(`.
 ghost use Rattle.std.specs.Prelude.{IfSome, IsTrue, MatchOption, Some, ◌≡◌, ◌≢◌, ◌<◌, ◌∷◌, [], map, false, unwrap_or};
 ghost use Rattle.time_readers.specs.Block.{AllWithin, pair_at};
@@ -18,12 +18,12 @@ use crate::{ParsedItem, block, component};
 use std::simd::prelude::*;
 use time_values::sign::signed;
 
-// The least and the greatest byte at each of the first sixteen places, as of ` Jan 2021 03:04:`.
+// The least and the greatest value of each of the first sixteen bytes, as of ` Jan 2021 03:04:`.
 const LEAST: [u8; 16] = *b" A\x00\x00 0000 00:00:";
 
 const GREATEST: [u8; 16] = *b" \xff\xff\xff 9999 29:59:";
 
-// Whether the byte is no blank and no carriage return, so that no blank and no fold begins with it.
+// Whether the byte isn't a blank or a carriage return, so that no blank and no fold begins with it.
 #[inline(always)]
 fn ends_blanks(byte: u8) -> bool
     ensures { IsTrue result → (byte ≢ 32) × (byte ≢ 9) × (byte ≢ 13) }
@@ -31,8 +31,8 @@ fn ends_blanks(byte: u8) -> bool
     !matches!(byte, b' ' | b'\t' | b'\r')
 }
 
-// One blank: a space before a byte above it, or a space or tab before a byte that is no blank and no carriage return.
-// `None`: not this form.
+// Parses one blank: a space before a byte above a space, or a space or tab before a byte that isn't a blank or a
+// carriage return. `None` for any other form.
 #[inline(always)]
 pub(super) fn fws(input: &[u8]) -> Option<ParsedItem<'_, ()>>
     ensures { IfSome result (λ p. spec.fws input.now ≡ Some p.0.now) }
@@ -45,7 +45,7 @@ pub(super) fn fws(input: &[u8]) -> Option<ParsedItem<'_, ()>>
     }
 }
 
-// Whether the byte ends blanks and begins no comment, as `(` does.
+// Whether the byte ends blanks and doesn't begin a comment, as `(` does.
 #[inline(always)]
 fn ends_comments(byte: u8) -> bool
     ensures { IsTrue result → (byte ≢ 32) × (byte ≢ 9) × (byte ≢ 13) × (byte ≢ 40) }
@@ -53,8 +53,8 @@ fn ends_comments(byte: u8) -> bool
     !matches!(byte, b' ' | b'\t' | b'\r' | b'(')
 }
 
-// One blank: a space before a byte above `(`, or a space or tab before a byte that is no blank, no carriage return and
-// no `(`. `None`: not this form.
+// Parses one blank: a space before a byte above `(`, or a space or tab before a byte that isn't a blank, a carriage
+// return or `(`. `None` for any other form.
 #[inline(always)]
 pub(super) fn cfws(input: &[u8]) -> Option<ParsedItem<'_, ()>>
     ensures { IfSome result (λ p. spec.cfws input.now ≡ Some p.0.now) }
@@ -67,7 +67,7 @@ pub(super) fn cfws(input: &[u8]) -> Option<ParsedItem<'_, ()>>
     }
 }
 
-// Nothing before a byte above `(` or at the end, or one space before such a byte. `None`: not this form.
+// Parses nothing before a byte above `(` or at the end, or one space before such a byte. `None` for any other form.
 #[inline(always)]
 pub(super) fn opt_cfws(input: &[u8]) -> Option<ParsedItem<'_, ()>>
     ensures { IfSome result (λ p. spec.opt_cfws input.now ≡ Some p.0.now) }
@@ -84,7 +84,7 @@ pub(super) fn opt_cfws(input: &[u8]) -> Option<ParsedItem<'_, ()>>
     Some(ParsedItem(&input[1..], ()))
 }
 
-// A colon, and then a byte above `(`. `None`: not this form.
+// Parses a colon before a byte above `(`. `None` for any other form.
 #[inline(always)]
 pub(super) fn opt_cfws_colon_opt_cfws(input: &[u8]) -> Option<ParsedItem<'_, ()>>
     ensures { IfSome result (λ p. spec.opt_cfws_colon_opt_cfws input.now ≡ Some p.0.now) }
@@ -95,8 +95,9 @@ pub(super) fn opt_cfws_colon_opt_cfws(input: &[u8]) -> Option<ParsedItem<'_, ()>
     }
 }
 
-/// A weekday's name with a capital and two small letters, a comma and one space. `None`: not this form, and the numbers
-/// are as they were.
+/// Parses a weekday's name of a capital and two small letters, a comma and one space.
+///
+/// Returns the rest, or `None` for any other form, with the numbers unchanged.
 #[inline(always)]
 pub fn weekday_name<'a>(input: &'a [u8], numbers: &mut Numbers) -> Option<&'a [u8]>
     ensures { MatchOption result
@@ -111,7 +112,7 @@ pub fn weekday_name<'a>(input: &'a [u8], numbers: &mut Numbers) -> Option<&'a [u
     Some(&input[5..])
 }
 
-// The numbers that the pairs of digits say.
+// The numbers of the pairs of digits.
 #[inline(always)]
 fn pairs(bytes: &[u8; 16]) -> [u8; 4]
     ensures { AllWithin LEAST GREATEST bytes.now → result ≡ map (pair_at bytes.now) (5 ∷ 7 ∷ 10 ∷ 13 ∷ []) }
@@ -122,9 +123,10 @@ fn pairs(bytes: &[u8; 16]) -> [u8; 4]
     (tens * u8x4::splat(10) + ones).to_array()
 }
 
-/// The places from the blanks after the day to those after the second, where each of these is one space: nineteen bytes,
-/// of which the first sixteen are tested together. `None`: not this form, and the numbers are as they were. A second of
-/// 60 is none of them.
+/// Parses the places from the blanks after the day to those after the second, if all blanks are one space.
+///
+/// These are nineteen bytes, the first sixteen tested at once. Returns the rest, or `None` for any other form, with the
+/// numbers unchanged. A second of 60 isn't of this form.
 #[inline(always)]
 pub fn to_offset<'a, const CHECK_RANGES: bool>(
     text: &'a [u8],
@@ -164,7 +166,9 @@ pub fn to_offset<'a, const CHECK_RANGES: bool>(
     Some(&rest[3..])
 }
 
-/// A sign and four digits, after which nothing follows. `None`: not this form, and the numbers are as they were.
+/// Parses a sign and four digits at the end of the input.
+///
+/// Returns the empty rest, or `None` for any other form, with the numbers unchanged.
 #[inline(always)]
 pub fn offset<'a, const CHECK_RANGES: bool>(
     input: &'a [u8],

@@ -1,4 +1,4 @@
-//! The places of a mail date, one after another: what each has to be, and what it says.
+//! The places of a mail date, parsed one after another, each with its form and its number.
 ghost use Rattle.std.specs.Prelude.{◌≡◌, false, option_map};
 ghost use Rattle.std.specs.Option.{option_copied};
 ghost use Rattle.time_readers.specs.MailBlanks as spec;
@@ -17,7 +17,7 @@ use crate::rfc2822::{Numbers, Place, cfws, fws, opt_cfws, opt_cfws_colon_opt_cfw
 use crate::{ParsedItem, modifier};
 use time_values::sign::signed;
 
-// Blanks, and then nothing or a weekday's name, a comma and blanks.
+// Parses blanks, and then nothing or a weekday's name, a comma and blanks.
 #[inline(always)]
 pub(super) fn weekday_name<'a>(input: &'a [u8], numbers: &mut Numbers) -> Option<&'a [u8]>
     ensures { Reads (Asks false place.WeekdayName numbers.old) input.now result numbers.new }
@@ -35,7 +35,7 @@ pub(super) fn weekday_name<'a>(input: &'a [u8], numbers: &mut Numbers) -> Option
     Some(opt_cfws(comma.0).0)
 }
 
-// One or two digits: 1 to 31 where ranges are asked.
+// Parses one or two digits: 1 to 31 with range checks.
 #[inline(always)]
 pub(super) fn day<'a, const CHECK_RANGES: bool>(
     input: &'a [u8],
@@ -51,7 +51,7 @@ pub(super) fn day<'a, const CHECK_RANGES: bool>(
     Some(found.0)
 }
 
-// The places from after the day to the offset.
+// Parses the places after the day, up to the offset.
 #[inline(always)]
 pub(super) fn to_offset<'a, const CHECK_RANGES: bool>(
     input: &'a [u8],
@@ -91,7 +91,7 @@ fn time<'a, const CHECK_RANGES: bool>(
     blanks_with_comments(rest).ok_or(Place::TimeBlanks)
 }
 
-// The places of the offset.
+// Parses the places of the offset.
 #[inline]
 pub(super) fn offset<'a, const CHECK_RANGES: bool>(
     input: &'a [u8],
@@ -104,7 +104,7 @@ pub(super) fn offset<'a, const CHECK_RANGES: bool>(
     end_blanks(rest).ok_or(Place::EndBlanks)
 }
 
-// The rest of what was found, which has no value.
+// The rest alone, without the empty value.
 #[inline(always)]
 fn rest_of(answer: Option<ParsedItem<'_, ()>>) -> Option<&[u8]>
     ensures { option_copied result ≡ option_map (λ p. p.0.now) answer.entry }
@@ -115,7 +115,7 @@ fn rest_of(answer: Option<ParsedItem<'_, ()>>) -> Option<&[u8]>
     }
 }
 
-// Blanks with comments.
+// Parses blanks and comments.
 #[inline(always)]
 fn blanks_with_comments(input: &[u8]) -> Option<&[u8]>
     ensures { (n : Numbers) → Reads (IsSilent spec.cfws n) input.now result n }
@@ -123,7 +123,7 @@ fn blanks_with_comments(input: &[u8]) -> Option<&[u8]>
     rest_of(cfws(input))
 }
 
-// The first three letters of a month's name, in any case.
+// Parses the first three letters of a month's name, in any case.
 #[inline(always)]
 fn month_name<'a>(input: &'a [u8], numbers: &mut Numbers) -> Option<&'a [u8]>
     ensures { Reads (Asks false place.MonthName numbers.old) input.now result numbers.new }
@@ -136,8 +136,8 @@ fn month_name<'a>(input: &'a [u8], numbers: &mut Numbers) -> Option<&'a [u8]>
     Some(found.0)
 }
 
-// Four digits of 1900 or later, or where four don't stand two, of which those below 50 are years from 2000 on
-// and the others from 1900 on.
+// Parses four digits of 1900 or later; or, without four digits, two: 00 to 49 as 2000 to 2049, and 50 to 99 as 1950 to
+// 1999.
 #[inline(always)]
 fn year<'a>(input: &'a [u8], numbers: &mut Numbers) -> Option<&'a [u8]>
     ensures { Reads (Asks false place.Year numbers.old) input.now result numbers.new }
@@ -157,7 +157,7 @@ fn year<'a>(input: &'a [u8], numbers: &mut Numbers) -> Option<&'a [u8]>
     Some(short.0)
 }
 
-// Blanks, without comments after a year of four digits.
+// Parses blanks, without comments after a year of four digits.
 #[inline(always)]
 fn year_blanks(input: &[u8], year_is_full: bool) -> Option<&[u8]>
     ensures { (n : Numbers) → Reads (IsSilent (Rfc2822.year_blanks year_is_full) n) input.now result n }
@@ -169,7 +169,7 @@ fn year_blanks(input: &[u8], year_is_full: bool) -> Option<&[u8]>
     }
 }
 
-// Two digits: 0 to 23 where ranges are asked.
+// Parses two digits: 0 to 23 with range checks.
 #[inline(always)]
 fn hour<'a, const CHECK_RANGES: bool>(input: &'a [u8], numbers: &mut Numbers) -> Option<&'a [u8]>
     ensures { Reads (Asks CHECK_RANGES place.Hour numbers.old) input.now result numbers.new }
@@ -179,7 +179,7 @@ fn hour<'a, const CHECK_RANGES: bool>(input: &'a [u8], numbers: &mut Numbers) ->
     Some(found.0)
 }
 
-// A colon between blanks.
+// Parses a colon between optional blanks and comments.
 #[inline(always)]
 fn hour_colon(input: &[u8]) -> Option<&[u8]>
     ensures { (n : Numbers) → Reads (IsSilent spec.opt_cfws_colon_opt_cfws n) input.now result n }
@@ -187,7 +187,7 @@ fn hour_colon(input: &[u8]) -> Option<&[u8]>
     rest_of(opt_cfws_colon_opt_cfws(input))
 }
 
-// Two digits: 0 to 59 where ranges are asked.
+// Parses two digits: 0 to 59 with range checks.
 #[inline(always)]
 fn minute<'a, const CHECK_RANGES: bool>(input: &'a [u8], numbers: &mut Numbers) -> Option<&'a [u8]>
     ensures { Reads (Asks CHECK_RANGES place.Minute numbers.old) input.now result numbers.new }
@@ -197,7 +197,7 @@ fn minute<'a, const CHECK_RANGES: bool>(input: &'a [u8], numbers: &mut Numbers) 
     Some(found.0)
 }
 
-// Nothing where no colon stands, or a colon with blanks and two digits: 0 to 60 where ranges are asked.
+// Parses nothing if there is no colon, or a colon with blanks and two digits: 0 to 60 with range checks.
 #[inline(always)]
 fn second<'a, const CHECK_RANGES: bool>(input: &'a [u8], numbers: &mut Numbers) -> Option<&'a [u8]>
     ensures { Reads (Asks CHECK_RANGES place.Second numbers.old) input.now result numbers.new }
@@ -211,7 +211,7 @@ fn second<'a, const CHECK_RANGES: bool>(input: &'a [u8], numbers: &mut Numbers) 
     Some(found.0)
 }
 
-// A sign and two digits: 0 to 25 where ranges are asked; or a zone name, with which no sign begins.
+// Parses a sign and two digits, 0 to 25 with range checks; or a zone name. No zone name begins with a sign.
 #[inline(always)]
 fn offset_hour<'a, const CHECK_RANGES: bool>(
     input: &'a [u8],
@@ -231,7 +231,7 @@ fn offset_hour<'a, const CHECK_RANGES: bool>(
     Some(found.0)
 }
 
-// Two digits after a signed hour, 0 to 59 where ranges are asked, and nothing after a zone name.
+// Parses two digits after a signed hour, 0 to 59 with range checks, and nothing after a zone name.
 #[inline(always)]
 fn offset_minute<'a, const CHECK_RANGES: bool>(
     input: &'a [u8],
@@ -247,7 +247,7 @@ fn offset_minute<'a, const CHECK_RANGES: bool>(
     Some(found.0)
 }
 
-// Blanks or nothing.
+// Parses blanks and comments, or nothing.
 #[inline(always)]
 fn end_blanks(input: &[u8]) -> Option<&[u8]>
     ensures { (n : Numbers) → Reads (IsSilent spec.opt_cfws n) input.now result n }

@@ -1,4 +1,4 @@
-//! A record with one more component: `Some` where the value is in range, and else `None`.
+//! Builders: each returns a record with one more component, or `None` if the value is out of range.
 ghost use Rattle.std.specs.Prelude.{◌≡◌, pos};
 ghost use Rattle.std.specs.Int.NonZero.{non_zero_u8_get, non_zero_u16_get};
 ghost use Rattle.time_values.specs.Calendar.{greatest_year};
@@ -9,7 +9,7 @@ use std::num::NonZero;
 use time_values::{Month, Weekday};
 
 impl Parsed {
-    /// With the calendar year, from -999999 to 999999. `None` outside.
+    /// Sets the calendar year, from -999999 to 999999. `None` if out of range.
     #[inline]
     pub fn with_year(mut self, value: i32) -> Option<Parsed>
         ensures { result ≡ put greatest_year (year_is value) self }
@@ -18,8 +18,8 @@ impl Parsed {
         Some(self)
     }
 
-    /// With the calendar year without its last two digits, from -9999 to 9999, negative by its sign,
-    /// and for a 0 by `is_negative`. `None` outside the range.
+    /// Sets the calendar year without its last two digits, from -9999 to 9999. It is negative by its sign, and a 0 is
+    /// if `is_negative`. `None` if out of range.
     #[inline]
     pub fn with_year_century(mut self, value: i16, is_negative: bool) -> Option<Parsed>
         ensures { result ≡ put greatest_year (year_century_is value is_negative) self }
@@ -28,7 +28,7 @@ impl Parsed {
         Some(self)
     }
 
-    /// With the last two digits of the calendar year, from 0 to 99. `None` outside.
+    /// Sets the last two digits of the calendar year, from 0 to 99. `None` if out of range.
     #[inline]
     pub fn with_year_last_two(mut self, value: u8) -> Option<Parsed>
         ensures { result ≡ put greatest_year (year_last_two_is value) self }
@@ -37,7 +37,7 @@ impl Parsed {
         Some(self)
     }
 
-    /// With the year of the ISO 8601 week date, from -999999 to 999999. `None` outside.
+    /// Sets the year of the ISO 8601 week date, from -999999 to 999999. `None` if out of range.
     #[inline]
     pub fn with_iso_year(mut self, value: i32) -> Option<Parsed>
         ensures { result ≡ put greatest_year (iso_year_is value) self }
@@ -46,8 +46,8 @@ impl Parsed {
         Some(self)
     }
 
-    /// With the year of the ISO 8601 week date without its last two digits, from -9999 to 9999,
-    /// negative by its sign, and for a 0 by `is_negative`. `None` outside the range.
+    /// Sets the year of the ISO 8601 week date without its last two digits, from -9999 to 9999. It is negative by its
+    /// sign, and a 0 is if `is_negative`. `None` if out of range.
     #[inline]
     pub fn with_iso_year_century(mut self, value: i16, is_negative: bool) -> Option<Parsed>
         ensures { result ≡ put greatest_year (iso_year_century_is value is_negative) self }
@@ -56,8 +56,7 @@ impl Parsed {
         Some(self)
     }
 
-    /// With the last two digits of the year of the ISO 8601 week date, from 0 to 99. `None`
-    /// outside.
+    /// Sets the last two digits of the year of the ISO 8601 week date, from 0 to 99. `None` if out of range.
     #[inline]
     pub fn with_iso_year_last_two(mut self, value: u8) -> Option<Parsed>
         ensures { result ≡ put greatest_year (iso_year_last_two_is value) self }
@@ -66,7 +65,7 @@ impl Parsed {
         Some(self)
     }
 
-    /// With the month of the year; never refuses.
+    /// Sets the month of the year; never returns `None`.
     #[inline]
     pub fn with_month(mut self, value: Month) -> Option<Parsed>
         ensures { result ≡ put greatest_year (month_is value) self }
@@ -75,8 +74,7 @@ impl Parsed {
         Some(self)
     }
 
-    /// With the week of the year, where week 1 begins on the first Sunday, from 0 to 53. `None`
-    /// outside.
+    /// Sets the week of the year, from 0 to 53, where week 1 begins on the first Sunday. `None` if out of range.
     #[inline]
     pub fn with_sunday_week_number(mut self, value: u8) -> Option<Parsed>
         ensures { result ≡ put greatest_year (sunday_week_number_is value) self }
@@ -85,8 +83,7 @@ impl Parsed {
         Some(self)
     }
 
-    /// With the week of the year, where week 1 begins on the first Monday, from 0 to 53. `None`
-    /// outside.
+    /// Sets the week of the year, from 0 to 53, where week 1 begins on the first Monday. `None` if out of range.
     #[inline]
     pub fn with_monday_week_number(mut self, value: u8) -> Option<Parsed>
         ensures { result ≡ put greatest_year (monday_week_number_is value) self }
@@ -95,8 +92,7 @@ impl Parsed {
         Some(self)
     }
 
-    /// With the week of the ISO 8601 week date, where week 1 holds 4 January, from 1 to 53. `None`
-    /// outside.
+    /// Sets the week of the ISO 8601 week date, from 1 to 53, where week 1 contains 4 January. `None` if out of range.
     #[inline]
     pub fn with_iso_week_number(mut self, value: NonZero<u8>) -> Option<Parsed>
         ensures { result ≡ put greatest_year (iso_week_number_is (non_zero_u8_get value)) self }
@@ -105,7 +101,7 @@ impl Parsed {
         Some(self)
     }
 
-    /// With the day of the week; never refuses.
+    /// Sets the day of the week; never returns `None`.
     #[inline]
     pub fn with_weekday(mut self, value: Weekday) -> Option<Parsed>
         ensures { result ≡ put greatest_year (weekday_is value) self }
@@ -114,7 +110,7 @@ impl Parsed {
         Some(self)
     }
 
-    /// With the day of the year, from 1 to 366. `None` outside.
+    /// Sets the day of the year, from 1 to 366. `None` if out of range.
     #[inline]
     pub fn with_ordinal(mut self, value: NonZero<u16>) -> Option<Parsed>
         ensures { result ≡ put greatest_year (ordinal_is (non_zero_u16_get value)) self }
@@ -123,7 +119,7 @@ impl Parsed {
         Some(self)
     }
 
-    /// With the day of the month, from 1 to 31. `None` outside.
+    /// Sets the day of the month, from 1 to 31. `None` if out of range.
     #[inline]
     pub fn with_day(mut self, value: NonZero<u8>) -> Option<Parsed>
         ensures { result ≡ put greatest_year (day_is (non_zero_u8_get value)) self }
@@ -132,7 +128,7 @@ impl Parsed {
         Some(self)
     }
 
-    /// With the hour of the day, from 0 to 23. `None` outside.
+    /// Sets the hour of the day, from 0 to 23. `None` if out of range.
     #[inline]
     pub fn with_hour_24(mut self, value: u8) -> Option<Parsed>
         ensures { result ≡ put greatest_year (hour_24_is value) self }
@@ -141,7 +137,7 @@ impl Parsed {
         Some(self)
     }
 
-    /// With the hour of the half day, where 12 comes before 1, from 1 to 12. `None` outside.
+    /// Sets the hour of the half day, from 1 to 12, where 12 comes before 1. `None` if out of range.
     #[inline]
     pub fn with_hour_12(mut self, value: NonZero<u8>) -> Option<Parsed>
         ensures { result ≡ put greatest_year (hour_12_is (non_zero_u8_get value)) self }
@@ -150,7 +146,7 @@ impl Parsed {
         Some(self)
     }
 
-    /// With whether `hour_12` lies in the second half of the day; never refuses.
+    /// Sets whether `hour_12` lies in the second half of the day; never returns `None`.
     #[inline]
     pub fn with_hour_12_is_pm(mut self, value: bool) -> Option<Parsed>
         ensures { result ≡ put greatest_year (hour_12_is_pm_is value) self }
@@ -159,7 +155,7 @@ impl Parsed {
         Some(self)
     }
 
-    /// With the minute of the hour, from 0 to 59. `None` outside.
+    /// Sets the minute of the hour, from 0 to 59. `None` if out of range.
     #[inline]
     pub fn with_minute(mut self, value: u8) -> Option<Parsed>
         ensures { result ≡ put greatest_year (minute_is value) self }
@@ -168,7 +164,7 @@ impl Parsed {
         Some(self)
     }
 
-    /// With the second of the minute, from 0 to 60, where 60 is a leap second. `None` outside.
+    /// Sets the second of the minute, from 0 to 60, where 60 is a leap second. `None` if out of range.
     #[inline]
     pub fn with_second(mut self, value: u8) -> Option<Parsed>
         ensures { result ≡ put greatest_year (second_is value) self }
@@ -177,7 +173,7 @@ impl Parsed {
         Some(self)
     }
 
-    /// With the nanoseconds of the second, from 0 to 999999999. `None` outside.
+    /// Sets the nanoseconds of the second, from 0 to 999999999. `None` if out of range.
     #[inline]
     pub fn with_subsecond(mut self, value: u32) -> Option<Parsed>
         ensures { result ≡ put greatest_year (subsecond_is value) self }
@@ -186,7 +182,7 @@ impl Parsed {
         Some(self)
     }
 
-    /// With the whole hours of the offset from UTC, from -25 to 25. `None` outside.
+    /// Sets the whole hours of the offset from UTC, from -25 to 25. `None` if out of range.
     #[inline]
     pub fn with_offset_hour(mut self, value: i8) -> Option<Parsed>
         ensures { result ≡ put greatest_year (offset_hour_is value) self }
@@ -195,7 +191,7 @@ impl Parsed {
         Some(self)
     }
 
-    /// With the minutes of the offset from UTC as a positive number, from 0 to 59. `None` outside.
+    /// Sets the minutes of the offset from UTC to a positive number, from 0 to 59. `None` if out of range.
     #[deprecated(note = "`with_offset_minute_signed` takes a sign")]
     #[inline]
     pub fn with_offset_minute(mut self, value: u8) -> Option<Parsed>
@@ -205,7 +201,7 @@ impl Parsed {
         Some(self)
     }
 
-    /// With the minutes of the offset from UTC, from -59 to 59. `None` outside.
+    /// Sets the minutes of the offset from UTC, from -59 to 59. `None` if out of range.
     #[inline]
     pub fn with_offset_minute_signed(mut self, value: i8) -> Option<Parsed>
         ensures { result ≡ put greatest_year (offset_minute_is value) self }
@@ -214,7 +210,7 @@ impl Parsed {
         Some(self)
     }
 
-    /// With the seconds of the offset from UTC as a positive number, from 0 to 59. `None` outside.
+    /// Sets the seconds of the offset from UTC to a positive number, from 0 to 59. `None` if out of range.
     #[deprecated(note = "`with_offset_second_signed` takes a sign")]
     #[inline]
     pub fn with_offset_second(mut self, value: u8) -> Option<Parsed>
@@ -224,7 +220,7 @@ impl Parsed {
         Some(self)
     }
 
-    /// With the seconds of the offset from UTC, from -59 to 59. `None` outside.
+    /// Sets the seconds of the offset from UTC, from -59 to 59. `None` if out of range.
     #[inline]
     pub fn with_offset_second_signed(mut self, value: i8) -> Option<Parsed>
         ensures { result ≡ put greatest_year (offset_second_is value) self }
@@ -233,8 +229,8 @@ impl Parsed {
         Some(self)
     }
 
-    /// With the nanoseconds since 1970-01-01T00:00:00Z, from -31619087596800000000000 to
-    /// 31494784780799999999999. `None` outside.
+    /// Sets the nanoseconds since 1970-01-01T00:00:00Z, from -31619087596800000000000 to 31494784780799999999999.
+    /// `None` if out of range.
     #[inline]
     pub fn with_unix_timestamp_nanos(mut self, value: i128) -> Option<Parsed>
         ensures { result ≡ put greatest_year (unix_timestamp_nanos_is value) self }

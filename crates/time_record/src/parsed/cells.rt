@@ -1,8 +1,8 @@
-//! The options of a record in a mask and rows of cells.
+//! Stores the options of a record in a mask and rows of cells.
 //!
-//! Bits 0 to 22 of the mask say which of the 23 options are there, and bits 23 to 26 are the four
-//! flags. The value of option i is cell i: 0 to 15 are bytes, 16 to 18 shorts, 19 to 21 words, and
-//! 22 is the timestamp. The cell of an option that is not there holds 0.
+//! Bits 0 to 22 of the mask mark which of the 23 options are set, and bits 23 to 26 are the four flags. Cell i has the
+//! value of option i: 0 to 15 are bytes, 16 to 18 shorts, 19 to 21 words, and 22 is the timestamp. The cell of an
+//! option that isn't set contains 0.
 ghost use Rattle.std.specs.Prelude.{◌≡◌, true, false, ◌≤◌, ◌<◌, ◌^◌, ◌&&◌, ℕ, IfSome};
 ghost use Rattle.time_values.specs.Calendar.{greatest_year};
 ghost use Rattle.time_record.specs.Record.{InRange, unix_timestamp_nanos_is};
@@ -98,7 +98,7 @@ fn without_bit(mask: u32, index: usize) -> u32
     mask & !(1 << index)
 }
 
-// The mask with a bit set so.
+// The mask with a bit set or cleared, by a flag.
 #[inline]
 fn with_flag(mask: u32, index: usize, on: bool) -> u32
     requires in_mask { index < 27 }
@@ -114,7 +114,7 @@ fn with_flag(mask: u32, index: usize, on: bool) -> u32
 }
 
 impl Parsed {
-    // Whether the options of these three cells are there, all by one test.
+    // Whether the options of these three cells are set, by one test.
     #[inline]
     pub(super) fn has(&self, first: usize, second: usize, third: usize) -> bool
         requires first { first < 27 }
@@ -126,7 +126,7 @@ impl Parsed {
         self.mask & cells == cells
     }
 
-    // The value of a byte's cell, where its option is there.
+    // The value of a byte's cell, if its option is set.
     #[inline]
     pub(super) fn byte(&self, index: usize) -> Option<i8>
         requires in_cells { index < 16 }
@@ -140,7 +140,7 @@ impl Parsed {
         }
     }
 
-    // Puts a value into a byte's cell.
+    // Stores a value in a byte's cell.
     #[inline]
     pub(super) fn put_byte(&mut self, index: usize, value: i8)
         requires in_cells { index < 16 }
@@ -151,7 +151,7 @@ impl Parsed {
         self.bytes[index] = value;
     }
 
-    // The value of a short's cell, where its option is there.
+    // The value of a short's cell, if its option is set.
     #[inline]
     pub(super) fn short(&self, index: usize) -> Option<i16>
         requires past { 16 ≤ index }
@@ -166,7 +166,7 @@ impl Parsed {
         }
     }
 
-    // Puts a value into a short's cell.
+    // Stores a value in a short's cell.
     #[inline]
     pub(super) fn put_short(&mut self, index: usize, value: i16)
         requires past { 16 ≤ index }
@@ -178,7 +178,7 @@ impl Parsed {
         self.shorts[index - 16] = value;
     }
 
-    // The value of a word's cell, where its option is there.
+    // The value of a word's cell, if its option is set.
     #[inline]
     pub(super) fn word(&self, index: usize) -> Option<i32>
         requires past { 19 ≤ index }
@@ -193,7 +193,7 @@ impl Parsed {
         }
     }
 
-    // Puts a value into a word's cell.
+    // Stores a value in a word's cell.
     #[inline]
     pub(super) fn put_word(&mut self, index: usize, value: i32)
         requires past { 19 ≤ index }
@@ -205,7 +205,7 @@ impl Parsed {
         self.words[index - 19] = value;
     }
 
-    // The timestamp, where it is there.
+    // The timestamp, if it is set.
     #[inline]
     pub(super) fn stamp(&self) -> Option<i128>
         ensures value { result ≡ self.now.unix_timestamp_nanos }
@@ -219,7 +219,7 @@ impl Parsed {
         }
     }
 
-    // Puts a timestamp.
+    // Stores a timestamp.
     #[inline]
     pub(super) fn put_stamp(&mut self, value: i128)
         requires { InRange greatest_year (unix_timestamp_nanos_is value) }
@@ -229,7 +229,7 @@ impl Parsed {
         self.stamp = value;
     }
 
-    // A flag, or whether the option of a cell is there.
+    // Whether a flag, or the option of a cell, is set.
     #[inline]
     pub(super) fn flag(&self, index: usize) -> bool
         requires in_mask { index < 27 }

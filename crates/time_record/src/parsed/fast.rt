@@ -1,7 +1,7 @@
-//! The components and literals that most lists are made of, read with no call.
+//! Parses the components and literals that most lists consist of, without a call.
 //!
-//! Each reader reads what the item's plain reader reads, and puts what that one puts; or it returns `None`: it is another
-//! item, and nothing is read.
+//! Each function parses as the item's plain parser does, and stores the value that it stores. Or it returns `None`: the
+//! item is another one, and nothing is parsed.
 ghost use Rattle.std.specs.Prelude.{false, true};
 ghost use Rattle.time_values.specs.Calendar.{greatest_year};
 ghost use Rattle.time_components.specs.Tree as tree;
@@ -12,8 +12,8 @@ use crate::Parsed;
 use time_components::Component;
 use time_components::component::fast;
 
-/// Reads one of the commonest components, and puts its value. `Some(None)` is a refusal. `None`: it isn't one of them,
-/// and nothing is read.
+/// Parses one of the commonest components, and stores its value. `Some(None)` is an error. `None`: it is another
+/// component, and nothing is parsed.
 #[inline(always)]
 pub(crate) fn component<'a>(
     parsed: &mut Parsed,
@@ -53,7 +53,7 @@ pub(crate) fn component<'a>(
     }
 }
 
-/// The same where an `Ignore` has to end between characters, which is none of them.
+/// Parses one of the commonest components, if an `Ignore` has to end between characters. None of them is an `Ignore`.
 #[inline(always)]
 pub(crate) fn whole_component<'a>(
     parsed: &mut Parsed,
@@ -68,7 +68,8 @@ pub(crate) fn whole_component<'a>(
     }
 }
 
-/// Reads a literal of one byte. `Some(None)` is a refusal. `None`: it has more or none, and nothing is read.
+/// Parses a literal of one byte. `Some(None)` is an error. `None`: the literal has no byte or several, and nothing is
+/// parsed.
 #[inline(always)]
 pub(crate) fn literal<'a>(input: &'a [u8], literal: &[u8]) -> Option<Option<&'a [u8]>>
     ensures { (r : Record) → MayAttempt greatest_year (tree.literal literal.now) input.now r result r }

@@ -1,4 +1,4 @@
-//! What is known of each component; `None` where nothing is.
+//! Getters: each returns a component, or `None` if it isn't known.
 ghost use Rattle.std.specs.Prelude.{◌≡◌, ◌≤◌, ◌≤ℤ◌, pos, false, IfSome, unsigned_abs};
 ghost use Rattle.std.specs.Option.{option_map};
 ghost use Rattle.std.specs.Int.NonZero.{non_zero_u8_get, non_zero_u16_get};
@@ -29,7 +29,7 @@ impl Parsed {
 
     /// The calendar year without its last two digits, from -9999 to 9999.
     ///
-    /// A 0 has no sign here: `year_century_is_negative` tells it.
+    /// A 0 has no sign here: `year_century_is_negative` returns it.
     #[inline]
     pub fn year_century(&self) -> Option<i16>
         ensures value { result ≡ self.now.year_century }
@@ -38,7 +38,7 @@ impl Parsed {
         self.short(YEAR_CENTURY)
     }
 
-    /// Whether the century is negative, -0 included; `None` where no century is known.
+    /// Whether the century is negative, -0 included; `None` if no century is known.
     #[inline]
     pub fn year_century_is_negative(&self) -> Option<bool>
         ensures { result ≡ option_map (λ _. self.now.year_century_is_negative)
@@ -68,7 +68,7 @@ impl Parsed {
 
     /// The year of the ISO 8601 week date without its last two digits, from -9999 to 9999.
     ///
-    /// A 0 has no sign here: `iso_year_century_is_negative` tells it.
+    /// A 0 has no sign here: `iso_year_century_is_negative` returns it.
     #[inline]
     pub fn iso_year_century(&self) -> Option<i16>
         ensures value { result ≡ self.now.iso_year_century }
@@ -78,7 +78,7 @@ impl Parsed {
         self.short(ISO_YEAR_CENTURY)
     }
 
-    /// Whether the ISO century is negative, -0 included; `None` where no ISO century is known.
+    /// Whether the ISO century is negative, -0 included; `None` if no ISO century is known.
     #[inline]
     pub fn iso_year_century_is_negative(&self) -> Option<bool>
         ensures { result ≡ option_map (λ _. self.now.iso_year_century_is_negative)
@@ -105,7 +105,7 @@ impl Parsed {
         Some(Month::at(self.byte(MONTH)? as u8))
     }
 
-    /// The week of the year, where week 1 begins on the first Sunday, from 0 to 53.
+    /// The week of the year, from 0 to 53, where week 1 begins on the first Sunday.
     #[inline]
     pub fn sunday_week_number(&self) -> Option<u8>
         ensures value { result ≡ self.now.sunday_week_number }
@@ -114,7 +114,7 @@ impl Parsed {
         Some(self.byte(SUNDAY_WEEK_NUMBER)? as u8)
     }
 
-    /// The week of the year, where week 1 begins on the first Monday, from 0 to 53.
+    /// The week of the year, from 0 to 53, where week 1 begins on the first Monday.
     #[inline]
     pub fn monday_week_number(&self) -> Option<u8>
         ensures value { result ≡ self.now.monday_week_number }
@@ -123,7 +123,7 @@ impl Parsed {
         Some(self.byte(MONDAY_WEEK_NUMBER)? as u8)
     }
 
-    /// The week of the ISO 8601 week date, where week 1 holds 4 January, from 1 to 53.
+    /// The week of the ISO 8601 week date, from 1 to 53, where week 1 contains 4 January.
     #[inline]
     pub fn iso_week_number(&self) -> Option<NonZero<u8>>
         ensures value { option_map non_zero_u8_get result ≡ self.now.iso_week_number }
@@ -169,7 +169,7 @@ impl Parsed {
         Some(self.byte(HOUR_24)? as u8)
     }
 
-    /// The hour of the half day, where 12 comes before 1, from 1 to 12.
+    /// The hour of the half day, from 1 to 12, where 12 comes before 1.
     #[inline]
     pub fn hour_12(&self) -> Option<NonZero<u8>>
         ensures value { option_map non_zero_u8_get result ≡ self.now.hour_12 }
@@ -236,8 +236,8 @@ impl Parsed {
         }
     }
 
-    /// The minutes of the offset from UTC, from -59 to 59: the stored number, negated where the
-    /// offset's hour was read with a minus.
+    /// The minutes of the offset from UTC, from -59 to 59: the stored number, negated if the offset's hour was parsed
+    /// with a minus.
     #[inline]
     pub fn offset_minute_signed(&self) -> Option<i8>
         ensures value { result ≡ option_map (signed_by self.now.offset_is_negative)
@@ -265,8 +265,8 @@ impl Parsed {
         }
     }
 
-    /// The seconds of the offset from UTC, from -59 to 59: the stored number, negated where the
-    /// offset's hour was read with a minus.
+    /// The seconds of the offset from UTC, from -59 to 59: the stored number, negated if the offset's hour was parsed
+    /// with a minus.
     #[inline]
     pub fn offset_second_signed(&self) -> Option<i8>
         ensures value { result ≡ option_map (signed_by self.now.offset_is_negative)

@@ -1,4 +1,5 @@
-//! A known value for each component: `Some` where it is in range, and else `None`, nothing changed.
+//! Setters: each stores one component and returns `Some`, or returns `None` and changes nothing if the value is out of
+//! range.
 ghost use Rattle.std.specs.Prelude.{◌≡◌, pos};
 ghost use Rattle.std.specs.Int.NonZero.{non_zero_u8_get, non_zero_u16_get};
 ghost use Rattle.time_values.specs.Calendar.{greatest_year};
@@ -15,7 +16,7 @@ use std::num::NonZero;
 use time_values::{MAX_YEAR, Month, Timestamp, Weekday};
 
 impl Parsed {
-    /// Sets the calendar year, from -999999 to 999999. `None` and unchanged outside.
+    /// Sets the calendar year, from -999999 to 999999. If out of range, returns `None` and changes nothing.
     #[inline]
     pub fn set_year(&mut self, value: i32) -> Option<()>
         ensures { Sets (put greatest_year (year_is value) self.old) self.old result self.new }
@@ -27,9 +28,8 @@ impl Parsed {
         Some(())
     }
 
-    /// Sets the calendar year without its last two digits, from -9999 to 9999, and whether it is
-    /// negative: by its sign, and for a 0 by `is_negative`. `None` and unchanged outside the
-    /// range.
+    /// Sets the calendar year without its last two digits, from -9999 to 9999, and whether it is negative: by its sign,
+    /// and for a 0 by `is_negative`. If out of range, returns `None` and changes nothing.
     #[inline]
     pub fn set_year_century(&mut self, value: i16, is_negative: bool) -> Option<()>
         ensures { Sets (put greatest_year (year_century_is value is_negative) self.old)
@@ -44,7 +44,8 @@ impl Parsed {
         Some(())
     }
 
-    /// Sets the last two digits of the calendar year, from 0 to 99. `None` and unchanged outside.
+    /// Sets the last two digits of the calendar year, from 0 to 99. If out of range, returns `None` and changes
+    /// nothing.
     #[inline]
     pub fn set_year_last_two(&mut self, value: u8) -> Option<()>
         ensures { Sets (put greatest_year (year_last_two_is value) self.old)
@@ -57,8 +58,8 @@ impl Parsed {
         Some(())
     }
 
-    /// Sets the year of the ISO 8601 week date, from -999999 to 999999. `None` and unchanged
-    /// outside.
+    /// Sets the year of the ISO 8601 week date, from -999999 to 999999. If out of range, returns `None` and changes
+    /// nothing.
     #[inline]
     pub fn set_iso_year(&mut self, value: i32) -> Option<()>
         ensures { Sets (put greatest_year (iso_year_is value) self.old) self.old result self.new }
@@ -70,9 +71,8 @@ impl Parsed {
         Some(())
     }
 
-    /// Sets the year of the ISO 8601 week date without its last two digits, from -9999 to 9999, and
-    /// whether it is negative: by its sign, and for a 0 by `is_negative`. `None` and unchanged
-    /// outside the range.
+    /// Sets the year of the ISO 8601 week date without its last two digits, from -9999 to 9999, and whether it is
+    /// negative: by its sign, and for a 0 by `is_negative`. If out of range, returns `None` and changes nothing.
     #[inline]
     pub fn set_iso_year_century(&mut self, value: i16, is_negative: bool) -> Option<()>
         ensures { Sets (put greatest_year (iso_year_century_is value is_negative) self.old)
@@ -87,8 +87,8 @@ impl Parsed {
         Some(())
     }
 
-    /// Sets the last two digits of the year of the ISO 8601 week date, from 0 to 99. `None` and
-    /// unchanged outside.
+    /// Sets the last two digits of the year of the ISO 8601 week date, from 0 to 99. If out of range, returns `None`
+    /// and changes nothing.
     #[inline]
     pub fn set_iso_year_last_two(&mut self, value: u8) -> Option<()>
         ensures { Sets (put greatest_year (iso_year_last_two_is value) self.old)
@@ -101,7 +101,7 @@ impl Parsed {
         Some(())
     }
 
-    /// Sets the month of the year; never refuses.
+    /// Sets the month of the year; never returns `None`.
     #[inline]
     pub fn set_month(&mut self, value: Month) -> Option<()>
         ensures { Sets (put greatest_year (month_is value) self.old) self.old result self.new }
@@ -110,8 +110,8 @@ impl Parsed {
         Some(())
     }
 
-    /// Sets the week of the year, where week 1 begins on the first Sunday, from 0 to 53. `None`
-    /// and unchanged outside.
+    /// Sets the week of the year, from 0 to 53, where week 1 begins on the first Sunday. If out of range, returns
+    /// `None` and changes nothing.
     #[inline]
     pub fn set_sunday_week_number(&mut self, value: u8) -> Option<()>
         ensures { Sets (put greatest_year (sunday_week_number_is value) self.old)
@@ -124,8 +124,8 @@ impl Parsed {
         Some(())
     }
 
-    /// Sets the week of the year, where week 1 begins on the first Monday, from 0 to 53. `None`
-    /// and unchanged outside.
+    /// Sets the week of the year, from 0 to 53, where week 1 begins on the first Monday. If out of range, returns
+    /// `None` and changes nothing.
     #[inline]
     pub fn set_monday_week_number(&mut self, value: u8) -> Option<()>
         ensures { Sets (put greatest_year (monday_week_number_is value) self.old)
@@ -138,8 +138,8 @@ impl Parsed {
         Some(())
     }
 
-    /// Sets the week of the ISO 8601 week date, where week 1 holds 4 January, from 1 to 53. `None`
-    /// and unchanged outside.
+    /// Sets the week of the ISO 8601 week date, from 1 to 53, where week 1 contains 4 January. If out of range, returns
+    /// `None` and changes nothing.
     #[inline]
     pub fn set_iso_week_number(&mut self, value: NonZero<u8>) -> Option<()>
         ensures { Sets (put greatest_year (iso_week_number_is (non_zero_u8_get value)) self.old)
@@ -152,7 +152,7 @@ impl Parsed {
         Some(())
     }
 
-    /// Sets the day of the week; never refuses.
+    /// Sets the day of the week; never returns `None`.
     #[inline]
     pub fn set_weekday(&mut self, value: Weekday) -> Option<()>
         ensures { Sets (put greatest_year (weekday_is value) self.old) self.old result self.new }
@@ -161,7 +161,7 @@ impl Parsed {
         Some(())
     }
 
-    /// Sets the day of the year, from 1 to 366. `None` and unchanged outside.
+    /// Sets the day of the year, from 1 to 366. If out of range, returns `None` and changes nothing.
     #[inline]
     pub fn set_ordinal(&mut self, value: NonZero<u16>) -> Option<()>
         ensures { Sets (put greatest_year (ordinal_is (non_zero_u16_get value)) self.old)
@@ -174,7 +174,7 @@ impl Parsed {
         Some(())
     }
 
-    /// Sets the day of the month, from 1 to 31. `None` and unchanged outside.
+    /// Sets the day of the month, from 1 to 31. If out of range, returns `None` and changes nothing.
     #[inline]
     pub fn set_day(&mut self, value: NonZero<u8>) -> Option<()>
         ensures { Sets (put greatest_year (day_is (non_zero_u8_get value)) self.old)
@@ -187,7 +187,7 @@ impl Parsed {
         Some(())
     }
 
-    /// Sets the hour of the day, from 0 to 23. `None` and unchanged outside.
+    /// Sets the hour of the day, from 0 to 23. If out of range, returns `None` and changes nothing.
     #[inline]
     pub fn set_hour_24(&mut self, value: u8) -> Option<()>
         ensures { Sets (put greatest_year (hour_24_is value) self.old) self.old result self.new }
@@ -199,8 +199,8 @@ impl Parsed {
         Some(())
     }
 
-    /// Sets the hour of the half day, where 12 comes before 1, from 1 to 12. `None` and unchanged
-    /// outside.
+    /// Sets the hour of the half day, from 1 to 12, where 12 comes before 1. If out of range, returns `None` and
+    /// changes nothing.
     #[inline]
     pub fn set_hour_12(&mut self, value: NonZero<u8>) -> Option<()>
         ensures { Sets (put greatest_year (hour_12_is (non_zero_u8_get value)) self.old)
@@ -213,7 +213,7 @@ impl Parsed {
         Some(())
     }
 
-    /// Sets whether `hour_12` lies in the second half of the day; never refuses.
+    /// Sets whether `hour_12` lies in the second half of the day; never returns `None`.
     #[inline]
     pub fn set_hour_12_is_pm(&mut self, value: bool) -> Option<()>
         ensures { Sets (put greatest_year (hour_12_is_pm_is value) self.old)
@@ -223,7 +223,7 @@ impl Parsed {
         Some(())
     }
 
-    /// Sets the minute of the hour, from 0 to 59. `None` and unchanged outside.
+    /// Sets the minute of the hour, from 0 to 59. If out of range, returns `None` and changes nothing.
     #[inline]
     pub fn set_minute(&mut self, value: u8) -> Option<()>
         ensures { Sets (put greatest_year (minute_is value) self.old) self.old result self.new }
@@ -235,8 +235,8 @@ impl Parsed {
         Some(())
     }
 
-    /// Sets the second of the minute, from 0 to 60, where 60 is a leap second. `None` and
-    /// unchanged outside.
+    /// Sets the second of the minute, from 0 to 60, where 60 is a leap second. If out of range, returns `None` and
+    /// changes nothing.
     #[inline]
     pub fn set_second(&mut self, value: u8) -> Option<()>
         ensures { Sets (put greatest_year (second_is value) self.old) self.old result self.new }
@@ -248,7 +248,7 @@ impl Parsed {
         Some(())
     }
 
-    /// Sets the nanoseconds of the second, from 0 to 999999999. `None` and unchanged outside.
+    /// Sets the nanoseconds of the second, from 0 to 999999999. If out of range, returns `None` and changes nothing.
     #[inline]
     pub fn set_subsecond(&mut self, value: u32) -> Option<()>
         ensures { Sets (put greatest_year (subsecond_is value) self.old) self.old result self.new }
@@ -260,8 +260,8 @@ impl Parsed {
         Some(())
     }
 
-    /// Sets the whole hours of the offset from UTC, from -25 to 25. `None` and unchanged outside.
-    /// The flag of a negative offset is unchanged.
+    /// Sets the whole hours of the offset from UTC, from -25 to 25. If out of range, returns `None` and changes
+    /// nothing. The flag of a negative offset is unchanged.
     #[inline]
     pub fn set_offset_hour(&mut self, value: i8) -> Option<()>
         ensures { Sets (put greatest_year (offset_hour_is value) self.old)
@@ -274,8 +274,8 @@ impl Parsed {
         Some(())
     }
 
-    /// Sets the minutes of the offset from UTC to a positive number, from 0 to 59. `None` and
-    /// unchanged outside.
+    /// Sets the minutes of the offset from UTC to a positive number, from 0 to 59. If out of range, returns `None` and
+    /// changes nothing.
     #[deprecated(note = "`set_offset_minute_signed` takes a sign")]
     #[inline]
     pub fn set_offset_minute(&mut self, value: u8) -> Option<()>
@@ -288,7 +288,7 @@ impl Parsed {
         self.set_offset_minute_signed(value as i8)
     }
 
-    /// Sets the minutes of the offset from UTC, from -59 to 59. `None` and unchanged outside.
+    /// Sets the minutes of the offset from UTC, from -59 to 59. If out of range, returns `None` and changes nothing.
     #[inline]
     pub fn set_offset_minute_signed(&mut self, value: i8) -> Option<()>
         ensures { Sets (put greatest_year (offset_minute_is value) self.old)
@@ -301,8 +301,8 @@ impl Parsed {
         Some(())
     }
 
-    /// Sets the seconds of the offset from UTC to a positive number, from 0 to 59. `None` and
-    /// unchanged outside.
+    /// Sets the seconds of the offset from UTC to a positive number, from 0 to 59. If out of range, returns `None` and
+    /// changes nothing.
     #[deprecated(note = "`set_offset_second_signed` takes a sign")]
     #[inline]
     pub fn set_offset_second(&mut self, value: u8) -> Option<()>
@@ -315,7 +315,7 @@ impl Parsed {
         self.set_offset_second_signed(value as i8)
     }
 
-    /// Sets the seconds of the offset from UTC, from -59 to 59. `None` and unchanged outside.
+    /// Sets the seconds of the offset from UTC, from -59 to 59. If out of range, returns `None` and changes nothing.
     #[inline]
     pub fn set_offset_second_signed(&mut self, value: i8) -> Option<()>
         ensures { Sets (put greatest_year (offset_second_is value) self.old)
@@ -328,8 +328,8 @@ impl Parsed {
         Some(())
     }
 
-    /// Sets the nanoseconds since 1970-01-01T00:00:00Z, from -31619087596800000000000 to
-    /// 31494784780799999999999. `None` and unchanged outside.
+    /// Sets the nanoseconds since 1970-01-01T00:00:00Z, from -31619087596800000000000 to 31494784780799999999999. If
+    /// out of range, returns `None` and changes nothing.
     #[inline]
     pub fn set_unix_timestamp_nanos(&mut self, value: i128) -> Option<()>
         ensures { Sets (put greatest_year (unix_timestamp_nanos_is value) self.old)

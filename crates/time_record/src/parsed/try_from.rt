@@ -1,4 +1,4 @@
-//! The values that a record makes, by a fixed precedence of its components.
+//! Converts a record to values, by a fixed precedence of its components.
 mod date;
 mod fast;
 mod offset_date_time;
@@ -28,7 +28,7 @@ fn date_of(parsed: &Parsed) -> Result<Date, TryFromParsed>
     }
 }
 
-/// The date and the time of the record, with their refusals, the date's first.
+/// The date and the time of the record, or the first error of the two, the date's first.
 impl TryFrom<Parsed> for PlainDateTime {
     type Error = TryFromParsed;
 
@@ -43,11 +43,11 @@ impl TryFrom<Parsed> for PlainDateTime {
     }
 }
 
-/// The moment of the timestamp, at offset 0 and with a known subsecond in place of its own, or
-/// else the date, time and offset of the record, with their refusals in that order.
+/// The moment of the timestamp, at offset 0 and with a known subsecond in place of its own. Or else that of the date,
+/// time and offset of the record, or the first error of these, in that order.
 ///
-/// A leap second that is allowed counts as the last nanosecond before it, and is refused as
-/// `second`, for the other components, where that is no month's end in UTC.
+/// A leap second that is allowed counts as the last nanosecond before it. If that isn't a month's end in UTC, an error
+/// names `second` as conditional on other components.
 impl TryFrom<Parsed> for OffsetDateTime {
     type Error = TryFromParsed;
 

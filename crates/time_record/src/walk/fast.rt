@@ -1,4 +1,4 @@
-//! A leaf in front of a list, read with no call.
+//! Parses a leaf at the start of a list, without a call.
 ghost use Rattle.std.specs.Prelude.{◌≡◌, ◌∷◌, [], IfSome};
 ghost use Rattle.time_values.specs.Calendar.{greatest_year};
 ghost use Rattle.time_components.specs.Tree.{further, node_tree, steps_after, steps_trees, tree_at, literal};
@@ -10,8 +10,8 @@ use crate::Parsed;
 use crate::parsed::fast;
 use time_components::{Inspect, Node, Step};
 
-/// Reads an item that has nothing inside it, and returns the rest that the walk would. `Some(None)` is a refusal. `None`:
-/// it is another item, and nothing is read.
+/// Parses a leaf, and returns the rest that the walk would return. `Some(None)` is an error. `None`: the item is no
+/// such leaf, and nothing is parsed.
 #[inline(always)]
 pub(super) fn leaf<'a, I: Inspect>(
     node: Node<'_, I>,
@@ -29,8 +29,8 @@ pub(super) fn leaf<'a, I: Inspect>(
     }
 }
 
-/// Reads an item of one step, which has nothing inside it, and returns the rest that the walk would. `Some(None)` is a
-/// refusal. `None`: it is another item, and nothing is read.
+/// Parses a leaf of one step, and returns the rest that the walk would return. `Some(None)` is an error. `None`: the
+/// item is no such leaf, and nothing is parsed.
 #[inline(always)]
 pub(super) fn step<'a>(
     step: &Step,
@@ -49,7 +49,7 @@ pub(super) fn step<'a>(
     }
 }
 
-// Reads a literal of one byte. `Some(None)` is a refusal. `None`: it has more, and nothing is read.
+// Parses a literal of one byte. `Some(None)` is an error. `None`: the literal has several bytes, and nothing is parsed.
 #[inline(always)]
 fn only_byte<'a>(byte: u8, behind: &[Step], input: &'a [u8]) -> Option<Option<&'a [u8]>>
     ensures read { (r : Record) → MayAttempt greatest_year (literal (byte ∷ further behind.now)) input.now r result r }

@@ -1,4 +1,4 @@
-//! The walk over the steps of a description that was read from a text, a second root over the short cuts of leaves.
+//! Walks over the steps of a description that was parsed from a text, a second root over the short cuts of leaves.
 ghost use Rattle.std.specs.Prelude.{◌≡◌, ◌≢◌, ◌-◌, ◌≤◌, ◌++◌, ◌∷◌, [], ℕ, List, Ok, IfSome, length, drop, MatchOption};
 ghost use Rattle.time_values.specs.Calendar.{greatest_year};
 ghost use Rattle.time_values.specs.Refusal.{refusal_of_description};
@@ -15,8 +15,8 @@ use crate::{Parsed, Tries};
 use time_components::{Group, Step};
 use time_values::error::ParseFromDescription;
 
-/// Reads the steps in front of the input as a list, and counts it and the items inside it that are begun. Where one
-/// choice is all of the list, it needs no loop, and no copy of the record.
+/// Parses the steps at the start of the input as a list, and counts it and the items inside it that are visited. If one
+/// choice is the whole list, this needs no loop, and no copy of the record.
 #[inline(always)]
 pub fn walk_steps<'a>(
     steps: &[Step],
@@ -29,7 +29,7 @@ pub fn walk_steps<'a>(
 {
     match steps {
         [Step::Group(Group::First, len), choices @ ..] if *len >= choices.len() => {
-            // The list, and the choice in it.
+            // One for the list, and one for the choice in it.
             tries.add(2);
             walk_first(choices, parsed, input, tries)
         }
@@ -37,7 +37,7 @@ pub fn walk_steps<'a>(
     }
 }
 
-/// Reads the steps in front of the input as a list, and counts it and the items inside it that are begun.
+/// Parses the steps at the start of the input as a list, and counts it and the items inside it that are visited.
 #[cycle(steps)]
 pub fn walk_list<'a>(
     steps: &[Step],
@@ -77,9 +77,9 @@ pub fn walk_list<'a>(
     }
 }
 
-// Reads items of one step one after the other, each at most once. Returns the steps from the first item on that is not
-// read, the rest in front of it, and its fault if it is a leaf that is refused. No walk is called in this loop, so it keeps
-// no room for a walk's result.
+// Parses items of one step one after the other, each at most once. Returns the steps from the first item on that isn't
+// parsed, the rest at that item, and its error if it is a leaf that doesn't match. No walk is called in this loop, so
+// it needs no room for a walk's result.
 #[inline(always)]
 fn read_steps<'s, 'a>(
     steps: &'s [Step],
@@ -105,7 +105,7 @@ fn read_steps<'s, 'a>(
     (left, rest, None)
 }
 
-// The fault of an item of one step, which has nothing inside it and is refused.
+// The error of a leaf of one step that doesn't match.
 #[inline(always)]
 fn step_fault(step: &Step) -> ParseFromDescription
     ensures { (behind : List Step) → refusal_of_description result ≡ leaf_refusal (tree_at steps_trees step.now behind) }
@@ -116,8 +116,8 @@ fn step_fault(step: &Step) -> ParseFromDescription
     }
 }
 
-// Reads the item of a step, with those behind it that belong to it. By `Ok(..?)` a result is handed on in parts, and not
-// kept in memory for its callers.
+// Parses the item of a step, with the steps after it that belong to it. With `Ok(..?)` a result is returned in parts,
+// instead of being stored in memory for the callers.
 #[cycle(steps)]
 #[inline(always)]
 fn walk_item<'a>(
@@ -146,7 +146,7 @@ fn walk_item<'a>(
     }
 }
 
-// Reads a group of these steps.
+// Parses a group of these steps.
 #[cycle(steps)]
 #[inline(always)]
 fn walk_group<'a>(
@@ -174,7 +174,7 @@ fn walk_group<'a>(
     }
 }
 
-// Reads steps that may be missing, and answers the rest.
+// Parses optional steps, and returns the rest.
 #[cycle(steps)]
 #[inline(always)]
 #[tactic(auto, unfolding(crate::specs::Reading::Reads))]
@@ -193,7 +193,7 @@ fn walk_optional<'a>(
     }
 }
 
-// Reads the first item that reads. Where none does, the fault is the first one's.
+// Parses the first item that matches. If none does, returns the first one's error.
 #[cycle(steps)]
 fn walk_first<'a>(
     steps: &[Step],
@@ -221,7 +221,7 @@ fn walk_first<'a>(
     Err(first_fault)
 }
 
-// The steps behind those that belong to a step.
+// The steps after those that belong to a step.
 #[inline(always)]
 fn steps_after<'s>(step: &Step, behind: &'s [Step]) -> &'s [Step]
     ensures after { result.now ≡ steps_.steps_after step.now behind.now }
@@ -237,8 +237,8 @@ fn steps_after<'s>(step: &Step, behind: &'s [Step]) -> &'s [Step]
     }
 }
 
-// The further byte of a literal in front of the steps, if there is one, and the steps after it. This is no second way of
-// reading.
+// The further byte of a literal at the start of the steps, if there is one, and the steps after it.
+// This is no second way of reading.
 #[inline(always)]
 pub(super) fn further_byte(steps: &[Step]) -> Option<(u8, &[Step])>
     ensures { MatchOption result (steps_.further steps.now ≡ []) (λ x. IsFurther x.0 x.1.now steps.now) }
@@ -252,7 +252,7 @@ pub(super) fn further_byte(steps: &[Step]) -> Option<(u8, &[Step])>
     }
 }
 
-// The steps behind the further bytes of a literal.
+// The steps after the further bytes of a literal.
 fn after_further(steps: &[Step]) -> &[Step]
     ensures after { result.now ≡ drop (length (steps_.further steps.now)) steps.now }
     ensures fewer { length result.now ≤ length steps.now }
@@ -264,7 +264,7 @@ fn after_further(steps: &[Step]) -> &[Step]
     left
 }
 
-// Reads a literal of this byte and the further ones in front of the steps.
+// Parses a literal of this byte and the further bytes at the start of the steps.
 fn read_literal<'a>(
     first: u8,
     steps: &[Step],
@@ -284,7 +284,7 @@ fn read_literal<'a>(
     }
 }
 
-// What stands behind the further bytes of a literal in front of the input.
+// The rest of the input after the further bytes of a literal.
 fn after_bytes<'a>(steps: &[Step], input: &'a [u8]) -> Option<&'a [u8]>
     ensures { MatchOption result ((x : List ℕ) → input.now ≢ steps_.further steps.now ++ x)
         (λ rest. input.now ≡ steps_.further steps.now ++ rest.now) }

@@ -1,4 +1,4 @@
-//! The parts of a date-time with an offset.
+//! Parts of a date-time with an offset.
 ghost use Rattle.std.specs.Prelude.{◌≡◌};
 ghost use Rattle.time_values.specs.Dates as Dates;
 ghost use Rattle.time_values.specs.Moments.{offset_date, offset_time};
@@ -30,7 +30,7 @@ impl OffsetDateTime {
         self.date().day()
     }
 
-    /// The place of the day in its year on the clock, 1 to 366.
+    /// The day of the year on the clock, 1 to 366.
     pub fn ordinal(self) -> u16
         ensures { result ≡ Dates.ordinal (offset_date self) }
     {
@@ -51,7 +51,7 @@ impl OffsetDateTime {
         self.date().to_calendar_date()
     }
 
-    /// The year and the place of the day in it on the clock.
+    /// The year and the day of the year on the clock.
     pub fn to_ordinal_date(self) -> (i32, u16)
         ensures year { result.0 ≡ Dates.year (offset_date self) }
         ensures ordinal { result.1 ≡ Dates.ordinal (offset_date self) }

@@ -1,4 +1,4 @@
-//! The parts of a date-time without an offset.
+//! Parts of a date-time without an offset.
 ghost use Rattle.std.specs.Prelude.{◌≡◌};
 ghost use Rattle.time_values.specs.Dates as Dates;
 ghost use Rattle.time_values.specs.Moments.{plain_date, plain_time};
@@ -30,7 +30,7 @@ impl PlainDateTime {
         self.date().day()
     }
 
-    /// The place of the day in its year, 1 to 366.
+    /// The day of the year, 1 to 366.
     pub fn ordinal(self) -> u16
         ensures { result ≡ Dates.ordinal (plain_date self) }
     {
@@ -51,7 +51,7 @@ impl PlainDateTime {
         self.date().to_calendar_date()
     }
 
-    /// The year and the place of the day in it.
+    /// The year and the day of the year.
     pub fn to_ordinal_date(self) -> (i32, u16)
         ensures year { result.0 ≡ Dates.year (plain_date self) }
         ensures ordinal { result.1 ≡ Dates.ordinal (plain_date self) }

@@ -1,4 +1,4 @@
-//! The parts of a date-time in UTC.
+//! Parts of a date-time in UTC.
 ghost use Rattle.std.specs.Prelude.{◌≡◌};
 ghost use Rattle.time_values.specs.Dates as Dates;
 ghost use Rattle.time_values.specs.Moments.{utc_date, utc_time};
@@ -30,7 +30,7 @@ impl UtcDateTime {
         self.date().day()
     }
 
-    /// The place of the day in its year in UTC, 1 to 366.
+    /// The day of the year in UTC, 1 to 366.
     pub fn ordinal(self) -> u16
         ensures { result ≡ Dates.ordinal (utc_date self) }
     {
@@ -51,7 +51,7 @@ impl UtcDateTime {
         self.date().to_calendar_date()
     }
 
-    /// The year and the place of the day in it in UTC.
+    /// The year and the day of the year in UTC.
     pub fn to_ordinal_date(self) -> (i32, u16)
         ensures year { result.0 ≡ Dates.year (utc_date self) }
         ensures ordinal { result.1 ≡ Dates.ordinal (utc_date self) }

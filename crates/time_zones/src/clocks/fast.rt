@@ -1,5 +1,5 @@
-//! Short cuts to the offset of a zone, by the rows of its table or by a rule that has one. Whole seconds take far less than
-//! nanoseconds.
+//! Short cuts to the offset of a zone, by the rows of its table or by a rule with a single offset. Comparing whole
+//! seconds takes far less time than comparing nanoseconds.
 ghost use Rattle.std.specs.Prelude.{◌≡◌, ◌≤ℤ◌, ◌<ℤ◌, ℤ, pos, neg_ℤ, IfSome, vec_len};
 ghost use Rattle.jiff_core.specs.Calendar.{IsBetween};
 ghost use Rattle.jiff_core.specs.Timestamp.{IsTimestampNanos};
@@ -15,7 +15,7 @@ use jiff_tz::tzif::Transition;
 use jiff_tz::{TimeZone, Tzif, posix};
 use time_values::{OffsetDateTime, PlainDateTime};
 
-// The first and the last second of which zones tell, since 1970-01-01T00:00:00Z.
+// The first and the last second of the range of zones, since 1970-01-01T00:00:00Z.
 const FIRST_SECOND: i64 = -377_705_023_201;
 
 const LAST_SECOND: i64 = 253_402_207_200;
@@ -23,10 +23,10 @@ const LAST_SECOND: i64 = 253_402_207_200;
 // Half a year of the calendar: in most zones clocks go on and back once a year.
 const HALF_YEAR: i64 = 15_778_476;
 
-// The most seconds of an offset, on either side.
+// The largest number of seconds of an offset, ahead or behind.
 const FURTHEST: i64 = 93_599;
 
-// The offset of the row before that place, where all of the seconds lie between the two.
+// The offset of the row before index `place`, if all of the seconds lie between that row and the next.
 #[inline(always)]
 fn offset_before(rows: &[Transition], place: usize, begin: i64, end: i64) -> Option<Offset>
     ensures { IfSome result (IsRowOffset rows.now begin end) }
@@ -41,8 +41,8 @@ fn offset_before(rows: &[Transition], place: usize, begin: i64, end: i64) -> Opt
     Some(last.after.offset)
 }
 
-// The offset of the row before the seconds, where they lie between two. The search begins where the row is, or the one
-// before it, if two a year follow.
+// The offset of the row before the seconds, if they lie between two rows. The search first tries two rows: the one at
+// the index that two rows a year would give, and the one after it.
 #[inline(always)]
 fn offset_between(rows: &[Transition], last: i64, begin: i64, end: i64) -> Option<Offset>
     requires near { (neg_ℤ (pos 377_705_023_201) ≤ℤ end) × (end <ℤ last) × (last ≤ℤ pos 253_402_207_200) }
@@ -60,7 +60,7 @@ fn offset_between(rows: &[Transition], last: i64, begin: i64, end: i64) -> Optio
     offset_before(rows, place, begin, end)
 }
 
-// The offset that a rule has at each moment, if it is one.
+// The offset of a rule without daylight saving time. `None` for any other rule.
 fn rule_offset(rule: &posix::TimeZone) -> Option<Offset>
     ensures { IfSome result (HasOneOffset rule.now) }
 {
@@ -70,7 +70,7 @@ fn rule_offset(rule: &posix::TimeZone) -> Option<Offset>
     }
 }
 
-// The offset of a table behind all of its rows, where no rule goes on that has two.
+// The offset of a table after all of its rows, if no rule with two offsets follows.
 #[tactic(auto, using(crate::proofs::ZoneLemmas::behind_rows, crate::proofs::ZoneLemmas::if_some))]
 fn offset_behind(table: &Tzif) -> Option<Offset>
     ensures { IfSome result (λ o. (n : ℤ) → count_at table.now (floor_second n) ≡ vec_len table.now.transitions
@@ -85,7 +85,8 @@ fn offset_behind(table: &Tzif) -> Option<Offset>
     }
 }
 
-// The offset of a table in all of the seconds, of which zones tell. It is inlined, so that one second is no more work.
+// The offset of a table in all of the seconds, which are in the range of zones. Inlined, so that one second costs no
+// more work.
 #[inline(always)]
 fn offset_by_rows(table: &Tzif, begin: i64, end: i64) -> Option<Offset>
     requires { (neg_ℤ (pos 377_705_023_201) ≤ℤ end) × (end ≤ℤ pos 253_402_207_200) }
@@ -105,8 +106,8 @@ fn offset_by_rows(table: &Tzif, begin: i64, end: i64) -> Option<Offset>
     offset_behind(table)
 }
 
-/// The offset that clocks of the zone have in all seconds from one to another, where they lie between two rows of a table, or
-/// where a rule has one alone.
+/// The offset of the zone in all seconds from `begin` to `end`, if they lie between two rows of a table, or if its rule
+/// has a single offset.
 #[inline(always)]
 pub(super) fn offset_within(zone: &TimeZone<'_>, begin: i64, end: i64) -> Option<Offset>
     requires { begin ≤ℤ end }
@@ -123,8 +124,7 @@ pub(super) fn offset_within(zone: &TimeZone<'_>, begin: i64, end: i64) -> Option
     }
 }
 
-/// The moment at which clocks of the zone show the date and time, where they have one offset as far around it as offsets
-/// reach.
+/// The moment of the local date and time in the zone, if the zone has one offset as far around it as offsets reach.
 #[inline(always)]
 pub(super) fn only_moment(clock: PlainDateTime, zone: &TimeZone<'_>) -> Option<OffsetDateTime>
     ensures { IfSome result (IsOnlyMoment zone.now clock) }

@@ -1,4 +1,4 @@
-//! What the texts of a suffix are: the names and offsets of zones, keys and values; and a zone's, as it is written.
+//! Checks the parts of a suffix: names and offsets of zones, keys and values. And writes the suffix of a zone.
 ghost use Rattle.std.specs.Prelude.{◌≡◌, ◌≢◌, ◌↔◌, ◌<◌, ◌≤◌, ℕ, List, [], ◌∷◌, length, pos, neg_ℤ, IsTrue, IfSome, IfNone, false, IfOk};
 ghost use Rattle.std.specs.List.{prefix_len};
 ghost use Rattle.jiff_core.specs.Calendar.{IsBetween};
@@ -13,7 +13,7 @@ use std::alloc::{AllocError, Global};
 use time_values::UtcOffset;
 use time_values::digits::pair;
 
-/// What is left after the byte, where the text begins with it.
+/// The rest after the byte, if the text begins with it.
 pub(super) fn after(text: &[u8], byte: u8) -> Option<&[u8]>
     ensures some { IfSome result (λ rest. text.now ≡ byte ∷ rest.now) }
     ensures none { IfNone result ((rest : List ℕ) → text.now ≢ byte ∷ rest) }
@@ -31,14 +31,14 @@ fn is_zone_initial(byte: u8) -> bool
     byte.is_ascii_alphabetic() || matches!(byte, b'.' | b'_')
 }
 
-/// Whether a part of a zone's name may go on with the byte.
+/// Whether a part of a zone's name may continue with the byte.
 pub(super) fn is_zone_char(byte: u8) -> bool
     ensures { result ≡ suffix.is_zone_char byte }
 {
     is_zone_initial(byte) || byte.is_ascii_digit() || matches!(byte, b'-' | b'+')
 }
 
-// Whether the text has the bytes of a part of a zone's name.
+// Whether the text consists of bytes that a part of a zone's name may have, in their order.
 fn is_zone_word(text: &[u8]) -> bool
     ensures { IsTrue result ↔ IsWord suffix.is_zone_initial suffix.is_zone_char text.now }
 {
@@ -71,7 +71,7 @@ fn is_key_initial(byte: u8) -> bool
     byte.is_ascii_lowercase() || byte == b'_'
 }
 
-// Whether a key may go on with the byte.
+// Whether a key may continue with the byte.
 fn is_key_char(byte: u8) -> bool
     ensures { result ≡ suffix.is_key_char byte }
 {
@@ -97,7 +97,7 @@ fn is_value(text: &[u8]) -> bool
     !text.is_empty() && text.iter().all(|byte| byte.is_ascii_alphanumeric())
 }
 
-// Whether the text is values.
+// Whether the text is a list of values.
 fn are_values(text: &[u8]) -> bool
     ensures { IsTrue result ↔ AreSuffixValues text.now }
 {
@@ -115,7 +115,7 @@ fn two_digits(tens: u8, ones: u8) -> Option<u8>
     Some((tens - b'0') * 10 + (ones - b'0'))
 }
 
-// How many seconds the hours and minutes are that the text writes.
+// The seconds of the hours and minutes in the text.
 fn seconds_of(text: &[u8]) -> Option<u32>
     ensures some { IfSome result (IsHourMinute text.now) }
     ensures bound { IfSome result (λ n. n < 86_400) }
@@ -132,7 +132,7 @@ fn seconds_of(text: &[u8]) -> Option<u32>
     Some(u32::from(hour) * 3600 + u32::from(minute) * 60)
 }
 
-// The offset of so many seconds, less than a day.
+// The offset of that number of seconds, less than a day.
 fn offset_of_seconds(seconds: i32) -> UtcOffset
     requires { IsBetween (neg_ℤ (pos 86_399)) (pos 86_399) seconds }
     ensures { offset_seconds result ≡ seconds }
@@ -143,7 +143,7 @@ fn offset_of_seconds(seconds: i32) -> UtcOffset
     }
 }
 
-/// The offset that the text writes.
+/// The offset that the text specifies.
 pub(super) fn offset_of(text: &[u8]) -> Option<UtcOffset>
     ensures some { IfSome result (IsNumOffset text.now) }
     ensures none { IfNone result ((o : Offset) → IsNumOffset text.now o → ⊥) }
@@ -157,7 +157,7 @@ pub(super) fn offset_of(text: &[u8]) -> Option<UtcOffset>
     Some(offset_of_seconds(-seconds))
 }
 
-// How many bytes in front of the text may stand in a key.
+// The number of bytes at the start of the text that may be in a key.
 fn key_len(text: &[u8]) -> usize
     ensures count { result ≡ prefix_len suffix.is_key_char text.now }
     ensures within { result ≤ length text.now }
@@ -172,7 +172,7 @@ fn is_keyed(key: &[u8], values: &[u8]) -> bool
     is_key(key) && are_values(values)
 }
 
-/// The key of the tag that the text is.
+/// The key of the tag, if the text is one.
 pub(super) fn key_of(text: &[u8]) -> Option<&[u8]>
     ensures some { IfSome result (λ key. (values : List ℕ) × IsKeyed text.now key.now values) }
     ensures none { IfNone result ((key values : List ℕ) → IsKeyed text.now key values → ⊥) }
@@ -185,7 +185,7 @@ pub(super) fn key_of(text: &[u8]) -> Option<&[u8]>
     Some(key)
 }
 
-// The hours and minutes that so many seconds are, below a day.
+// The hours and minutes of that number of seconds, below a day.
 #[tactic(auto, unfolding(time_values::specs::Shown::fixed))]
 fn time_of(seconds: u32) -> Option<[u8; 5]>
     ensures some { IfSome result (λ text. IsHourMinute text seconds) }
@@ -199,7 +199,7 @@ fn time_of(seconds: u32) -> Option<[u8; 5]>
     Some([hour_tens, hour_ones, b':', minute_tens, minute_ones])
 }
 
-// The offset as a suffix has it: hours and minutes behind a sign.
+// The offset as a suffix has it: hours and minutes after a sign. `None` if it has seconds or a day or more.
 fn offset_text(offset: UtcOffset) -> Option<[u8; 6]>
     ensures some { IfSome result (λ text. IsNumOffset text offset) }
     ensures none { IfNone result ((text : List ℕ) → IsNumOffset text offset → ⊥) }
@@ -221,8 +221,8 @@ fn bracketed(alloc: Global, text: &[u8]) -> Result<Vec<u8>, AllocError>
     Ok(suffix)
 }
 
-/// The suffix that tells the zone, which isn't critical: `[Europe/Berlin]` or `[+05:30]`. `None` where RFC 9557, section
-/// 4.1, has no text for it: the name isn't one by its grammar, or the offset has seconds or a day or more.
+/// The suffix that specifies the zone, which isn't critical: `[Europe/Berlin]` or `[+05:30]`. `None` if RFC 9557,
+/// section 4.1, has no text for it: the name isn't one by its grammar, or the offset has seconds or a day or more.
 pub fn write_suffix(alloc: Global, zone: ZoneText<'_>) -> Result<Option<Vec<u8>>, AllocError>
     ensures some { IfOk result (λ written. IfSome written (λ suffix.
         (text : List ℕ) × IsZoneText text (zone_of zone.entry) × (suffix.items ≡ bracketed false text))) }

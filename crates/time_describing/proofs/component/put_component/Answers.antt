@@ -7,7 +7,7 @@ use Rattle.time_describing.specs.Parts.{parts_of}
 use Rattle.time_describing.proofs.Checks.{puts_first, puts_on}
 use Rattle.time_describing.proofs.component.put_component.Goals as goal
 
--- ---- What is written of a component is its parts in turn
+-- ---- The text of a component is its parts in turn
 
 period : (u s : Bool) → codes "period" ++ (case_text u ++ case_sensitive_text s)
     ≡ (if u then codes "period" else codes "period case:lower") ++ (case_sensitive_text s ++ [])

@@ -3,7 +3,7 @@ use Rattle.time_descriptions.specs.Components.{modifiers}
 use Rattle.time_descriptions.specs.Modifiers.{default}
 use Rattle.time_descriptions.proofs.component.read_modifiers.Given as goal
 
--- what is left gives what all gives, with enough steps left
+-- the rest, with the values so far, gives the result of the whole text, with enough iterations left
 abbrev pub invariant-loop-name : goal.invariant-loop-name
 invariant-loop-name l =
     (n : ℕ) × (length l.rest < n) × (length l.rest ≤ length l.text)

@@ -21,7 +21,7 @@ decreases-add_inside g l = 6 * l.depth + 4
 abbrev pub decreases-add_group : goal.decreases-add_group
 decreases-add_group g l = 6 * l.depth + 5
 
--- the items so far and their steps, and what is left gives the others
+-- the items so far and their steps, and the rest gives the other items
 abbrev pub invariant-add_items-loop-version : goal.invariant-add_items-loop-version
 invariant-add_items-loop-version g l =
     record {
@@ -42,7 +42,7 @@ invariant-add_items-loop-version g l =
 abbrev pub decreases-add_items-loop-version : goal.decreases-add_items-loop-version
 decreases-add_items-loop-version g l = length l.rest
 
--- the lists so far and their steps, and what is left gives the others
+-- the lists so far and their steps, and the rest gives the other lists
 abbrev pub invariant-add_lists-loop-index : goal.invariant-add_lists-loop-index
 invariant-add_lists-loop-index g l =
     record {

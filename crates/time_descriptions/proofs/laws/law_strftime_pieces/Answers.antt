@@ -16,7 +16,7 @@ use Rattle.time_descriptions.specs.Strftime.{components, item_of_byte, meaning, 
 use Rattle.time_descriptions.specs.Description.{Piece, byte, conversion as conversion_piece, flagged as flagged_piece, all_items, piece_items, piece_text, HasPieces}
 use Rattle.time_descriptions.proofs.laws.law_strftime_pieces.Goals as goal
 
--- ---- A text of strftime is read piece by piece
+-- ---- A text of strftime is parsed piece by piece
 
 none_some : {A : Type 0} (x : A) → None ≡ Some x → ⊥
 none_some x e = false≢true (ap is_some e)
@@ -29,7 +29,7 @@ some_same : {A : Type 0} (x y : A) → Some x ≡ Some y → x ≡ y
 unfolding some_in
 some_same x y e = ap (some_in x) e
 
--- A letter with a padding stands for something, and a flag for nothing.
+-- A letter whose component has a padding has a meaning; a flag has no meaning as a letter.
 
 padded_means : (z : Bool) (s : Option (List Item)) (p : Padding) (c : Component) (o : Option Component)
     → option_and_then (with_padding p) o ≡ Some c
@@ -46,7 +46,7 @@ flag_means b p false true z e f g h = subst (λ (n : ℕ). meaning n ≡ None) (
 flag_means b p false false true e f g h = subst (λ (n : ℕ). meaning n ≡ None) (sym (eqb-true b 48 g)) refl
 flag_means b p false false false e f g h = absurd (none_some p h)
 
--- A piece in front is read as what it stands for.
+-- A piece at the start of a text parses as its items.
 
 byte_read : (t : Bool) (b : ℕ) (here : List Item) (x y : Found) → (if t then None else Some (literal b [] ∷ [])) ≡ Some here
     → (if t then x else followed (literal b [] ∷ []) y) ≡ followed here y
@@ -95,7 +95,7 @@ piece_read (flagged_piece f b) here rest h =
     let left : ℕ = length (f ∷ b ∷ rest) in
     flag_read (flag_padding f) (started (or_fault (letter_fault (left + 1) left f) (meaning f)) (strftime (b ∷ rest))) b rest here h
 
--- pieces are read one after another
+-- pieces are parsed one after another
 piece_on : (q : Piece) (ps : List Piece) (is : List Item) (o r : Option (List Item)) → piece_items q ≡ o → all_items ps ≡ r
     → option_and_then (λ here. option_map (λ there. here ++ there) r) o ≡ Some is
     → ((there : List Item) → all_items ps ≡ Some there → strftime (flat_map piece_text ps) ≡ (there, None))
@@ -184,7 +184,7 @@ no_pieces : (ps : List Piece) × ([] ≡ flat_map piece_text ps) × (all_items p
 unfolding strftime
 no_pieces = ([], refl, refl)
 
--- a text without a fault is of pieces
+-- a text without a fault splits into pieces
 pieces : (n : ℕ) (text : List ℕ) → length text ≤ n → (strftime text).1 ≡ None
     → (ps : List Piece) × (text ≡ flat_map piece_text ps) × (all_items ps ≡ Some (strftime text).0)
 pieces n [] l h = no_pieces

@@ -14,7 +14,7 @@ use Rattle.time_descriptions.specs.Refusal.{Refusal}
 use Rattle.time_descriptions.proofs.Versions.{Bare, Leaves, Same, Follows, next_bare, opened_bare, same_item, same_leaf, same_list, word_bare, alike}
 use Rattle.time_descriptions.proofs.laws.law_versions_agree.Goals as goal
 
--- ---- Versions 1 and 2 begin as many steps of a text in which neither has an escape
+-- ---- Versions 1 and 2 start equally many steps of a text without escapes
 
 count_bound : {A : Type 0} (Q : A → Type 0) (f g : A → ℕ) → ((x : A) → Q x → f x ≡ g x) → (r : Result A Fault) → IfOk r Q
     → counted f r ≡ counted g r
@@ -36,7 +36,7 @@ if_not b e = ap (λ (k : ℕ). if b then 0 else k) e
 sum_of : {a b c d : ℕ} → a ≡ b → c ≡ d → a + c ≡ b + d
 sum_of e f = omega (arith, e, f)
 
--- Where both readers of an item give one, and begin as many, so do those of items around it.
+-- If two parsers of an item agree, and start equally many steps, so do the parsers of items around it.
 module _ (one two : List ℕ → Read Item) (same : (text : List ℕ) → Bare text → Same Leaves (one text) (two text))
     (first second : List ℕ → ℕ) (as_many_of : (text : List ℕ) → Bare text → first text ≡ second text) where
   items_count : (n : ℕ) (nested : Bool) (text : List ℕ) → Bare text
@@ -96,7 +96,7 @@ item_count (suc depth) nested text p =
     (group_count one two (same_item depth true) first second (item_count depth true) (length text))
     (leaf_count nested text p) (group_word text) (word_bare text p)
 
--- both versions begin as many steps of a bare text
+-- both versions start equally many steps of a text without escapes
 as_many : (text : List ℕ) → has_no_escape text ≡ true → steps_begun versions.One text ≡ steps_begun versions.Two text
 as_many text p =
     items_count (item versions.One 8 false) (item versions.Two 8 false) (same_item 8 false) (item_begun versions.One 8 false)

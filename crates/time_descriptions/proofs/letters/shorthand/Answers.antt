@@ -5,7 +5,7 @@ use Rattle.time_descriptions.specs.Items.{Sees}
 use Rattle.time_descriptions.specs.Strftime.{row_of, shorthands}
 use Rattle.time_descriptions.proofs.letters.shorthand.Goals as goal
 
--- a row, without where its bytes lie
+-- a row, without memory addresses
 seen_row : ℕ × Bor (List ℕ) → ℕ × List ℕ
 seen_row r = (r.0, r.1.now)
 

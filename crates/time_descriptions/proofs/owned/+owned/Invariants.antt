@@ -18,7 +18,7 @@ decreases-read_lists l = 6 * l.depth + 3
 abbrev pub decreases-read_group : goal.decreases-read_group
 decreases-read_group l = 6 * l.depth + 5
 
--- the items so far have the trees of those that were read, and what is left gives the others
+-- the items so far have the trees of those that were read, and the rest gives the other items
 abbrev pub invariant-read_items-loop-alloc : goal.invariant-read_items-loop-alloc
 invariant-read_items-loop-alloc l =
     record {
@@ -35,7 +35,7 @@ invariant-read_items-loop-alloc l =
 abbrev pub decreases-read_items-loop-alloc : goal.decreases-read_items-loop-alloc
 decreases-read_items-loop-alloc l = length l.rest
 
--- the lists so far have the trees of those that were read, and what is left gives the others
+-- the lists so far have the trees of those that were read, and the rest gives the other lists
 abbrev pub invariant-read_lists-loop-lists : goal.invariant-read_lists-loop-lists
 invariant-read_lists-loop-lists l =
     record {

@@ -12,7 +12,7 @@ first_and_others : (bytes : List ℕ) → 1 ≤ length bytes → get_or bytes 0 
 first_and_others [] h = absurd (omega arith)
 first_and_others (b ∷ bytes) h = grind (arith, common_steps)
 
--- one part more
+-- one more part
 at_part : (text rest unread : List ℕ) (front part : List Item) → 1 ≤ length rest → strftime text ≡ followed front (strftime rest)
     → strftime (get_or rest 0 0 ∷ take (length rest - 1) (drop 1 rest)) ≡ followed part (strftime unread)
     → strftime text ≡ followed (front ++ part) (strftime unread)
@@ -30,7 +30,7 @@ exceeds n text unread front part steps told s h =
     ap (λ (found : Found). length (flat found.0)) told ∙ simp (flat-append, length-append) in
     omega (arith, all, ap length s)
 
--- where the first fault comes
+-- at the first fault
 at_fault : (n : ℕ) (text rest : List ℕ) (front : List Item) (steps : List Step) (e : Fault) → 1 ≤ length rest
     → strftime text ≡ followed front (strftime rest)
     → strftime (get_or rest 0 0 ∷ take (length rest - 1) (drop 1 rest)) ≡ failed e → steps ≡ flat front → length steps ≤ n
@@ -42,7 +42,7 @@ at_fault n text rest front steps e h told begins s room =
     let none : length (flat (front ++ [])) ≡ length (flat front) = ap (λ (is : List Item). length (flat is)) (append-nil front) in
     (ap (λ (found : Found). found.1) whole, omega (arith, all, none, ap length s, room))
 
--- where the text ends
+-- at the end of the text
 at_end : (text rest : List ℕ) (front : List Item) (steps : List Step) → length rest < 1 → strftime text ≡ followed front (strftime rest)
     → steps ≡ flat front → HasSteps text steps
 unfolding strftime

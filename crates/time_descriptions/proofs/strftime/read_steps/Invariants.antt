@@ -3,7 +3,7 @@ use Rattle.time_descriptions.specs.Items.{Item, flat}
 use Rattle.time_descriptions.specs.Strftime.{followed, strftime}
 use Rattle.time_descriptions.proofs.strftime.read_steps.Given as goal
 
--- the items so far and their steps, and what is left has the others
+-- the items so far and their steps, and the rest has the other items
 abbrev pub invariant-loop-rest : goal.invariant-loop-rest
 invariant-loop-rest g l =
     record {

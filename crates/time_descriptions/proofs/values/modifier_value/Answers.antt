@@ -6,7 +6,7 @@ use Rattle.time_descriptions.specs.declared.values.Modifier.TheVariants as modif
 use Rattle.time_descriptions.specs.Values.{bases, digits, precisions, ranges, signs}
 use Rattle.time_descriptions.proofs.values.modifier_value.Goals as goal
 
--- what is made of a value that is found
+-- the modifier made of a value that is found
 made : {V : Type 0} (make : V → Modifier) {o p : Option V} → o ≡ p → (r : Option Modifier)
     → MatchOption o (r ≡ None) (λ x. IsSomeAnd r (λ y. y ≡ make x)) → r ≡ option_map make p
 made make {o = None} e r h = h ∙ ap (option_map make) e

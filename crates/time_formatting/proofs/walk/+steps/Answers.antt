@@ -11,7 +11,7 @@ use Rattle.time_formatting.proofs.walk.+steps.Goals as goal
 
 -- ---- The text of a row of steps, item by item
 
--- what stands behind a first step, as a pattern has it
+-- the steps after a first step, in the form of a pattern
 abbrev behind_first : List Step → List Step
 behind_first left = take (length left - 1) (drop 1 left)
 

@@ -19,7 +19,8 @@ use Rattle.time_locating.proofs.IsoLengths.{byte-length, month-within, positive-
 use Rattle.time_locating.proofs.MissLemmas.{all_none}
 use Rattle.time_locating.proofs.laws.law_iso_misses.Goals as goal
 
--- ---- Where the date of a text of ISO 8601 is refused, a miss of the text tells it, and those before it leave more bytes
+-- ---- If the date of an ISO 8601 text is rejected, one miss of the text is that of the error, and those before it
+-- leave more bytes
 
 at_here : (m : Miss) (ms : List Miss) → LeavesLeastSoFar m (m ∷ ms)
 at_here m ms = ([], ms, refl, all_none (λ n. m.left < n.left))
@@ -69,7 +70,7 @@ no_letter b w is = rw (begins 45 b w is) refl
 
 -- ---- the text of a date
 
--- a miss of the rows of a date tells that refusal
+-- one miss of the rows of a date is that of the error
 abbrev Own : List ℕ → Refusal → Type 0
 Own b e = (m : Miss) × LeavesLeastSoFar m (rows_misses date_rows b) × (refusal_by m.wanted ≡ e)
 
@@ -169,7 +170,7 @@ module _ (b rest : List ℕ) (y : ℤ) (year_is : year b ≡ Some (rest, y)) whe
         ))
         (λ n day_is h3. absurd (Ok-Err (n.0, week y v.1 n.1) d (sym h3)))))
 
-  -- the forms of a date, of which none stands
+  -- the forms of a date, if none of them matches
   standing : (extended : Bool) (s : List ℕ) (e : Refusal) (first : FormOrFault) (second : Option (List ℕ × IsoDate)) (letter : Option (List ℕ))
       → first_form extended y s ≡ first → byte 87 s ≡ letter
       → first_standing first second (option_map (third_form extended y) letter) ≡ Err e
@@ -200,7 +201,7 @@ own_date b e h =
     (λ none same. (missed (length b) (named (codes "year")), rw none (at_here _ _), same))
     (λ y is h1. by_dash b y.0 y.1 is e (byte 45 y.0) refl h1)
 
--- ---- a date that no record holds
+-- ---- a date that no record allows
 
 put-Err : (Y : ℕ) (entries : List (Entry × List ℕ)) (r : Record) (e : Refusal) → put_or_fault Y entries r ≡ Err e
     → (name : List ℕ) × (e ≡ component name)
@@ -209,7 +210,7 @@ put-Err Y (entry ∷ entries) r e h =
     need-Err (put Y entry.0 r) (component entry.1) e (put_or_fault Y entries) h
     (λ none same. (entry.1, sym same)) (λ q is h1. put-Err Y entries q e h1)
 
--- a miss of a text tells that refusal
+-- one miss of a text is that of the error
 abbrev OwnOf : List Miss → Refusal → Type 0
 OwnOf ms e = (m : Miss) × LeavesLeastSoFar m ms × (refusal_by m.wanted ≡ e)
 

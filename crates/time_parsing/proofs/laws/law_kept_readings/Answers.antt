@@ -18,7 +18,7 @@ use Rattle.time_parsing.specs.Rfc3339 as Rfc3339
 use Rattle.time_parsing.proofs.KeptIsoTexts.{keeps_iso8601}
 use Rattle.time_parsing.proofs.laws.law_kept_readings.Goals as goal
 
--- ---- A wider range of years keeps the records and the readings of a narrower one, where nothing is chosen
+-- ---- A wider range of years keeps the records of a narrower one, and the readings of trees without a choice
 
 module _ (Y Z : ℕ) (wider : Y ≤ Z) where
   in_range-wider : (e : Entry) → in_range Y e ≡ true → in_range Z e ≡ true
@@ -56,7 +56,7 @@ module _ (Y Z : ℕ) (wider : Y ≤ Z) where
         IfSome_then r.unix_timestamp_nanos h.unix_timestamp_nanos (λ v. in_range-wider (unix_timestamp_nanos_is v));
   }
 
-  -- an entry that is put
+  -- an entry that is stored
   put-wider : (e : Entry) (r q : Record) → put Y e r ≡ Some q → put Z e r ≡ Some q
   put-wider e r q h =
       let is = cond_some (in_range Y e) (put_here e r) q h in
@@ -68,7 +68,7 @@ module _ (Y Z : ℕ) (wider : Y ≤ Z) where
       option_and_then_some (put_all Y es) (put Y e r) q h
       (λ p one tree_more. ap (option_and_then (put_all Z es)) (put-wider e r p one) ∙ put_all-wider es p q tree_more)
 
-  -- a component's value that is put
+  -- a component's value that is stored
   put_number-wider : (entry : ℕ → Entry) (v : Value) (r q : Record) → put_number Y entry v r ≡ Some q → put_number Z entry v r ≡ Some q
   put_number-wider entry (spelling_number n) r q h = put-wider (entry n) r q h
   put_number-wider entry _ r q h = h
@@ -159,7 +159,7 @@ module _ (Y Z : ℕ) (wider : Y ≤ Z) where
     keeps_all (tree_more t ts) plain b r rest q (mid, m, h, hs) =
         (mid, m, keeps_readings t plain.0 b r mid m h, keeps_all ts plain.1 mid m rest q hs)
 
-  -- the record into which the entries of a text of RFC 3339 and of a mail date are put
+  -- the record in which the entries of an RFC 3339 text and of a mail date are stored
   abbrev begun : Record → Record
   begun r = Rfc3339.with_leap_second (Rfc3339.without_offset_sign r)
 

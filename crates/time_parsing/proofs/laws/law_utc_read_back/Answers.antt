@@ -22,12 +22,12 @@ use Rattle.time_parsing.proofs.MailForm.{mail_read_back}
 use Rattle.time_parsing.proofs.WrittenBack.{read_back}
 use Rattle.time_parsing.proofs.laws.law_utc_read_back.Goals as goal
 
--- ---- A text that was written is read back as a date and time in UTC
+-- ---- A written text parses back as a date and time in UTC
 
 Err-Ok : {A : Type 0} (a : A) (e : Refusal) → ◌≡◌ {A = Result A Refusal} (Ok a) (Err e) → ⊥
 Err-Ok a e h = cc
 
--- an offset that a record has is its offset where a missing one would be UTC too
+-- if a record has an offset, that is also its offset by the rule that a missing one is UTC
 or_utc : (hour : Option ℤ) (m s : ℤ) (o : UtcOffset)
     → MatchOption hour (◌≡◌ {A = Result UtcOffset Refusal} (Ok o) (Err insufficient))
     (λ h. IsConstructed (offset_refusal h m s) (HasOffset h m s) (Ok o))
@@ -39,7 +39,7 @@ offset_or_utc : (r : Record) (o : UtcOffset) → IsOffset r (Ok o) → IsOffsetO
 unfolding IsOffset IsOffsetOrUtc
 offset_or_utc r o is = or_utc r.offset_hour (offset_part r r.offset_minute) (offset_seconds_of r) o is
 
--- a leap second at the instant of a date and time in UTC is one there
+-- if the instant of a date and time in UTC is a leap second, so is the date and time
 leap_there : (u : UtcDateTime) (n : ℤ) → utc_instant greatest_year u ≡ n → IsLeapSecondMoment greatest_year n
     → IsLeapSecondStandIn (utc_date u) (utc_time u)
 leap_there u n is (date, time, shown, leap, within) =
@@ -75,7 +75,7 @@ parts_in_utc r w u is (inr (d, dated, inr (t, timed, inr (o, offset, judged)))) 
       ),
     )
 
--- and of a timestamp
+-- the date and time in UTC of a timestamp
 instant-utc : (w : OffsetDateTime) → IsUtc (offset_of w) → offset_instant greatest_year w ≡ clock_nanos greatest_year (offset_date w) (offset_time w)
 instant-utc w utc =
     omega (arith, ints, utc.0, utc.1, utc.2, instant_is (offset_date w) (offset_time w) (offset_of w))

@@ -1,4 +1,4 @@
-//! Times by the halves of the day, whose second and fraction may be missing.
+//! Times of the 12-hour clock, with an optional second and fraction.
 ghost use Rattle.std.specs.Prelude.{◌≡◌, IfSome, Ok, Some};
 ghost use Rattle.time_values.specs.Calendar.{greatest_year};
 ghost use Rattle.time_record.specs.Components.{is_pm};
@@ -35,7 +35,7 @@ fn steps_of(form: &InHalf) -> [Step; 11]
     ]
 }
 
-/// The form that these steps have. `None`: not this one.
+/// The form of these steps. `None`: not this form.
 pub(super) fn form(steps: &[Step]) -> Option<InHalf>
     ensures { IfSome result (λ form. steps.now ≡ half_parts form) }
 {
@@ -69,7 +69,7 @@ pub(super) fn form(steps: &[Step]) -> Option<InHalf>
     }
 }
 
-// The numbers of the form in front of the input, and the rest.
+// The numbers of the form at the front of the input, and the rest.
 #[inline(always)]
 fn numbers<'a>(form: &InHalf, input: &'a [u8]) -> Option<(HalfNumbers, &'a [u8])>
     ensures { IfSome result (λ f. (r : Record) → ReadsAll greatest_year (half_trees form.now)
@@ -102,7 +102,7 @@ fn hour_of(hour: u8, half: Period) -> u8
     }
 }
 
-// The second and its nanosecond, which are 0 where they are missing.
+// The second and its nanosecond, which are 0 if they are missing.
 #[inline(always)]
 fn second_and_nanosecond(second: Option<(u8, Option<u32>)>) -> (u8, u32)
     ensures { result ≡ clock_second second }
@@ -113,7 +113,7 @@ fn second_and_nanosecond(second: Option<(u8, Option<u32>)>) -> (u8, u32)
     }
 }
 
-// The time of these numbers. A leap second is none.
+// The time of these numbers. `None` for a leap second.
 #[inline(always)]
 #[tactic(auto, using(crate::proofs::Wholes::is_half))]
 fn time_of(numbers: &HalfNumbers) -> Option<Time>
@@ -127,7 +127,7 @@ fn time_of(numbers: &HalfNumbers) -> Option<Time>
     }
 }
 
-// The time of a whole text of the form. It is called, so that other times don't pay for it.
+// The time of a whole text of the form. It isn't inlined, so that other times don't pay for it.
 #[inline(never)]
 fn whole(form: &InHalf, input: &[u8]) -> Option<Time>
     ensures { IfSome result (λ v. ReadsWhole (whole_.Half form.now) input.now (λ r. IsTimed r (Ok v))) }

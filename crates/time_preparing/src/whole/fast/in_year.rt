@@ -1,4 +1,4 @@
-//! Dates and times of a whole text that has no year, which is a known record's.
+//! Whole texts of a date and time without a year, which is that of a given record.
 ghost use Rattle.std.specs.Prelude.{◌≡◌, FitsSigned, IfSome, Ok, Some, None};
 ghost use Rattle.std.specs.Int.{w32};
 ghost use Rattle.std.specs.Int.NonZero.{non_zero_u8_get};
@@ -21,7 +21,7 @@ use time_components::{Component, Step};
 use time_record::Parsed;
 use time_values::{Date, Month, PlainDateTime};
 
-// So many bytes has a text. Where they are there, no reader looks for their end.
+// How many bytes a text has. Checking that first saves each parser a check for the end.
 const LEN: usize = 15;
 
 // The steps of the form.
@@ -41,7 +41,7 @@ fn steps_of(form: &InYear) -> [Step; 9]
     ]
 }
 
-/// The form that these steps have. `None`: not this one.
+/// The form of these steps. `None`: not this form.
 pub(super) fn form(steps: &[Step]) -> Option<InYear>
     ensures { IfSome result (λ form. steps.now ≡ in_year_parts form) }
 {
@@ -69,7 +69,7 @@ pub(super) fn form(steps: &[Step]) -> Option<InYear>
     }
 }
 
-// The year of a record, where a month and a day beside it make the date, and no fraction is known.
+// The year of a record, if a month and a day with it make the date, and no fraction is known.
 #[inline(always)]
 fn year_of(known: &Parsed) -> Option<i32>
     ensures year { IfSome result (λ year. known.now.year ≡ Some year) }
@@ -98,7 +98,7 @@ fn month_and_day(between: u8, input: &[u8]) -> Option<((Month, NonZero<u8>), &[u
     Some(((month.1, day.1), day.0))
 }
 
-// A date of that year in front of the input, and the rest.
+// A date of that year at the front of the input, and the rest.
 #[inline(always)]
 fn date_of(year: i32, between: u8, input: &[u8]) -> Option<(Date, &[u8])>
     ensures reads { IfSome result (λ f. (r : Record) → ReadsAll greatest_year (leaves (month_day_parts between))
@@ -112,7 +112,8 @@ fn date_of(year: i32, between: u8, input: &[u8]) -> Option<(Date, &[u8])>
     }
 }
 
-// The date and time of a whole text of the form, in the year of the record. It is called, so that others don't pay for it.
+// The date and time of a whole text of the form, in the year of the record. It isn't inlined, so that other forms don't
+// pay for it.
 #[inline(never)]
 fn whole(form: &InYear, input: &[u8], known: &Parsed) -> Option<PlainDateTime>
     ensures { IfSome result (λ v. ReadsOver (whole_.InYear form.now) input.now known.now

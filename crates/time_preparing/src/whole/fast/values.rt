@@ -1,6 +1,6 @@
 //! Whole texts by a form that their description is known to have.
 //!
-//! Each function answers the value that the form's steps parse, or `None`: not known by the form alone.
+//! Each function returns the value that the form's steps parse, or `None`: the form alone doesn't determine it.
 ghost use Rattle.std.specs.Prelude.{IfSome, Ok};
 ghost use Rattle.time_components.specs.Tree.{steps_shape};
 ghost use Rattle.time_record.specs.Reading.{Reads, Refuses};

@@ -11,13 +11,13 @@ use Rattle.time_readers.specs.IsoGrammar.{hour_and_minute}
 use Rattle.time_readers.proofs.IsoPieces.{colon-no_number}
 use Rattle.time_readers.proofs.laws.law_one_time_row.Goals as goal
 
--- ---- At most one row of the table of times fits: which one, from what stands in the bytes
+-- ---- At most one row of the table of times matches: that row, by the parts at the front of the bytes
 
--- at most one row fits
+-- at most one row matches
 abbrev One : ExtendedKind → List ℕ → Type 0
 One kind b = length (time_texts kind b) ≤ 1
 
--- A whole hour of 0 to 23, and no colon after it.
+-- A whole hour from 0 to 23, and no colon after it.
 module _ (b m : List ℕ) (h : ℕ) (hour : number b ≡ Some (m, plain h)) (small : nat_le h 23 ≡ true) (none : byte 58 m ≡ None) where
   -- a minute and a second without separators
   basic_second_row : (kind : ExtendedKind) (r q : List ℕ) (w : ℕ) (s : Number) (t : Option TimeNumbers) → is_extended kind ≡ false
@@ -74,7 +74,7 @@ module _ (b m : List ℕ) (h : ℕ) (hour : number b ≡ Some (m, plain h)) (sma
   minute_fraction_row Unknown r d w true n l = rw (hour, small, none, n, l) (omega arith)
   minute_fraction_row Unknown r d w false n l = rw (hour, small, none, n, l) (omega arith)
 
-  -- what stands after the hour
+  -- a number after the hour, or none
   no_colon_row : (kind : ExtendedKind) (s : Option (List ℕ × Number)) → number m ≡ s → One kind b
   no_colon_row Basic None n = rw (hour, small, none, n) (omega arith)
   no_colon_row Extended None n = rw (hour, small, none, n) (omega arith)
@@ -82,7 +82,7 @@ module _ (b m : List ℕ) (h : ℕ) (hour : number b ≡ Some (m, plain h)) (sma
   no_colon_row kind (Some (r, plain w)) n = minute_row kind r w (nat_le w 59) n refl
   no_colon_row kind (Some (r, fraction w d)) n = minute_fraction_row kind r d w (nat_le w 59) n refl
 
--- A whole hour of 0 to 23, and a colon after it.
+-- A whole hour from 0 to 23, and a colon after it.
 module _ (b m y : List ℕ) (h : ℕ) (hour : number b ≡ Some (m, plain h)) (small : nat_le h 23 ≡ true) (colon : byte 58 m ≡ Some y) where
   -- a minute, a colon and a second
   colon_second_row : (kind : ExtendedKind) (r x q : List ℕ) (w : ℕ) (s : Number) (t : Option TimeNumbers) → not_basic kind ≡ true
@@ -127,7 +127,7 @@ module _ (b m y : List ℕ) (h : ℕ) (hour : number b ≡ Some (m, plain h)) (s
   colon_fraction_row Unknown r d w true k n l = rw (hour, small, colon, colon-no_number m y colon, n, l) (omega arith)
   colon_fraction_row Unknown r d w false k n l = rw (hour, small, colon, colon-no_number m y colon, n, l) (omega arith)
 
-  -- what stands after the colon
+  -- a number after the colon, or none
   after_colon_row : (kind : ExtendedKind) (s : Option (List ℕ × Number)) → not_basic kind ≡ true → number y ≡ s → One kind b
   after_colon_row kind (Some (r, plain w)) k n = colon_whole_row kind r w (nat_le w 59) k n refl
   after_colon_row kind (Some (r, fraction w d)) k n = colon_fraction_row kind r d w (nat_le w 59) k n refl
@@ -141,7 +141,7 @@ module _ (b m y : List ℕ) (h : ℕ) (hour : number b ≡ Some (m, plain h)) (s
   colon_row Extended = after_colon_row Extended (number y) refl refl
   colon_row Unknown = after_colon_row Unknown (number y) refl refl
 
--- a whole hour of 0 to 23
+-- a whole hour from 0 to 23
 hour_row : (kind : ExtendedKind) (b m : List ℕ) (h : ℕ) (c : Option (List ℕ)) → number b ≡ Some (m, plain h) → nat_le h 23 ≡ true
     → byte 58 m ≡ c → One kind b
 hour_row kind b m h None e p c = no_colon_row b m h e p c kind (number m) refl

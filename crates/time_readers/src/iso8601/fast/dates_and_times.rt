@@ -1,4 +1,4 @@
-//! A date of the calendar and a time up to the second, by sixteen bytes.
+//! A calendar date and a time up to the second, the first sixteen bytes at once.
 ghost use Rattle.std.specs.Prelude.{◌≡◌, ℕ, List, [], ◌∷◌, map, IfSome, Ok};
 ghost use Rattle.time_readers.specs.Block.{AllWithin, pair_at};
 ghost use Rattle.time_readers.specs.IsoTimes.{GivesDateAndTime};
@@ -10,8 +10,8 @@ use crate::iso8601::grammar::pieces::byte;
 use crate::iso8601::{DateAndTime, ExtendedKind, Part, TimeNumbers};
 use std::simd::prelude::*;
 
-// The least and the greatest byte at each of the first sixteen places, with separators and without. Without them
-// the last of the places is after the second.
+// The least and the greatest value of each of the first sixteen bytes, with separators and without. Without them the
+// last of these bytes is after the second.
 const LEAST: [u8; 16] = *b"0000-00-00T00:00";
 
 const GREATEST: [u8; 16] = *b"9999-19-39T29:59";
@@ -20,7 +20,7 @@ const BASIC_LEAST: [u8; 16] = *b"00000000T000000\x00";
 
 const BASIC_GREATEST: [u8; 16] = *b"99991939T295959\xff";
 
-// The digits of a date and of the hour and minute after it, by two, and what stands where a second has to.
+// The digits of a date and of the hour and minute after it in pairs, and the bytes that must begin with a second.
 #[derive(Clone, Copy)]
 struct FirstSixteen<'a> {
     date: CalendarDigits<'a>,
@@ -29,7 +29,7 @@ struct FirstSixteen<'a> {
     after: &'a [u8],
 }
 
-// A date of the calendar and a time up to the second, with separators. `None`: not this form.
+// Parses a calendar date and a time up to the second, with separators. `None` for any other form.
 #[inline(always)]
 pub(in crate::iso8601) fn extended_date_and_time(input: &[u8]) -> Option<DateAndTime<'_>>
     ensures { IfSome result (λ p. GivesDateAndTime input.now (Ok p)) }
@@ -37,7 +37,7 @@ pub(in crate::iso8601) fn extended_date_and_time(input: &[u8]) -> Option<DateAnd
     date_and_time_of(extended_first_sixteen(input)?)
 }
 
-// A date of the calendar and a time up to the second, without separators, and a byte after it. `None`: not this form.
+// Parses a calendar date and a time up to the second, without separators, if a byte follows. `None` for any other form.
 #[inline(always)]
 pub(in crate::iso8601) fn basic_date_and_time(input: &[u8]) -> Option<DateAndTime<'_>>
     ensures { IfSome result (λ p. GivesDateAndTime input.now (Ok p)) }
@@ -45,7 +45,7 @@ pub(in crate::iso8601) fn basic_date_and_time(input: &[u8]) -> Option<DateAndTim
     date_and_time_of(basic_first_sixteen(input)?)
 }
 
-// With separators, up to the colon before the second. `None`: not this form.
+// Parses the date, the hour and the minute with separators, and the colon after them. `None` for any other form.
 #[inline(always)]
 fn extended_first_sixteen(input: &[u8]) -> Option<FirstSixteen<'_>>
     ensures { IfSome result (IsFirstSixteen input.now) }
@@ -72,7 +72,7 @@ fn extended_first_sixteen(input: &[u8]) -> Option<FirstSixteen<'_>>
     })
 }
 
-// Without separators, up to the second. `None`: not this form.
+// Parses the date, the hour and the minute without separators. `None` for any other form.
 #[inline(always)]
 fn basic_first_sixteen(input: &[u8]) -> Option<FirstSixteen<'_>>
     ensures { IfSome result (IsFirstSixteen input.now) }
@@ -98,7 +98,7 @@ fn basic_first_sixteen(input: &[u8]) -> Option<FirstSixteen<'_>>
     })
 }
 
-// The numbers that the pairs of digits say.
+// The numbers of the pairs of digits.
 #[inline(always)]
 fn extended_pairs(bytes: &[u8; 16]) -> [u8; 8]
     ensures { AllWithin LEAST GREATEST bytes.now
@@ -121,7 +121,7 @@ fn basic_pairs(bytes: &[u8; 16]) -> [u8; 8]
     (tens * u8x8::splat(10) + ones).to_array()
 }
 
-// The date and the time that begin so, with the second after them. `None`: not this form.
+// The date and the time of these digits, with the second parsed after them. `None` for any other form.
 #[inline(always)]
 fn date_and_time_of(first: FirstSixteen<'_>) -> Option<DateAndTime<'_>>
     ensures { (text : List ℕ) → IsFirstSixteen text first.entry → IfSome result (λ p. GivesDateAndTime text (Ok p)) }

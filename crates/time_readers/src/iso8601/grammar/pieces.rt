@@ -1,4 +1,4 @@
-//! The pieces of ISO 8601 texts. Each reads a text of a fixed form, or refuses by `None`.
+//! The pieces of ISO 8601 texts. Each parses a fixed form, or returns `None`.
 ghost use Rattle.std.specs.Prelude.{◌≡◌, ◌≤◌, ◌<◌, ◌^◌, IfSome};
 ghost use Rattle.std.specs.Int.NonZero.{non_zero_u8_get, non_zero_u16_get};
 ghost use Rattle.time_digits.specs.Digits.{Finds, AllDigits, IsDigitRun};
@@ -11,7 +11,7 @@ use crate::{ParsedItem, Sign};
 use std::num::NonZero;
 use time_values::{Month, Weekday};
 
-/// Reads a year: a sign and six digits, or four digits.
+/// Parses a year: a sign and six digits, or four digits.
 #[inline(always)]
 #[tactic(auto, unfolding(crate::specs::IsoPieces::year))]
 pub fn year(input: &[u8]) -> Option<ParsedItem<'_, i32>>
@@ -42,7 +42,7 @@ fn with_sign(sign: Sign, number: u32) -> i32
     }
 }
 
-/// Reads a month: two digits of 01 to 12.
+/// Parses a month: two digits from 01 to 12.
 #[inline(always)]
 #[tactic(auto, unfolding(crate::specs::IsoPieces::month))]
 pub fn month(input: &[u8]) -> Option<ParsedItem<'_, Month>>
@@ -55,7 +55,7 @@ pub fn month(input: &[u8]) -> Option<ParsedItem<'_, Month>>
     }
 }
 
-/// Reads a week of the year: two digits, but not `00`.
+/// Parses a week of the year: two digits, but not `00`.
 #[inline(always)]
 #[tactic(auto, unfolding(crate::specs::IsoPieces::positive))]
 pub fn week(input: &[u8]) -> Option<ParsedItem<'_, NonZero<u8>>>
@@ -65,7 +65,7 @@ pub fn week(input: &[u8]) -> Option<ParsedItem<'_, NonZero<u8>>>
     Some(ParsedItem(number.0, NonZero::<u8>::new(number.1)?))
 }
 
-/// Reads a day of the month: two digits, but not `00`.
+/// Parses a day of the month: two digits, but not `00`.
 #[inline(always)]
 pub fn day(input: &[u8]) -> Option<ParsedItem<'_, NonZero<u8>>>
     ensures { GivesAs non_zero_u8_get (spec.positive 2 input.now) result }
@@ -73,7 +73,7 @@ pub fn day(input: &[u8]) -> Option<ParsedItem<'_, NonZero<u8>>>
     week(input)
 }
 
-/// Reads a day of the week: one digit of 1, which is Monday, to 7.
+/// Parses a day of the week: one digit from 1 for Monday to 7 for Sunday.
 #[inline(always)]
 #[tactic(auto, unfolding(crate::specs::IsoPieces::weekday))]
 pub fn dayk(input: &[u8]) -> Option<ParsedItem<'_, Weekday>>
@@ -83,7 +83,7 @@ pub fn dayk(input: &[u8]) -> Option<ParsedItem<'_, Weekday>>
     Some(ParsedItem(number.0, numbered_weekday(number.1)?))
 }
 
-// The weekday of a number, 1 for Monday.
+// The weekday of a number, from 1 for Monday.
 fn numbered_weekday(number: u8) -> Option<Weekday>
     ensures { result ≡ spec.numbered spec.weekdays number }
 {
@@ -99,7 +99,7 @@ fn numbered_weekday(number: u8) -> Option<Weekday>
     }
 }
 
-/// Reads a day of the year: three digits, but not `000`.
+/// Parses a day of the year: three digits, but not `000`.
 #[inline(always)]
 #[tactic(auto, unfolding(crate::specs::IsoPieces::positive))]
 pub fn dayo(input: &[u8]) -> Option<ParsedItem<'_, NonZero<u16>>>
@@ -109,7 +109,7 @@ pub fn dayo(input: &[u8]) -> Option<ParsedItem<'_, NonZero<u16>>>
     Some(ParsedItem(number.0, NonZero::<u16>::new(number.1 as u16)?))
 }
 
-/// Reads an hour: two digits of any value.
+/// Parses an hour: two digits of any value.
 #[inline(always)]
 pub fn hour(input: &[u8]) -> Option<ParsedItem<'_, u8>>
     ensures { Gives (spec.digits 2 input.now) result }
@@ -117,7 +117,7 @@ pub fn hour(input: &[u8]) -> Option<ParsedItem<'_, u8>>
     two_digits(input)
 }
 
-/// Reads a minute: two digits of any value.
+/// Parses a minute: two digits of any value.
 #[inline(always)]
 pub fn min(input: &[u8]) -> Option<ParsedItem<'_, u8>>
     ensures { Gives (spec.digits 2 input.now) result }
@@ -125,8 +125,9 @@ pub fn min(input: &[u8]) -> Option<ParsedItem<'_, u8>>
     hour(input)
 }
 
-/// Reads two digits of any value, and a fraction if `.` or `,` stands after them: all digits after that.
-/// It refuses where none stands there.
+/// Parses two digits of any value, and the digits of a fraction if `.` or `,` follows.
+///
+/// The fraction is all digits after `.` or `,`. Returns `None` if there isn't one.
 #[inline(always)]
 pub fn float(input: &[u8]) -> Option<ParsedItem<'_, (u8, Option<&[u8]>)>>
     ensures is { GivesAs (λ n. number_of n.0 n.1) (spec.number input.now) result }
@@ -144,7 +145,7 @@ pub fn float(input: &[u8]) -> Option<ParsedItem<'_, (u8, Option<&[u8]>)>>
     Some(ParsedItem(&after[count..], (whole.1, Some(digits))))
 }
 
-// What follows that byte.
+// Parses that byte, and returns the rest.
 #[inline(always)]
 pub(in crate::iso8601) fn byte<const C: u8>(input: &[u8]) -> Option<&[u8]>
     ensures { Leaves (spec.byte C input.now) result }
@@ -155,7 +156,7 @@ pub(in crate::iso8601) fn byte<const C: u8>(input: &[u8]) -> Option<&[u8]>
     }
 }
 
-// What follows `.` or `,`.
+// Parses `.` or `,`, and returns the rest.
 #[inline(always)]
 #[tactic(auto, unfolding(crate::specs::IsoPieces::point))]
 pub(in crate::iso8601) fn point(input: &[u8]) -> Option<&[u8]>
@@ -167,7 +168,7 @@ pub(in crate::iso8601) fn point(input: &[u8]) -> Option<&[u8]>
     }
 }
 
-// A sign.
+// Parses a sign.
 #[inline(always)]
 pub(super) fn sign(input: &[u8]) -> Option<ParsedItem<'_, Sign>>
     ensures { Gives (spec.sign input.now) result }
@@ -175,7 +176,7 @@ pub(super) fn sign(input: &[u8]) -> Option<ParsedItem<'_, Sign>>
     combinator::sign(input)
 }
 
-// Exactly so many digits.
+// Parses exactly `N` digits.
 #[inline(always)]
 fn exactly<const N: u8>(input: &[u8]) -> Option<ParsedItem<'_, u32>>
     requires least { 1 ≤ N }
@@ -186,7 +187,7 @@ fn exactly<const N: u8>(input: &[u8]) -> Option<ParsedItem<'_, u32>>
     exactly_n_digits::<N>(input)
 }
 
-// Two digits.
+// Parses two digits.
 #[inline(always)]
 pub(in crate::iso8601) fn two_digits(input: &[u8]) -> Option<ParsedItem<'_, u8>>
     ensures { Gives (spec.digits 2 input.now) result }
@@ -194,7 +195,7 @@ pub(in crate::iso8601) fn two_digits(input: &[u8]) -> Option<ParsedItem<'_, u8>>
     combinator::two_digits(input)
 }
 
-// One digit.
+// Parses one digit.
 #[inline(always)]
 fn one_digit(input: &[u8]) -> Option<ParsedItem<'_, u8>>
     ensures { Gives (spec.digits 1 input.now) result }
@@ -213,7 +214,7 @@ fn run_of_one(input: &[u8]) -> Option<ParsedItem<'_, u8>>
     }
 }
 
-// Two digits of a number up to the greatest.
+// Parses two digits of a number up to `GREATEST`.
 #[inline(always)]
 #[tactic(auto, unfolding(crate::specs::IsoPieces::up_to))]
 pub(super) fn up_to<const GREATEST: u8>(input: &[u8]) -> Option<ParsedItem<'_, u8>>

@@ -11,7 +11,7 @@ use crate::iso8601::grammar::pieces::{byte, float};
 use crate::iso8601::grammar::{floor_fraction, round_fraction};
 use crate::iso8601::{ExtendedKind, Part, TimeNumbers};
 
-// The time of a text of that kind.
+// Parses the time of a text of that kind.
 #[inline(never)]
 pub(in crate::iso8601) fn time<'a>(
     input: &'a [u8],
@@ -27,7 +27,7 @@ pub(in crate::iso8601) fn time<'a>(
     }
 }
 
-// The text of a time after its `T`.
+// Parses a time after its `T`.
 #[inline(always)]
 fn after_t<'a>(input: &'a [u8], kind: ExtendedKind) -> Option<Part<'a, TimeNumbers>>
     ensures { GivesPart (spec.time_after kind input.now) result }
@@ -47,7 +47,7 @@ fn after_t<'a>(input: &'a [u8], kind: ExtendedKind) -> Option<Part<'a, TimeNumbe
     }
 }
 
-// What stands after a whole hour.
+// Parses the rest of a time after a whole hour.
 #[inline(always)]
 fn after_hour<'a>(input: &'a [u8], kind: ExtendedKind, hour: u8) -> Option<Part<'a, TimeNumbers>>
     requires { hour ≤ 23 }
@@ -66,7 +66,7 @@ fn after_hour<'a>(input: &'a [u8], kind: ExtendedKind, hour: u8) -> Option<Part<
     }
 }
 
-// A minute after a whole hour, if one stands there, and what stands after it.
+// Parses the rest of a time after a whole hour without a colon: nothing, or a minute and an optional second.
 #[inline(always)]
 fn minute_without_colon<'a>(
     input: &'a [u8],
@@ -105,7 +105,7 @@ fn minute_without_colon<'a>(
     }
 }
 
-// What stands after a whole hour and a colon.
+// Parses the rest of a time after a whole hour and a colon.
 #[inline(always)]
 fn minute_after_colon<'a>(
     input: &'a [u8],
@@ -132,7 +132,7 @@ fn minute_after_colon<'a>(
     }
 }
 
-// A second after an hour and a minute without separators, if one stands there.
+// Parses a second after an hour and a minute without separators, if there is one.
 #[inline(always)]
 fn basic_second(input: &[u8], numbers: TimeNumbers) -> Option<Part<'_, TimeNumbers>>
     ensures { GivesPart (pieces.basic_second numbers input.now (number input.now)) result }
@@ -147,7 +147,7 @@ fn basic_second(input: &[u8], numbers: TimeNumbers) -> Option<Part<'_, TimeNumbe
     }
 }
 
-// A colon and a second after an hour and a minute, if a colon stands there.
+// Parses a colon and a second after an hour and a minute, if there is a colon.
 #[inline(always)]
 fn extended_second(input: &[u8], numbers: TimeNumbers) -> Option<Part<'_, TimeNumbers>>
     ensures { GivesPart (pieces.extended_second numbers input.now (byte 58 input.now)) result }
@@ -162,7 +162,7 @@ fn extended_second(input: &[u8], numbers: TimeNumbers) -> Option<Part<'_, TimeNu
     }
 }
 
-// The time with a second, unless that is past 60 or its fraction rounds to 1.
+// The time with that second, or `None` if the second is above 60 or its fraction rounds to 1.
 #[inline(always)]
 fn with_second<'a>(
     second: ParsedItem<'a, (u8, Option<&'a [u8]>)>,
@@ -198,7 +198,7 @@ fn with_second<'a>(
     })
 }
 
-// A whole hour and a whole minute.
+// The time of a whole hour and a whole minute.
 #[inline(always)]
 fn hour_and_minute(hour: u8, minute: u8) -> TimeNumbers
     ensures { result ≡ pieces.hour_and_minute hour minute }
@@ -211,7 +211,7 @@ fn hour_and_minute(hour: u8, minute: u8) -> TimeNumbers
     }
 }
 
-// An hour and the digits of its fraction.
+// The time of an hour and the digits of its fraction.
 fn past_hour(hour: u8, digits: &[u8]) -> TimeNumbers
     requires { AllDigits digits.now }
     ensures { result ≡ spec.past_hour (floor_of digits.now 3_600_000_000_000) (pieces.hour_and_minute hour 0) }
@@ -225,7 +225,7 @@ fn past_hour(hour: u8, digits: &[u8]) -> TimeNumbers
     }
 }
 
-// A whole hour, a minute and the digits of its fraction.
+// The time of a whole hour, a minute and the digits of its fraction.
 fn past_minute(hour: u8, minute: u8, digits: &[u8]) -> TimeNumbers
     requires { AllDigits digits.now }
     ensures { result ≡ spec.past_minute (floor_of digits.now 60_000_000_000) (pieces.hour_and_minute hour minute) }

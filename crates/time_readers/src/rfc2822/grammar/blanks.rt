@@ -1,7 +1,7 @@
 //! The blanks between the parts of a mail date, folded over lines or not, its comments and its zone names: RFC 2822,
 //! sections 3.2.2, 3.2.3 and 4.3.
 //!
-//! Choices are tried in their order, a repetition takes as much as it can, and nothing goes back.
+//! Alternatives are tried in order, repetitions are greedy, and nothing backtracks.
 ghost use Rattle.std.specs.Prelude.{◌≡◌, ◌==◌, option_map};
 ghost use Rattle.std.specs.Option.{option_copied};
 ghost use Rattle.time_readers.specs.Readers.{one_of, ◌or◌};
@@ -11,10 +11,10 @@ ghost use Rattle.time_readers.specs.MailBlanks.{beside, hours_of, is_military, s
 
 use crate::{ParsedItem, rfc2822};
 
-// How many comments may stand in one another, the outermost among them.
+// How deep comments may be nested, counting the outermost.
 const MOST_COMMENTS: u8 = 31;
 
-// Reads blanks, folded over lines or not.
+// Parses blanks, folded over lines or not.
 pub(crate) fn fws(input: &[u8]) -> Option<ParsedItem<'_, ()>>
     ensures { option_map (λ p. p.0.now) result ≡ spec.fws input.now }
 {
@@ -28,7 +28,7 @@ pub(crate) fn fws(input: &[u8]) -> Option<ParsedItem<'_, ()>>
     Some(ParsedItem(rest, ()))
 }
 
-// Reads a space or a tab.
+// Parses a space or a tab.
 #[inline]
 fn blank(input: &[u8]) -> Option<&[u8]>
     ensures { option_copied result ≡ one_of spec.is_blank input.now }
@@ -39,7 +39,7 @@ fn blank(input: &[u8]) -> Option<&[u8]>
     }
 }
 
-// Reads one or more blanks.
+// Parses one or more blanks.
 #[inline]
 fn blanks(input: &[u8]) -> Option<&[u8]>
     ensures { option_copied result ≡ spec.blanks input.now }
@@ -51,7 +51,7 @@ fn blanks(input: &[u8]) -> Option<&[u8]>
     Some(rest)
 }
 
-// Reads the end of a line.
+// Parses the end of a line.
 #[inline]
 fn crlf(input: &[u8]) -> Option<&[u8]>
     ensures { option_copied result ≡ spec.crlf input.now }
@@ -62,7 +62,7 @@ fn crlf(input: &[u8]) -> Option<&[u8]>
     }
 }
 
-// Reads the end of a line, and the blanks with which the next begins.
+// Parses the end of a line, and the blanks at the start of the next.
 #[inline]
 fn line_fold(input: &[u8]) -> Option<&[u8]>
     ensures { option_copied result ≡ spec.line_fold input.now }
@@ -70,7 +70,7 @@ fn line_fold(input: &[u8]) -> Option<&[u8]>
     blanks(crlf(input)?)
 }
 
-// Reads one part of a comment's text: a byte, or a byte after a backslash.
+// Parses one part of a comment's text: a byte, or a byte after a backslash.
 #[inline]
 fn text(input: &[u8]) -> Option<&[u8]>
     ensures { option_copied result ≡ (one_of spec.is_text or spec.quoted_pair) input.now }
@@ -85,7 +85,7 @@ fn text(input: &[u8]) -> Option<&[u8]>
     }
 }
 
-// Reads that byte.
+// Parses that byte.
 #[inline]
 fn one<const C: u8>(input: &[u8]) -> Option<&[u8]>
     ensures { option_copied result ≡ one_of (λ c. c == C) input.now }
@@ -96,7 +96,7 @@ fn one<const C: u8>(input: &[u8]) -> Option<&[u8]>
     }
 }
 
-// Reads a comment, with the comments in it.
+// Parses a comment, with the comments in it.
 fn comment(input: &[u8]) -> Option<&[u8]>
     ensures { option_copied result ≡ spec.comment 31 input.now }
 {
@@ -121,7 +121,7 @@ fn comment(input: &[u8]) -> Option<&[u8]>
     Some(rest)
 }
 
-// Reads blanks, or else a comment.
+// Parses blanks, or else a comment.
 #[inline]
 fn blanks_or_comment(input: &[u8]) -> Option<&[u8]>
     ensures { option_copied result ≡ (spec.fws or spec.comment 31) input.now }
@@ -132,7 +132,7 @@ fn blanks_or_comment(input: &[u8]) -> Option<&[u8]>
     }
 }
 
-// Reads blanks and comments, one or more of them.
+// Parses blanks and comments, one or more of them.
 pub(crate) fn cfws(input: &[u8]) -> Option<ParsedItem<'_, ()>>
     ensures { option_map (λ p. p.0.now) result ≡ spec.cfws input.now }
 {
@@ -143,7 +143,7 @@ pub(crate) fn cfws(input: &[u8]) -> Option<ParsedItem<'_, ()>>
     Some(ParsedItem(rest, ()))
 }
 
-// Reads blanks and comments, or nothing.
+// Parses blanks and comments, or nothing.
 #[inline]
 pub(crate) fn opt_cfws(input: &[u8]) -> ParsedItem<'_, ()>
     ensures { Some result.0.now ≡ spec.opt_cfws input.now }
@@ -154,7 +154,7 @@ pub(crate) fn opt_cfws(input: &[u8]) -> ParsedItem<'_, ()>
     }
 }
 
-// Reads a colon, with the blanks and comments before and after it.
+// Parses a colon, with the blanks and comments before and after it.
 pub(crate) fn opt_cfws_colon_opt_cfws(input: &[u8]) -> Option<ParsedItem<'_, ()>>
     ensures { option_map (λ p. p.0.now) result ≡ spec.opt_cfws_colon_opt_cfws input.now }
 {
@@ -163,7 +163,7 @@ pub(crate) fn opt_cfws_colon_opt_cfws(input: &[u8]) -> Option<ParsedItem<'_, ()>
     Some(rfc2822::opt_cfws(rest))
 }
 
-// Reads a zone name.
+// Parses a zone name.
 pub(crate) fn zone_literal(input: &[u8]) -> Option<ParsedItem<'_, i8>>
     ensures { option_map (λ p. (p.1, p.0.now)) result ≡ zone_literal input.now }
 {
@@ -174,7 +174,7 @@ pub(crate) fn zone_literal(input: &[u8]) -> Option<ParsedItem<'_, i8>>
     short_zone(input)
 }
 
-// Reads `UT`, or else one letter but J.
+// Parses `UT`, or else one letter other than J.
 #[inline]
 fn short_zone(input: &[u8]) -> Option<ParsedItem<'_, i8>>
     ensures { option_map (λ p. (p.1, p.0.now)) result ≡ short_zone input.now }
@@ -213,7 +213,7 @@ fn hours_beside(name: [u8; 3]) -> Option<i8>
     }
 }
 
-// Whether the byte is a letter but J.
+// Whether the byte is a letter other than J.
 #[inline]
 fn is_military(byte: u8) -> bool
     ensures { result ≡ is_military (to_ascii_lowercase byte) }

@@ -15,12 +15,12 @@ use std::num::NonZero;
 use time_values::error::{ComponentRange, TryFromParsed};
 use time_values::{Date, Month, Weekday};
 
-/// The date of the first of these that are all known: year and ordinal; year, month and day; ISO
-/// year, ISO week and weekday; year, Sunday week and weekday; year, Monday week and weekday. A
-/// missing year is made of its century and last two digits.
+/// The date of the first of these whose components are all known: year and ordinal; year, month and day; ISO year, ISO
+/// week and weekday; year, Sunday week and weekday; year, Monday week and weekday. A missing year is computed from its
+/// century and last two digits.
 ///
-/// Numbers that no date has are refused as `ordinal`, `day`, `week` or `weekday`, for the other
-/// components; `InsufficientInformation` where none of the five is known.
+/// If no date has these numbers, an error names `ordinal`, `day`, `week` or `weekday` as conditional on other
+/// components. `InsufficientInformation` if none of the five is known.
 impl TryFrom<Parsed> for Date {
     type Error = TryFromParsed;
 
@@ -62,7 +62,7 @@ pub(super) fn date_of_rows(parsed: &Parsed) -> Result<Date, TryFromParsed>
     Err(TryFromParsed::InsufficientInformation)
 }
 
-// The year, or where there is none that of the century and the two last digits.
+// The year, or, if it is missing, the year of the century and the last two digits.
 #[inline]
 fn calendar_year(parsed: &Parsed) -> Option<i32>
     ensures value { result ≡ full_year parsed.now }
@@ -76,7 +76,7 @@ fn calendar_year(parsed: &Parsed) -> Option<i32>
     Some(joined_year(century, is_negative, parsed.year_last_two()?))
 }
 
-// The same for the ISO 8601 week date.
+// The ISO 8601 week-based year, or, if it is missing, the year of its century and last two digits.
 #[inline]
 fn iso_year(parsed: &Parsed) -> Option<i32>
     ensures value { result ≡ full_iso_year parsed.now }
@@ -90,7 +90,7 @@ fn iso_year(parsed: &Parsed) -> Option<i32>
     Some(joined_year(century, is_negative, parsed.iso_year_last_two()?))
 }
 
-// The year of a century and two last digits, which lead away from 0.
+// The year of a century and two last digits, which count away from 0.
 #[inline]
 fn joined_year(century: i16, is_negative: bool, last_two: u8) -> i32
     requires century { unsigned_abs century ≤ greatest_year / 100 }
@@ -107,7 +107,7 @@ fn joined_year(century: i16, is_negative: bool, last_two: u8) -> i32
     }
 }
 
-// The date of a year and a place in it.
+// The date of a year and a day of the year.
 #[inline]
 fn ordinal_date(year: i32, ordinal: NonZero<u16>) -> Result<Date, TryFromParsed>
     requires { IsTrue (is_year greatest_year year) }
@@ -141,8 +141,7 @@ fn iso_week_date(year: i32, week: NonZero<u8>, weekday: Weekday) -> Result<Date,
     Ok(Date::from_iso_week_date(year, week.get(), weekday)?)
 }
 
-// The date of a year, week and weekday, where week 1 begins on the year's first day of the weekday
-// `start`.
+// The date of a year, week and weekday, where week 1 begins on the year's first day of the weekday `start`.
 #[inline]
 fn week_date(year: i32, week: u8, weekday: Weekday, start: Weekday) -> Result<Date, TryFromParsed>
     requires { IsTrue (is_year greatest_year year) }
@@ -152,8 +151,8 @@ fn week_date(year: i32, week: u8, weekday: Weekday, start: Weekday) -> Result<Da
         (days_from_monday weekday) d → ⊥) × (e ≡ range (codes "ordinal") true)) }
 {
     let first = Date::from_ordinal_date(year, 1)?.weekday();
-    // The place in the year, where 8 is 1 January: the first day of week 1, and then whole weeks
-    // and the days since `start`.
+    // The place in the year, counted so that 1 January is 8: the first day of week 1, plus whole weeks and the days
+    // since `start`.
     let shifted = days_since(start, first) + 1 + 7 * week as u16 + days_since(weekday, start);
     if shifted <= 7 {
         return Err(TryFromParsed::ComponentRange(ComponentRange {
@@ -164,7 +163,7 @@ fn week_date(year: i32, week: u8, weekday: Weekday, start: Weekday) -> Result<Da
     Ok(Date::from_ordinal_date(year, shifted - 7)?)
 }
 
-// How many days a weekday comes after another one.
+// The number of days from one weekday to another.
 #[inline]
 fn days_since(weekday: Weekday, start: Weekday) -> u16
     ensures { result ≡ (days_from_monday weekday + 7 - days_from_monday start) % 7 }

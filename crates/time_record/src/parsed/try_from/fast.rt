@@ -1,8 +1,8 @@
-//! The values of a record that has the usual components: a year, month and day without an ordinal; an hour of the day,
-//! a minute and a second that is no leap second.
+//! Converts a record with the usual components: a year, month and day without an ordinal; an hour of the day, a minute,
+//! and a second that is no leap second.
 //!
-//! Each conversion answers the value that the one by precedence answers, or `None`: not this form, or a refusal. Then
-//! the one by precedence decides. So no refusal is carried along here.
+//! Each function returns the value that the conversion by precedence returns, or `None`: the record has another form,
+//! or an error. Then the conversion by precedence decides, so no error is passed on here.
 ghost use Rattle.std.specs.Prelude.{◌≡◌, Some, Ok, IfSome, IsTrue};
 ghost use Rattle.std.specs.Int.NonZero.{non_zero_u8_get};
 ghost use Rattle.time_values.specs.Dates.{is_year};
@@ -16,7 +16,7 @@ use crate::parsed::try_from::time::{is_leap_second, offset_of};
 use std::num::NonZero;
 use time_values::{Date, Month, OffsetDateTime, PlainDateTime, Time, UtcOffset};
 
-// The date of a year, month and day. `None`: not this form, or no date has these numbers.
+// The date of a year, month and day. `None`: another form, or no date has these numbers.
 #[inline(always)]
 #[tactic(auto, unfolding(crate::specs::Resolution::IsDated))]
 fn date(parsed: &Parsed) -> Option<Date>
@@ -29,8 +29,8 @@ fn date(parsed: &Parsed) -> Option<Date>
     }
 }
 
-/// The year, month and day where they are the row of a record: all three are there, which one test of the mask tells,
-/// and no ordinal is before them. `None`: not this form.
+/// The year, month and day, if they determine the date of a record: one test of the mask shows that all three are set,
+/// and no ordinal precedes them. `None`: another form.
 #[inline(always)]
 pub(super) fn year_month_day(parsed: &Parsed) -> Option<(i32, Month, NonZero<u8>)>
     ensures row { IfSome result (λ p. first_row parsed.now
@@ -43,8 +43,8 @@ pub(super) fn year_month_day(parsed: &Parsed) -> Option<(i32, Month, NonZero<u8>
     Some((parsed.year()?, parsed.month()?, parsed.day()?))
 }
 
-// The time of an hour of the day, a minute and a second. `None`: not this form, or no time has these numbers, as where
-// the second is 60.
+// The time of an hour of the day, a minute and a second. `None`: another form, or no time has these numbers, as if the
+// second is 60.
 #[inline(always)]
 #[tactic(auto, unfolding(crate::specs::Resolution::IsTimed))]
 fn time(parsed: &Parsed) -> Option<Time>
@@ -61,7 +61,7 @@ fn time(parsed: &Parsed) -> Option<Time>
     }
 }
 
-// The hour of the day, the minute and the second where all three are there, which one test of the mask tells.
+// The hour of the day, the minute and the second, if one test of the mask shows that all three are set.
 #[inline(always)]
 fn hour_minute_second(parsed: &Parsed) -> Option<(u8, u8, u8)>
     ensures hour { IfSome result (λ t. parsed.now.hour_24 ≡ Some t.0) }
@@ -74,7 +74,7 @@ fn hour_minute_second(parsed: &Parsed) -> Option<(u8, u8, u8)>
     Some((parsed.hour_24()?, parsed.minute()?, parsed.second()?))
 }
 
-/// The date and the time. `None`: not this form, or one of them is refused.
+/// The date and the time. `None`: another form, or one of them has an error.
 #[inline(always)]
 #[tactic(auto, unfolding(crate::specs::Resolution::IsPlain))]
 pub(super) fn date_and_time(parsed: &Parsed) -> Option<PlainDateTime>
@@ -85,7 +85,7 @@ pub(super) fn date_and_time(parsed: &Parsed) -> Option<PlainDateTime>
     Some(PlainDateTime::new(date, time))
 }
 
-/// The moment of a date, a time and an offset. `None`: not this form, or one of them is refused, or there is a timestamp.
+/// The moment of a date, a time and an offset. `None`: another form, one of them has an error, or there is a timestamp.
 #[inline(always)]
 #[tactic(auto, unfolding(crate::specs::Resolution::IsMoment))]
 pub(super) fn moment(parsed: &Parsed) -> Option<OffsetDateTime>
@@ -97,7 +97,7 @@ pub(super) fn moment(parsed: &Parsed) -> Option<OffsetDateTime>
     moment_of_parts(parsed)
 }
 
-// The same where there is no timestamp.
+// The moment of a date, a time and an offset of a record that has no timestamp.
 #[inline(always)]
 #[tactic(auto, unfolding(crate::specs::Resolution::IsMomentOfParts))]
 fn moment_of_parts(parsed: &Parsed) -> Option<OffsetDateTime>
@@ -112,7 +112,7 @@ fn moment_of_parts(parsed: &Parsed) -> Option<OffsetDateTime>
     Some(OffsetDateTime::new_in_offset(date, time, offset))
 }
 
-// The offset. `None`: a record without its hour, or a refusal.
+// The offset. `None`: the record has no offset hour, or an error.
 #[inline(always)]
 fn offset(parsed: &Parsed) -> Option<UtcOffset>
     ensures { IfSome result (λ o. IsOffset parsed.now (Ok o)) }

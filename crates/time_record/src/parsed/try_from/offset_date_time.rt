@@ -14,8 +14,8 @@ use crate::parsed::try_from::time::{is_leap_second, misplaced, offset_of, stand_
 use time_values::OffsetDateTime;
 use time_values::error::TryFromParsed;
 
-// The moment of a record. This is no second way of reading, but says where code stands: the refusals of the usual
-// components stand in line, so that a record of which the compiler knows that they are there needs no place in memory.
+// The moment of a record. This is no second way of reading, but moves code: it inlines the errors of the usual
+// components, so that a record whose components the compiler knows needs no memory.
 #[inline(always)]
 #[tactic(auto, unfolding(crate::specs::Resolution::IsMoment))]
 pub(super) fn moment_or_refusal(parsed: &Parsed) -> Result<OffsetDateTime, TryFromParsed>
@@ -28,7 +28,7 @@ pub(super) fn moment_or_refusal(parsed: &Parsed) -> Result<OffsetDateTime, TryFr
     moment_of_parts(parsed)
 }
 
-// The moment of a record, whatever it has.
+// The moment of a record with any components.
 #[inline(never)]
 #[tactic(auto, unfolding(crate::specs::Resolution::IsMoment))]
 fn moment_of(parsed: &Parsed) -> Result<OffsetDateTime, TryFromParsed>
@@ -40,7 +40,7 @@ fn moment_of(parsed: &Parsed) -> Result<OffsetDateTime, TryFromParsed>
     }
 }
 
-// The moment of a timestamp, with that nanosecond of its second where one is given.
+// The moment of a timestamp, with the given nanosecond of its second, if there is one.
 #[inline]
 fn moment_at(nanos: i128, subsecond: Option<u32>) -> Result<OffsetDateTime, TryFromParsed>
     requires nanos { IsTrue (is_instant greatest_year nanos) }
@@ -73,8 +73,8 @@ fn moment_of_parts(parsed: &Parsed) -> Result<OffsetDateTime, TryFromParsed>
     Ok(moment)
 }
 
-// Whether a leap second is known only where one may stand. The moment is a copy here, so that it stays in registers
-// where none is known.
+// Checks that a leap second occurs only at the end of a month in UTC. The moment is a copy here, so that it stays in
+// registers if no leap second is known.
 #[inline(always)]
 fn leap_second_may_stand(parsed: &Parsed, moment: OffsetDateTime) -> bool
     ensures stands { IsTrue result → IsTrue (is_leap_second parsed.now)

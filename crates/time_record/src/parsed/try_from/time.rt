@@ -1,4 +1,4 @@
-//! The time of a record, its offset from UTC, and leap seconds, for which the last nanosecond before them stands.
+//! The time of a record, its offset from UTC, and leap seconds, which resolve to the last nanosecond before them.
 ghost use Rattle.std.specs.Prelude.{◌≡◌, Some, codes, true};
 ghost use Rattle.time_record.specs.Resolution.{IsTimed, hour_of, parsed_seen, IsOffset, offset_seconds_of};
 ghost use Rattle.time_values.specs.Refusal.{range, refusal_of_parsed};
@@ -10,11 +10,11 @@ use std::num::NonZero;
 use time_values::error::{ComponentRange, TryFromParsed};
 use time_values::{Time, UtcOffset};
 
-/// The time of the hour of the day, or else of the hour of the half day and which half it is, and
-/// of those of minute, second and subsecond that are known; the others are 0.
+/// The time of the hour of the day, or else of the hour of the half day and which half it is, and of the known ones of
+/// minute, second and subsecond; the others are 0.
 ///
-/// `InsufficientInformation` where no hour is known, or a second without a minute, or a subsecond
-/// without a second. A second of 60 is refused as `second`.
+/// `InsufficientInformation` if no hour is known, or a second without a minute, or a subsecond without a second. For a
+/// second of 60 an error names `second`.
 impl TryFrom<Parsed> for Time {
     type Error = TryFromParsed;
 
@@ -34,7 +34,7 @@ pub(super) fn time_of(parsed: &Parsed) -> Result<Time, TryFromParsed>
     time_with(parsed, parsed.second(), parsed.subsecond())
 }
 
-// The time of a record, with that second and subsecond in place of its own.
+// The time of a record, with that second and subsecond instead of its own.
 #[inline(always)]
 #[tactic(auto, unfolding(crate::specs::Resolution::IsTimed))]
 pub(super) fn time_with(
@@ -59,7 +59,7 @@ pub(super) fn time_with(
     }
 }
 
-// The hour of the day, 0 to 23, by itself or by the half of the day.
+// The hour of the day, 0 to 23, from itself or from the half of the day.
 #[inline(always)]
 fn hour_of_day(parsed: &Parsed) -> Option<u8>
     ensures { result ≡ hour_of parsed.now }
@@ -75,10 +75,10 @@ fn hour_of_day(parsed: &Parsed) -> Option<u8>
     })
 }
 
-/// The offset of the hour and of the minute and second that are known, as their signed getters
-/// answer them; a second without a minute counts as 0.
+/// The offset of the hour and of the known ones of minute and second, with the values of their signed getters; a second
+/// without a minute counts as 0.
 ///
-/// `InsufficientInformation` where no hour is known.
+/// `InsufficientInformation` if no hour is known.
 impl TryFrom<Parsed> for UtcOffset {
     type Error = TryFromParsed;
 
@@ -113,7 +113,7 @@ fn offset_of_hour(hour: i8, parsed: &Parsed) -> Result<UtcOffset, TryFromParsed>
     Ok(UtcOffset::from_hms(hour, minute, second_below(parsed))?)
 }
 
-// The seconds of the offset, which count only below minutes.
+// The seconds of the offset, which count only if its minutes are known.
 #[inline(always)]
 fn second_below(parsed: &Parsed) -> i8
     ensures { result ≡ offset_seconds_of parsed.now }
@@ -132,8 +132,7 @@ pub(super) fn is_leap_second(parsed: &Parsed) -> bool
     parsed.is_leap_second_allowed() && parsed.second() == Some(60)
 }
 
-// The second and the subsecond of a record, with the last nanosecond before a leap second in its
-// place.
+// The second and the subsecond of a record. A leap second is replaced by the last nanosecond before it.
 #[inline(always)]
 pub(super) fn stand_in(parsed: &Parsed) -> (Option<u8>, Option<u32>)
     ensures { record parsed.now { second = result.0; subsecond = result.1 }
@@ -146,7 +145,7 @@ pub(super) fn stand_in(parsed: &Parsed) -> (Option<u8>, Option<u32>)
     }
 }
 
-// The refusal of a leap second that is at no month's end in UTC.
+// The error of a leap second that isn't at a month's end in UTC.
 pub(super) fn misplaced() -> TryFromParsed
     ensures { refusal_of_parsed result ≡ range (codes "second") true }
 {

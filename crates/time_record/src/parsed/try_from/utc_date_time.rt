@@ -15,13 +15,12 @@ use std::convert::TryFrom;
 use time_values::error::{ComponentRange, TryFromParsed};
 use time_values::{OffsetDateTime, PlainDateTime, Timestamp, UtcDateTime, UtcOffset};
 
-/// The moment of the timestamp, with a known subsecond in place of its own, or else that of the
-/// date, time and offset of the record, with their refusals in that order. Without an offset's
-/// hour the offset is 0.
+/// The moment of the timestamp, with a known subsecond in place of its own. Or else that of the date, time and offset
+/// of the record, or the first error of these, in that order. Without an offset's hour the offset is 0.
 ///
-/// A moment that has no date in UTC is refused as `year`, for the other components. A leap second
-/// that is allowed counts as the last nanosecond before it, and is refused as `second`, for the
-/// other components, where that is no month's end in UTC.
+/// If the moment has no date in UTC, an error names `year` as conditional on other components. A leap second that is
+/// allowed counts as the last nanosecond before it. If that isn't a month's end in UTC, an error names `second` as
+/// conditional on other components.
 impl TryFrom<Parsed> for UtcDateTime {
     type Error = TryFromParsed;
 
@@ -37,7 +36,7 @@ impl TryFrom<Parsed> for UtcDateTime {
     }
 }
 
-// The moment of a timestamp, with that nanosecond of its second where one is given.
+// The moment of a timestamp, with the given nanosecond of its second, if there is one.
 #[inline]
 fn moment_at(nanos: i128, subsecond: Option<u32>) -> Result<UtcDateTime, TryFromParsed>
     requires nanos { IsTrue (is_instant greatest_year nanos) }
@@ -69,7 +68,7 @@ pub(super) fn moment_of_parts(parsed: &Parsed) -> Result<UtcDateTime, TryFromPar
     Ok(moment)
 }
 
-// The offset of a record, or without its hour none.
+// The offset of a record, or 0 without an offset's hour.
 #[inline]
 #[tactic(auto, unfolding(crate::specs::Resolution::IsOffset, crate::specs::Resolution::IsOffsetOrUtc))]
 fn offset_or_utc(parsed: &Parsed) -> Result<UtcOffset, TryFromParsed>
@@ -81,7 +80,7 @@ fn offset_or_utc(parsed: &Parsed) -> Result<UtcOffset, TryFromParsed>
     }
 }
 
-// The same moment in UTC.
+// Converts the moment to UTC.
 #[inline]
 fn in_utc(moment: OffsetDateTime) -> Result<UtcDateTime, TryFromParsed>
     ensures { IsInUtc greatest_year (instant greatest_year moment.date moment.time moment.offset)
@@ -107,10 +106,10 @@ pub(super) fn date_and_time(parsed: &Parsed) -> Result<PlainDateTime, TryFromPar
     Ok(PlainDateTime::new(date, time))
 }
 
-/// The timestamp, whatever the subsecond, or else that of the date, time and offset of the record
-/// as a `UtcDateTime`.
+/// The instant of the timestamp, whatever the subsecond, or else that of the date, time and offset of the record as a
+/// `UtcDateTime`.
 ///
-/// `InsufficientInformation` where there is neither, for whatever reason.
+/// `InsufficientInformation` if the record has neither, for whatever reason.
 impl TryFrom<Parsed> for Timestamp {
     type Error = TryFromParsed;
 

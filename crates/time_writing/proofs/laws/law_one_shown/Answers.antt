@@ -22,9 +22,9 @@ use Rattle.time_writing.proofs.KeptDigits.{fixed-length}
 use Rattle.time_writing.proofs.SameTexts.{year_shown, year-same, year-lacks, hour-same, at_least_one, fraction-same, signed-hours, signed-minutes, signed-seconds, same_sign_byte, decimal-same, same_fronts, same_ends, Lacks, same_to, Lacks-append, Lacks-one, fixed-lacks, fixed-same}
 use Rattle.time_writing.proofs.laws.law_one_shown.Goals as goal
 
--- ---- Values that print the same are one value
+-- ---- Values that print alike are equal
 
--- texts one after another, taken together from the other side
+-- texts one after another, joined from the other side
 date_parts : (a b c d e f : List ℕ) → a ++ b ++ c ++ d ++ e ++ f ≡ (a ++ b) ++ (c ++ (d ++ (e ++ f)))
 date_parts a b c d e f = simp append_assoc
 
@@ -143,7 +143,7 @@ size_within : (k : ℕ) (z : ℤ) → (neg_ℤ (pos k) ≤ℤ z) × (z ≤ℤ po
 size_within k (pos n) h = omega (arith, ints, h)
 size_within k (negsuc n) h = omega (arith, ints, h)
 
--- a number of a sign and a size
+-- a number is determined by its sign and its magnitude
 same_signed : (b c : Bool) (y z : ℤ) → b ≡ c → unsigned_abs y ≡ unsigned_abs z → y ≡ signed_by b (pos (unsigned_abs y))
     → z ≡ signed_by c (pos (unsigned_abs z)) → y ≡ z
 same_signed b c y z sign size one other =

@@ -8,7 +8,7 @@ use Rattle.time_values.specs.Calendar.{greatest_year}
 use Rattle.time_zones.proofs.ZoneLemmas.{floor_of_whole}
 use Rattle.time_zones.proofs.clocks.offset_at.Goals as goal
 
--- the second of an instant lies between it and it
+-- the second of an instant lies between itself and itself
 within_itself : (n s t : ℤ) → t ≡ s → floor_second n ≡ s → IsBetween t t (floor_second n)
 within_itself n s t same is = omega (arith, ints, same, is)
 

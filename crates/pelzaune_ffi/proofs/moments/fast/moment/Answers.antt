@@ -9,5 +9,5 @@ returns c =
     let middle = c.in_ok-numbers in
     let all = c.in_ok-offset in
     let matches = whole_matches text front.rest.now middle.rest.now [] c.to_second.new.numbers middle.numbers all.field-0
-    front.ensures.matches middle.ensures all.ensures.matches in
+    front.ensures.stands middle.ensures all.ensures.matches in
     outcome_of text all.field-0 c.moment_from.result matches all.ensures.minute (rw c.said_rfc3339.ensures at c.moment_from.ensures)

@@ -9,6 +9,6 @@ returns-clause-form c =
     let last = all.ensures.matches in (
       last.0,
       whole_matches c.args.text.now front.rest.now middle.rest.now last.0 c.to_second.new.numbers middle.numbers all.found.0
-          front.ensures.matches middle.ensures last.1,
+          front.ensures.stands middle.ensures last.1,
       last.2,
     )

@@ -5,15 +5,15 @@ use Rattle.restamp_verdict.proofs.GivesLemmas.{verdict_so}
 use Rattle.restamp_verdict.proofs.ParseLemmas.{in_turn-first}
 use Rattle.restamp_verdict.proofs.job.Job.judge_part.Goals as goal
 
-pub returns-in-Ok-clause-verdict : goal.returns-in-Ok-clause-verdict
-returns-in-Ok-clause-verdict g c =
+pub returns-in-Some-clause-verdict : goal.returns-in-Some-clause-verdict
+returns-in-Some-clause-verdict g c =
     let job = c.args.self.now in
-    let found = c.in-Ok.said in
+    let found = c.in-Some.said in
     let with : (verdict : Verdict) → IsPut greatest_year job c.args.start found verdict
     → IsJudgedPart greatest_year job c.args.is_prefix c.args.start c.args.part.now verdict =
     λ verdict put. (
       Ok found,
-      in_turn-first greatest_year job.first.now job.others.now c.args.is_prefix c.args.part.now job.defaults found c.in-Ok.ensures.said,
+      in_turn-first greatest_year job.first.now job.others.now c.args.is_prefix c.args.part.now job.defaults found c.in-Some.ensures.said,
       put,
     ) in
     verdict_so g.E.FromReason.is_of c.put.result c.put.new.text with c.put.ensures.put

@@ -59,14 +59,9 @@ module _ (d0 d1 d2 d3 d4 d5 d6 d7 w : ℕ) (l0 : d0 < 10) (l1 : d1 < 10) (l2 : d
       ≡ d0 * 10 ^ 7 + (d1 * 10 ^ 6 + (d2 * 10 ^ 5 + (d3 * 10 ^ 4 + (d4 * 10 ^ 3 + (d5 * 10 ^ 2 + (d6 * 10 ^ 1 + (d7 * 10 ^ 0 + 0)))))))
   joined = all_joined d0 d1 d2 d3 d4 d5 d6 d7 w l0 l1 l2 l3 l4 l5 l6 l7 e ∙ omega arith
 
-  at_most : w ≤ 651061555542690057
-  at_most = omega arith
-
-eight : (xs : List ℕ) (w : ℕ) → Eight xs → AllBelow 10 xs → w ≡ low_first 256 xs → (three_joins w ≡ decimal xs) × (w ≤ 651061555542690057)
-eight (x0 ∷ x1 ∷ x2 ∷ x3 ∷ x4 ∷ x5 ∷ x6 ∷ x7 ∷ []) w t (l0, (l1, (l2, (l3, (l4, (l5, (l6, (l7, end)))))))) e = (
-  joined _ _ _ _ _ _ _ _ _ l0 l1 l2 l3 l4 l5 l6 l7 e,
-  at_most _ _ _ _ _ _ _ _ _ l0 l1 l2 l3 l4 l5 l6 l7 e,
-)
+eight : (xs : List ℕ) (w : ℕ) → Eight xs → AllBelow 10 xs → w ≡ low_first 256 xs → three_joins w ≡ decimal xs
+eight (x0 ∷ x1 ∷ x2 ∷ x3 ∷ x4 ∷ x5 ∷ x6 ∷ x7 ∷ []) w t (l0, (l1, (l2, (l3, (l4, (l5, (l6, (l7, end)))))))) e =
+    joined _ _ _ _ _ _ _ _ _ l0 l1 l2 l3 l4 l5 l6 l7 e
 eight xs w t b e = absurd t
 
 -- ---- The first bytes of a word
@@ -78,7 +73,7 @@ Masks v high = (bit_and v high ≡ 0) × (bit_and ((v + 434041037028460038) % 18
 -- what the code finds of these bytes, by the masks of their values and by the values moved to the end
 abbrev Right : List ℕ → ℕ → ℕ → ℕ → Type 0
 Right bytes v high moved =
-    (Masks v high → AllDigits bytes × ((three_joins moved ≡ digits_value bytes) × (moved ≤ 651061555542690057))) × (AllDigits bytes → Masks v high)
+    (Masks v high → AllDigits bytes × (three_joins moved ≡ digits_value bytes)) × (AllDigits bytes → Masks v high)
 
 -- Where the first bytes stand in a word, above them what doesn't count: the word and its values, each digit's first.
 module _ (k places : ℕ) (bs vs : List ℕ) (word v high end word_above above sums_above : ℕ) (bs_below : AllBelow 256 bs) (vs_below : AllBelow 256 vs)
@@ -118,7 +113,8 @@ module _ (k places : ℕ) (bs vs : List ℕ) (word v high end word_above above s
       let p = plus_below 10 48 256 vs (omega arith) b in
       let w = within (plus 48 vs) (length-plus 48 vs) p in
       let e = sum_each 48 vs in
-      bytes-unique (plus 48 vs) bs (length-plus 48 vs ∙ sym as_many) p bs_below (sym e ∙ forth (low_first 256 vs) (low_first 256 bs) is word_is (within bs as_many bs_below) (omega arith))
+      bytes-unique (plus 48 vs) bs (length-plus 48 vs ∙ sym as_many) p bs_below
+      (sym e ∙ forth (low_first 256 vs) (low_first 256 bs) is word_is (within bs as_many bs_below) (omega arith))
 
   values_are : AllDigits bs → AllBelow 10 vs
   values_are a =
@@ -128,7 +124,8 @@ module _ (k places : ℕ) (bs vs : List ℕ) (word v high end word_above above s
       let b = all_below 10 256 xs (omega arith) found.0 in
       let e : low_first 256 xs + low_first 256 (each 48 vs) ≡ low_first 256 bs =
       ap (λ ys. low_first 256 xs + low_first 256 ys) (each-same 48 vs xs (sym l)) ∙ sum_each 48 xs ∙ ap (low_first 256) found.1 in
-      subst (AllBelow 10) (bytes-unique xs vs l b vs_below (back (low_first 256 vs) (low_first 256 bs) (low_first 256 xs) is word_is (within vs refl vs_below) (within xs l b) e)) found.0
+      subst (AllBelow 10) (bytes-unique xs vs l b vs_below
+      (back (low_first 256 vs) (low_first 256 bs) (low_first 256 xs) is word_is (within vs refl vs_below) (within xs l b) e)) found.0
 
   masks_of : AllBelow 10 vs → Masks v high
   masks_of b =
@@ -149,7 +146,7 @@ module _ (k places : ℕ) (bs vs : List ℕ) (word v high end word_above above s
         let same = bytes_are b in
         let found = eight (moved places vs) end all (moved_below places vs b) moves in (
           subst AllDigits same (AllDigits-plus vs b),
-          (found.0 ∙ decimal_moved places vs ∙ sym (digits_value_plus vs) ∙ ap digits_value same, found.1),
+          found ∙ decimal_moved places vs ∙ sym (digits_value_plus vs) ∙ ap digits_value same,
         ),
     λ a. masks_of (values_are a),
   )
@@ -177,22 +174,26 @@ at word v n s k t e f r = subst (λ (m : ℕ). RightAt word v m s) e (subst (λ 
 
 module _ (word v : ℕ) (p : word < 2 ^ 64) (q : v < 2 ^ 64) (is : v ≡ (word + 14974415777481871312) % 18446744073709551616) where
   right_4 : RightAt word v 4 32
-  right_4 = right_of 32 4 (first_bytes word 4) (first_bytes v 4) word v _ _ (word / 2 ^ 32) (v / 2 ^ 32) ((v + 434041037028460038) % 18446744073709551616 / 2 ^ 32)
+  right_4 = right_of 32 4 (first_bytes word 4) (first_bytes v 4) word v _ _ (word / 2 ^ 32) (v / 2 ^ 32)
+      ((v + 434041037028460038) % 18446744073709551616 / 2 ^ 32)
       (first_below word 4) (first_below v 4) refl refl (omega arith) (omega arith) (omega arith) (omega arith)
       (λ low e b. omega arith) (λ low first e f b d. omega arith) (λ low first x e f b d g. omega arith) (omega arith) tt
 
   right_5 : RightAt word v 5 24
-  right_5 = right_of 40 3 (first_bytes word 5) (first_bytes v 5) word v _ _ (word / 2 ^ 40) (v / 2 ^ 40) ((v + 434041037028460038) % 18446744073709551616 / 2 ^ 40)
+  right_5 = right_of 40 3 (first_bytes word 5) (first_bytes v 5) word v _ _ (word / 2 ^ 40) (v / 2 ^ 40)
+      ((v + 434041037028460038) % 18446744073709551616 / 2 ^ 40)
       (first_below word 5) (first_below v 5) refl refl (omega arith) (omega arith) (omega arith) (omega arith)
       (λ low e b. omega arith) (λ low first e f b d. omega arith) (λ low first x e f b d g. omega arith) (omega arith) tt
 
   right_6 : RightAt word v 6 16
-  right_6 = right_of 48 2 (first_bytes word 6) (first_bytes v 6) word v _ _ (word / 2 ^ 48) (v / 2 ^ 48) ((v + 434041037028460038) % 18446744073709551616 / 2 ^ 48)
+  right_6 = right_of 48 2 (first_bytes word 6) (first_bytes v 6) word v _ _ (word / 2 ^ 48) (v / 2 ^ 48)
+      ((v + 434041037028460038) % 18446744073709551616 / 2 ^ 48)
       (first_below word 6) (first_below v 6) refl refl (omega arith) (omega arith) (omega arith) (omega arith)
       (λ low e b. omega arith) (λ low first e f b d. omega arith) (λ low first x e f b d g. omega arith) (omega arith) tt
 
   right_7 : RightAt word v 7 8
-  right_7 = right_of 56 1 (first_bytes word 7) (first_bytes v 7) word v _ _ (word / 2 ^ 56) (v / 2 ^ 56) ((v + 434041037028460038) % 18446744073709551616 / 2 ^ 56)
+  right_7 = right_of 56 1 (first_bytes word 7) (first_bytes v 7) word v _ _ (word / 2 ^ 56) (v / 2 ^ 56)
+      ((v + 434041037028460038) % 18446744073709551616 / 2 ^ 56)
       (first_below word 7) (first_below v 7) refl refl (omega arith) (omega arith) (omega arith) (omega arith)
       (λ low e b. omega arith) (λ low first e f b d. omega arith) (λ low first x e f b d g. omega arith) (omega arith) tt
 
@@ -229,20 +230,8 @@ returns-then-not-are_digits c = λ digits.
     let masks = (right c.args.word _ (omega arith) (omega arith) refl c.args.n (64 - 8 * c.from.result) (omega arith) (omega arith) (omega arith)).1 digits in
     both_false _ _ _ _ c.if-not-are_digits.true masks.0 masks.1
 
-pub overflow_mul-pairs : goal.overflow_mul-pairs
-overflow_mul-pairs c =
-    let found = (right c.args.word _ (omega arith) (omega arith) refl c.args.n (64 - 8 * c.from.result) (omega arith) (omega arith) (omega arith)).0
-    (answers_both _ _ _ _ c.if-not-are_digits.false) in
-    omega arith
-
-pub overflow_add-pairs : goal.overflow_add-pairs
-overflow_add-pairs c =
-    let found = (right c.args.word _ (omega arith) (omega arith) refl c.args.n (64 - 8 * c.from.result) (omega arith) (omega arith) (omega arith)).0
-    (answers_both _ _ _ _ c.if-not-are_digits.false) in
-    omega arith
-
 pub returns : goal.returns
 returns c =
     let found = (right c.args.word _ (omega arith) (omega arith) refl c.args.n (64 - 8 * c.from.result) (omega arith) (omega arith) (omega arith)).0
     (answers_both _ _ _ _ c.if-not-are_digits.false) in
-    (found.0, found.1.0)
+    found

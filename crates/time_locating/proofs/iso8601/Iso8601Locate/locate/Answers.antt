@@ -30,9 +30,9 @@ use Rattle.time_locating.proofs.IsoLengths.{after-within, byte-length, offset_te
 use Rattle.time_locating.proofs.MarkSteps.{no_furthest}
 use Rattle.time_locating.proofs.iso8601.Iso8601Locate.locate.Goals as goal
 
--- ---- The place of a text of ISO 8601, from what is read of it and what it misses. `Y` is the greatest year.
+-- ---- The place of an ISO 8601 text, from its readings and misses. `Y` is the greatest year.
 
--- ---- misses leave no more than the bytes
+-- ---- misses leave no more bytes than there are
 
 piece-within : (most : ℕ) (p : Piece) (ps : List Piece) (b : List ℕ) (o : Option (List ℕ)) → after p b ≡ o → length b ≤ most
     → ((rest : List ℕ) → length rest ≤ most → LeavesUpTo most (furthest (row_misses ps rest)))
@@ -99,7 +99,7 @@ misses-within : (Y : ℕ) (b : List ℕ) (r : Record) → LeavesUpTo (length b) 
 unfolding misses
 misses-within Y b r = by_date-within Y b r (date_text b) refl
 
--- ---- what is read leaves no more than the bytes
+-- ---- readings leave no more bytes than there are
 
 value-rest : {V W : Type 0} (u : Found V) (o : Option W) (t : Found W) → option_map (with_value u) o ≡ Some t → t.rest ≡ u.rest
 value-rest u None t h = absurd (none-some t h)
@@ -214,14 +214,14 @@ date_refused : (Y : ℕ) (b : List ℕ) (r : Record) (e : Refusal) → date_over
 unfolding date_over misses
 date_refused Y b r e h none = text_refused Y b r (date_text b) e refl h none
 
--- ---- what is answered
+-- ---- the result
 
 some_further : (m : Miss) (n : Option Miss) → further (Some m) n ≡ None → ⊥
 some_further m None is = none-some m (sym is)
 some_further m (Some n) is = none-some _ (sym is)
 
 module _ (Y : ℕ) (b : List ℕ) (r : Record) where
-  -- what is missed at a place
+  -- the miss at a place
   found : (place : Option Miss) (result : Option Located)
       → place_after (rest_of (reading Y b (with_leap_second r))) (furthest (misses Y b (with_leap_second r))) ≡ place
       → LeavesUpTo (length b) place → (place ≡ None → ⊥) → seen_place result ≡ place_in (length b) place
@@ -246,7 +246,7 @@ module _ (Y : ℕ) (b : List ℕ) (r : Record) where
       (further-leaves (length b) (Some end) others (reading-within Y b (with_leap_second r) (c ∷ x) q h)
       (misses-within Y b (with_leap_second r))) (some_further end others) e
 
-  -- the answer to the parse's reading
+  -- the result for the parse's reading
   pub iso_located : (read : Result (Bor (List ℕ)) Parse) (new : Record) (missed : Option Miss) (result : Option Located)
       → ParsesInto (Reads Y) (Refuses Y) b r read new → missed ≡ furthest (misses Y b (with_leap_second r))
       → seen_place result ≡ place_in (length b) (place_after (option_copied (result_ok read)) missed)

@@ -29,7 +29,7 @@ within bytes p s =
     let all = left-within (Asks true) s.before nothing_read bytes s.mid s.numbers s.stand in
     omega (arith, wanted_from-within p s.mid)
 
--- what is answered is where what is wanted should begin
+-- the result is where the expected text should begin
 same_rest : (p : Place) (bytes rest from : List ℕ) (s : FailsAt true bytes p) → Some rest ≡ Some s.mid → from ≡ wanted_from p rest
     → length from ≡ length (wanted_from p s.mid)
 same_rest p bytes rest from s is e = ap length e ∙ ap (λ b. length (wanted_from p b)) (same_Some rest s.mid is)

@@ -6,7 +6,7 @@ use Rattle.time_parsing.proofs.TreeLemmas.{put_all-parts}
 use Rattle.time_parsing.proofs.rfc3339.Rfc3339Parsable.parse_into.Goals as goal
 use Rattle.time_parsing.proofs.rfc3339.Rfc3339Parsable.parse_into.Goals.{In-Ok}
 
--- the numbers lie in the ranges of their places
+-- the numbers are in the ranges of their places
 in_places : (c : In-Ok) → InPlaces true c.in-Ok.found.1
 in_places c = HasForm-in_places true c.args.input.now c.in-Ok.found.0.now c.in-Ok.found.1 c.in-Ok.ensures
 

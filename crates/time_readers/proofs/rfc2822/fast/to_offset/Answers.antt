@@ -16,7 +16,7 @@ use Rattle.time_readers.proofs.ToSecond.{within, two_digits, four_digits}
 use Rattle.time_readers.proofs.OpenComments.{fws-short, cfws-short, colon-short}
 use Rattle.time_readers.proofs.rfc2822.fast.to_offset.Goals as goal
 
--- ---- The places of a mail date from after its day to its offset, of twenty bytes within their bounds
+-- ---- Twenty bytes within their bounds match the places of a mail date after its day, up to its offset
 
 -- the numbers of a month, a year and a time
 abbrev to_offset_numbers : Numbers → Month → ℕ → ℕ → ℕ → ℕ → Numbers
@@ -176,7 +176,7 @@ to_offset_lists check_ranges n text first rest month year hour minute second cut
 pub returns-in_err-first-clause-stands : goal.returns-in_err-first-clause-stands
 returns-in_err-first-clause-stands g c = rw c.from_residual.ensures refl
 
--- what two bytes from `0` to `5` and from `0` to `9` say
+-- the bound of the number of two digits, the first of them up to `5`
 up_to_59 : (tens ones value : ℕ) → tens ≤ 53 → ones ≤ 57 → value ≡ (tens - 48) * 10 + (ones - 48) → value ≤ 60
 up_to_59 tens ones value p q e = omega (arith, p, q, e)
 

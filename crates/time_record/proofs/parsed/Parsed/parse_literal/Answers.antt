@@ -4,7 +4,7 @@ use Rattle.std.proofs.lemmas.Bool.Decides.{Decides-eqb}
 use Rattle.time_record.proofs.ComponentLemmas.{reads_literal, refuses_literal}
 use Rattle.time_record.proofs.parsed.Parsed.parse_literal.Goals as goal
 
--- what is left of the bytes after the text
+-- the rest of the bytes after the text
 abbrev Stripped : List ℕ → List ℕ → Option (Bor (List ℕ)) → Type 0
 Stripped b t r = MatchOption r ((x : List ℕ) → b ≢ t ++ x) (λ x. b ≡ t ++ x.now)
 

@@ -4,9 +4,9 @@ use Rattle.std.proofs.Math.Seq.{take-append-add}
 use borrow.Rule.Slice.PartMut.{put_mid}
 use Rattle.time_values.proofs.text.Text.append_some.Goals as goal
 
--- ---- Bytes put into an array
+-- ---- Bytes written to an array
 
--- the front of an array up to a part of what was put
+-- the prefix of an array up to a part of the bytes written
 some_put : (xs ys : List ℕ) (a k count : ℕ) → a ≤ length xs → count ≤ length ys
     → take (a + count) (put_mid a k xs ys) ≡ take a xs ++ take count ys
 some_put xs ys a k count h g =

@@ -10,7 +10,7 @@ use Rattle.time_values.specs.declared.utc_date_time.UtcDateTime.{UtcDateTime}
 use Rattle.time_zones.proofs.ZoneLemmas.{floor_of_whole, one_moment}
 use Rattle.time_zones.proofs.clocks.fast.only_moment.Goals as goal
 
--- in UTC a clock shows its instant
+-- in UTC a local time is its instant
 in_utc : (clock : PlainDateTime) (u : UtcDateTime) → utc_date u ≡ plain_date clock → utc_time u ≡ plain_time clock
     → utc_instant greatest_year u ≡ plain_instant greatest_year clock
 in_utc clock u date time =

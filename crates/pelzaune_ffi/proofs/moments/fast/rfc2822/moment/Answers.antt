@@ -35,5 +35,5 @@ returns c =
     let second = c.to_offset.new.numbers in
     let third = c.offset.new.numbers in
     let matches = whole_matches text c.in_ok-rest.rest.now c.in_ok-rest-2.rest.now first second third
-    c.in_ok-rest.ensures c.in_ok-rest-2.ensures.matches (rw c.in_ok-offset.ensures.end at c.in_ok-offset.ensures.matches) in
+    c.in_ok-rest.ensures c.in_ok-rest-2.ensures.stands (rw c.in_ok-offset.ensures.end at c.in_ok-offset.ensures.stands) in
     outcome_of text third c.moment_from.result matches (rw c.said_rfc2822.ensures at c.moment_from.ensures)

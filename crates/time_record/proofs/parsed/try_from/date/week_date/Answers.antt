@@ -15,14 +15,13 @@ use Rattle.time_record.proofs.ComponentLemmas.{IsRowDate-ordinal, range_seen}
 use Rattle.time_record.proofs.parsed.try_from.date.week_date.Goals as goal
 use Rattle.time_record.proofs.parsed.try_from.date.week_date.Goals.{After-days_since-2}
 
--- ---- The place in its year of a day by its week and weekday
+-- ---- The place of a day in its year, from its week and weekday
 
--- the place, where 8 is the first of January, of a week and weekday in weeks that begin on the
--- weekday `start`, where 1 January has the weekday `first`
+-- the place, counted so that 1 January is 8, of a week and weekday, if weeks begin on the weekday `start` and 1 January has the weekday `first`
 abbrev week_place : (first start week w : ℕ) → ℕ
 week_place first start week w = (start + 7 - first) % 7 + 1 + 7 * week + (w + 7 - start) % 7
 
--- a day has the place that its week and weekday give
+-- a day is at the place of its week and weekday
 place_of_week : (begin n start week w : ℕ) → 1 ≤ n → start < 7 → weekdays_in start begin n ≡ week →
     (begin + (n - 1)) % 7 ≡ w → n + 7 ≡ week_place (begin % 7) start week w
 place_of_week begin n start week w low small count day =
@@ -38,7 +37,7 @@ week_of_place begin n start week w low small within e =
 abbrev place_in_year : (y : ℤ) (start week w : ℕ) → ℕ
 place_in_year y start week w = week_place (year_start greatest_year y % 7) start week w
 
--- the same of dates
+-- a date is at the place of its week and weekday
 place_of_date : (y : ℤ) (start week w : ℕ) (d : Date) → start < 7 → IsWeekDate greatest_year start y week w d →
     ordinal d + 7 ≡ place_in_year y start week w
 place_of_date y start week w d small h =
@@ -62,7 +61,7 @@ week_place_is y d first since days week start w h is e f =
     let g : first ≡ year_start greatest_year y % 7 = omega (arith, ap (year_start greatest_year) h.0) in
     rw (e, f, g)
 
--- no date stands at a place before the first of January
+-- no date is at a place before the first of January
 no_early_week : (y : ℤ) (start week w place : ℕ) → start < 7 → place ≡ place_in_year y start week w → place ≤ 7 →
     (d : Date) → IsWeekDate greatest_year start y week w d → ⊥
 no_early_week y start week w place small e low d h =

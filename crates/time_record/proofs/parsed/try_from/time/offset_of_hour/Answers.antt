@@ -10,7 +10,7 @@ use Rattle.time_record.proofs.parsed.try_from.time.offset_of_hour.Goals as goal
 
 -- ---- The offset of a record that has its hour
 
--- the offset that is made of these parts is the record's
+-- the offset with these parts is the record's
 offset_made : (r : Record) (h m s : ℤ) (o : UtcOffset) → r.offset_hour ≡ Some h → m ≡ offset_part r r.offset_minute → s ≡ offset_seconds_of r
     → Constructs (offset_refusal h m s) (HasOffset h m s) (Ok o) → IsOffset r (Ok o)
 unfolding IsOffset

@@ -2,7 +2,7 @@ use Rattle.std.proofs.Common.{Err, Ok, refl}
 use Rattle.time_values.specs.Calendar.{greatest_year}
 use Rattle.restamp_verdict.specs.Job.{IsJudgedPart, IsPut, Verdict}
 use Rattle.restamp_verdict.proofs.GivesLemmas.{verdict_so}
-use Rattle.restamp_verdict.proofs.job.Job.judge_by_clocks.Goals as goal
+use Rattle.restamp_verdict.proofs.job.Job.judge_in_turn.Goals as goal
 
 pub returns-in-Ok-clause-verdict : goal.returns-in-Ok-clause-verdict
 returns-in-Ok-clause-verdict g c =

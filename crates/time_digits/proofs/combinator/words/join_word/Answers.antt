@@ -66,7 +66,7 @@ eight xs w t b e = absurd t
 
 -- ---- The first bytes of a word
 
--- what both masks say of the values
+-- The values pass both masks.
 abbrev Masks : ℕ → ℕ → Type 0
 Masks v high = (bit_and v high ≡ 0) × (bit_and ((v + 434041037028460038) % 18446744073709551616) high ≡ 0)
 
@@ -75,7 +75,7 @@ abbrev Right : List ℕ → ℕ → ℕ → ℕ → Type 0
 Right bytes v high moved =
     (Masks v high → AllDigits bytes × (three_joins moved ≡ digits_value bytes)) × (AllDigits bytes → Masks v high)
 
--- Where the first bytes stand in a word, above them what doesn't count: the word and its values, each digit's first.
+-- The place of the first bytes in a word, and of their values in the word of values: the bytes above don't count.
 module _ (k places : ℕ) (bs vs : List ℕ) (word v high end word_above above sums_above : ℕ) (bs_below : AllBelow 256 bs) (vs_below : AllBelow 256 vs)
     (as_many : length bs ≡ length vs) (power : 256 ^ length vs ≡ 2 ^ k)
     (mask : high ≡ low_first 256 (each 240 vs)) (mask_within : low_first 256 (each 240 vs) < 2 ^ k)

@@ -1,7 +1,7 @@
 //! Parses the components and literals that most lists consist of, without a call.
 //!
 //! Each function parses as the item's plain parser does, and stores the value that it stores. Or it returns `None`: the
-//! item is another one, and nothing is parsed.
+//! item or its text is an uncommon one, and nothing is parsed.
 ghost use Rattle.std.specs.Prelude.{false, true};
 ghost use Rattle.time_values.specs.Calendar.{greatest_year};
 ghost use Rattle.time_components.specs.Tree as tree;
@@ -12,8 +12,8 @@ use crate::Parsed;
 use time_components::Component;
 use time_components::component::fast;
 
-/// Parses one of the commonest components, and stores its value. `Some(None)` is an error. `None`: it is another
-/// component, and nothing is parsed.
+/// Parses one of the commonest components, and stores its value. `Some(None)` is an error. `None`: the component or its
+/// text is an uncommon one, and nothing is parsed.
 #[inline(always)]
 pub(crate) fn component<'a>(
     parsed: &mut Parsed,
@@ -24,13 +24,14 @@ pub(crate) fn component<'a>(
 {
     match *component {
         Component::CalendarYearFullStandardRange(modifiers) => {
-            let year = fast::year::<4>(input, modifiers.padding, modifiers.sign_is_mandatory);
-            Some(parsed.read_found(input, modifiers, year))
+            let year = fast::year::<4>(input, modifiers.padding, modifiers.sign_is_mandatory)?;
+            Some(parsed.store(input, modifiers, year))
         }
         Component::MonthNumerical(modifiers) => Some(parsed.read(input, modifiers)),
         Component::Day(modifiers) => Some(parsed.read(input, modifiers)),
         Component::Ordinal(modifiers) => {
-            Some(parsed.read_found(input, modifiers, fast::ordinal(input, modifiers.padding)))
+            let ordinal = fast::ordinal(input, modifiers.padding)?;
+            Some(parsed.store(input, modifiers, ordinal))
         }
         Component::Hour12(modifiers) => Some(parsed.read(input, modifiers)),
         Component::Hour24(modifiers) => Some(parsed.read(input, modifiers)),
@@ -38,16 +39,17 @@ pub(crate) fn component<'a>(
         Component::Period(modifiers) => Some(parsed.read(input, modifiers)),
         Component::Second(modifiers) => Some(parsed.read(input, modifiers)),
         Component::Subsecond(modifiers) => {
-            Some(parsed.read_found(input, modifiers, fast::subsecond(input, modifiers.digits)))
+            let subsecond = fast::subsecond(input, modifiers.digits)?;
+            Some(parsed.store(input, modifiers, subsecond))
         }
         Component::OffsetHour(modifiers) => {
-            let hour = fast::offset_hour(input, modifiers.padding, modifiers.sign_is_mandatory);
-            Some(parsed.read_found(input, modifiers, hour))
+            let hour = fast::offset_hour(input, modifiers.padding, modifiers.sign_is_mandatory)?;
+            Some(parsed.store(input, modifiers, hour))
         }
         Component::OffsetMinute(modifiers) => Some(parsed.read(input, modifiers)),
         Component::CalendarYearFullExtendedRange(modifiers) => {
-            let year = fast::year::<6>(input, modifiers.padding, modifiers.sign_is_mandatory);
-            Some(parsed.read_found(input, modifiers, year))
+            let year = fast::year::<6>(input, modifiers.padding, modifiers.sign_is_mandatory)?;
+            Some(parsed.store(input, modifiers, year))
         }
         _ => None,
     }

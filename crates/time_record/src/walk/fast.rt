@@ -11,7 +11,7 @@ use crate::parsed::fast;
 use time_components::{Inspect, Node, Step};
 
 /// Parses a leaf, and returns the rest that the walk would return. `Some(None)` is an error. `None`: the item is no
-/// such leaf, and nothing is parsed.
+/// leaf, or an uncommon one, and nothing is parsed.
 #[inline(always)]
 pub(super) fn leaf<'a, I: Inspect>(
     node: Node<'_, I>,
@@ -30,7 +30,7 @@ pub(super) fn leaf<'a, I: Inspect>(
 }
 
 /// Parses a leaf of one step, and returns the rest that the walk would return. `Some(None)` is an error. `None`: the
-/// item is no such leaf, and nothing is parsed.
+/// item is no leaf of one step, or an uncommon one, and nothing is parsed.
 #[inline(always)]
 pub(super) fn step<'a>(
     step: &Step,

@@ -78,8 +78,8 @@ pub fn walk_list<'a>(
 }
 
 // Parses items of one step one after the other, each at most once. Returns the steps from the first item on that isn't
-// parsed, the rest at that item, and its error if it is a leaf that doesn't match. No walk is called in this loop, so
-// it needs no room for a walk's result.
+// parsed, the rest at that item, and its error if it is known not to match. No walk is called in this loop, so it needs
+// no room for a walk's result.
 #[inline(always)]
 fn read_steps<'s, 'a>(
     steps: &'s [Step],

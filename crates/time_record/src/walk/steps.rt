@@ -252,7 +252,8 @@ pub(super) fn further_byte(steps: &[Step]) -> Option<(u8, &[Step])>
     }
 }
 
-// The steps after the further bytes of a literal.
+// The steps after the further bytes of a literal. Not inlined, so that the loop over leaves needs fewer registers.
+#[inline(never)]
 fn after_further(steps: &[Step]) -> &[Step]
     ensures after { result.now ≡ drop (length (steps_.further steps.now)) steps.now }
     ensures fewer { length result.now ≤ length steps.now }
@@ -264,7 +265,8 @@ fn after_further(steps: &[Step]) -> &[Step]
     left
 }
 
-// Parses a literal of this byte and the further bytes at the start of the steps.
+// Parses a literal of this byte and the further bytes at the start of the steps. Not inlined, as `after_further`.
+#[inline(never)]
 fn read_literal<'a>(
     first: u8,
     steps: &[Step],

@@ -42,9 +42,10 @@ pub struct CalendarDigits<'a> {
 pub(in crate::iso8601) fn date(input: &[u8]) -> Option<Part<'_, DateNumbers>>
     ensures { IfSome result (λ p. GivesPartOrFault iso_date (date_text input.now) (Ok p)) }
 {
-    let digits = match extended_date(input) {
-        Some(digits) => digits,
-        None => basic_date(input)?,
+    // The byte after a year of four digits tells the two forms apart.
+    let digits = match input {
+        [_, _, _, _, b'-', ..] => extended_date(input)?,
+        _ => basic_date(input)?,
     };
     Some(Part {
         rest: digits.rest,

@@ -1,5 +1,5 @@
 //! The pieces of ISO 8601 texts. Each parses a fixed form, or returns `None`.
-ghost use Rattle.std.specs.Prelude.{◌≡◌, ◌≤◌, ◌<◌, ◌^◌, IfSome};
+ghost use Rattle.std.specs.Prelude.{◌≡◌, ◌≤◌, ◌<◌, ◌^◌, ℕ, IfSome, List, Some};
 ghost use Rattle.std.specs.Int.NonZero.{non_zero_u8_get, non_zero_u16_get};
 ghost use Rattle.time_digits.specs.Digits.{Finds, AllDigits, IsDigitRun};
 ghost use Rattle.time_readers.specs.IsoPieces.{Gives, GivesAs, number_of};
@@ -18,15 +18,22 @@ pub fn year(input: &[u8]) -> Option<ParsedItem<'_, i32>>
     ensures { Gives (spec.year input.now) result }
 {
     match sign(input) {
-        Some(found) => {
-            let number = exactly::<6>(found.0)?;
-            Some(ParsedItem(number.0, with_sign(found.1, number.1)))
-        }
+        Some(found) => year_after_sign(found.0, found.1),
         None => {
             let number = exactly::<4>(input)?;
             Some(ParsedItem(number.0, with_sign(Sign::Positive, number.1)))
         }
     }
+}
+
+// Parses the six digits of a year after its sign. Not inlined, since few years have one, and callers that grow too large
+// aren't inlined themselves.
+#[inline(never)]
+fn year_after_sign(input: &[u8], sign: Sign) -> Option<ParsedItem<'_, i32>>
+    ensures { (bytes : List ℕ) → Gives (spec.year_after bytes (Some (input.now, sign))) result }
+{
+    let number = exactly::<6>(input)?;
+    Some(ParsedItem(number.0, with_sign(sign, number.1)))
 }
 
 // A number with its sign.

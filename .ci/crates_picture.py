@@ -25,8 +25,8 @@ BOXES = {
     "byte_streams": (2, 4, 2.15, "calls that fail, counted"),
     "the facade": (2, 4, 3.25, "all of them, by Rust's paths", "time, time_uses"),
     "programs": (3, 5, 0, "texts parsed line by line", "programs_answers", "time_lines", "time_parse"),
-    "restamp": (3, 5, 2.15, "times rewritten in lines", "restamp_place, restamp_verdict,", "restamp_stream, restamp_command,",
-                "restamp_in_place, restamp"),
+    "restamp": (3, 5, 2.15, "times rewritten in lines", "restamp_place, restamp_formats,", "restamp_lines, restamp_stream,",
+                "restamp_in_place,", "restamp_command, restamp"),
     "C": (3, 5, 1.1, "C, Rust, Python and SQL", "pelzaune_ffi", "pelzaune"),
     "tests and benches": (3, 5, 3.25, "stand on all of these", "time_tests_.., restamp_tests", "time_bench"),
 }
@@ -47,7 +47,7 @@ WIDE, HIGH, STEP, PITCH, LEFT, SMALL = 204, 30, 244, 112, 30, 6.1
 # Boxes that depend on all others.
 ON_ALL = ("the facade", "tests and benches")
 MEMBERS = {"the facade": ("time", "time_uses"), "programs": ("programs_answers", "time_lines", "time_parse"), "C": ("pelzaune_ffi", "pelzaune"),
-           "restamp": ("restamp_place", "restamp_stream", "restamp_in_place", "restamp_verdict", "restamp_command", "restamp")}
+           "restamp": ("restamp_place", "restamp_stream", "restamp_in_place", "restamp_formats", "restamp_lines", "restamp_command", "restamp")}
 
 
 def box_of(crate):

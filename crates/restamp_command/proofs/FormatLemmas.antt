@@ -13,7 +13,7 @@ use Rattle.time_values.specs.Refusal.{Refusal}
 use Rattle.time_values.specs.declared.utc_date_time.UtcDateTime.{UtcDateTime}
 use Rattle.time_values.proofs.InstantLemmas.{first_instant_is, is_instant-IsInstant, last_instant_is}
 use Rattle.restamp_stream.specs.Reports.{reason_text}
-use Rattle.restamp_verdict.specs.declared.reading.Reading.{Reading}
+use Rattle.restamp_formats.specs.declared.reading.Reading.{Reading}
 use Rattle.restamp_command.specs.Options.{other_names}
 use Rattle.restamp_command.specs.declared.options.Options.{Options}
 use Rattle.restamp_command.specs.Fault as fault

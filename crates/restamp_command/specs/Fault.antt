@@ -2,10 +2,10 @@
 use Rattle.std.specs.Prelude.{ℕ, List, codes, Option, None, Some}
 use Rattle.time_zones.specs.Zones.{fault_text}
 use Rattle.time_zones.specs.declared.zone_fault.ZoneFault.{ZoneFault}
-use Rattle.restamp_verdict.specs.MissingField.{missing_field_text}
-use Rattle.restamp_verdict.specs.Naming as naming
-use Rattle.restamp_verdict.specs.Reason.{Reason, seen, reason_text}
-use Rattle.restamp_verdict.specs.declared.missing_field.MissingField.{MissingField}
+use Rattle.restamp_formats.specs.MissingField.{missing_field_text}
+use Rattle.restamp_formats.specs.Naming as naming
+use Rattle.restamp_formats.specs.Reason.{Reason, seen, reason_text}
+use Rattle.restamp_formats.specs.declared.missing_field.MissingField.{MissingField}
 use Rattle.restamp_command.specs.declared.fault.Fault as declared
 use Rattle.restamp_command.specs.declared.fault.Fault.TheVariants as fault
 use Rattle.restamp_command.specs.declared.fault.TimeArgError as declared_none

@@ -8,20 +8,20 @@ use Rattle.restamp_place.specs.declared.cuts.Place.{Place}
 use Rattle.restamp_place.specs.declared.cuts.Place.TheVariants as place
 use Rattle.restamp_place.specs.declared.fields.Fields.{Fields}
 use Rattle.restamp_place.specs.declared.fields.Fields.TheVariants.{Delimited, Blank, Quoted}
-use Rattle.restamp_verdict.specs.MissingField.{format_missing_field, can_default}
-use Rattle.restamp_verdict.specs.Naming as naming
-use Rattle.restamp_verdict.specs.Naming.{Means, MeansWriting, meaning_of, format_name_of}
-use Rattle.restamp_verdict.specs.declared.form.Named.TheVariants.{Rfc3339}
-use Rattle.restamp_verdict.specs.declared.form.Writing.{Writing}
-use Rattle.restamp_verdict.specs.declared.form.Writing.TheVariants.{Named}
-use Rattle.restamp_verdict.specs.declared.job.Job.{Job}
-use Rattle.restamp_verdict.specs.declared.missing_field.Part.{Part}
-use Rattle.restamp_verdict.specs.declared.missing_field.Part.TheVariants as part
-use Rattle.restamp_verdict.specs.declared.local.Fold.{Fold}
-use Rattle.restamp_verdict.specs.declared.local.Fold.TheVariants.{Refuse}
-use Rattle.restamp_verdict.specs.declared.reading.Defaults.{Defaults}
-use Rattle.restamp_verdict.specs.declared.reading.Reading.{Reading}
-use Rattle.restamp_verdict.specs.declared.reading.Reading.TheVariants as reading
+use Rattle.restamp_formats.specs.MissingField.{format_missing_field, can_default}
+use Rattle.restamp_formats.specs.Naming as naming
+use Rattle.restamp_formats.specs.Naming.{Means, MeansWriting, meaning_of, format_name_of}
+use Rattle.restamp_formats.specs.declared.form.Named.TheVariants.{Rfc3339}
+use Rattle.restamp_formats.specs.declared.form.Writing.{Writing}
+use Rattle.restamp_formats.specs.declared.form.Writing.TheVariants.{Named}
+use Rattle.restamp_lines.specs.declared.job.Job.{Job}
+use Rattle.restamp_formats.specs.declared.missing_field.Part.{Part}
+use Rattle.restamp_formats.specs.declared.missing_field.Part.TheVariants as part
+use Rattle.restamp_formats.specs.declared.local.Fold.{Fold}
+use Rattle.restamp_formats.specs.declared.local.Fold.TheVariants.{Refuse}
+use Rattle.restamp_formats.specs.declared.reading.Defaults.{Defaults}
+use Rattle.restamp_formats.specs.declared.reading.Reading.{Reading}
+use Rattle.restamp_formats.specs.declared.reading.Reading.TheVariants as reading
 use Rattle.restamp_command.specs.Options.{other_names, text_behind}
 use Rattle.restamp_command.specs.declared.options.Options.{Options}
 use Rattle.restamp_stream.specs.declared.settings.Output.{Output}

@@ -6,13 +6,13 @@ use Rattle.time_values.specs.Calendar.{greatest_year}
 use Rattle.time_locating.specs.Misses.{Wanted, these_bytes, named, the_end}
 use Rattle.restamp_stream.specs.declared.action.LineAction.{LineAction}
 use Rattle.restamp_stream.specs.declared.action.LineAction.TheVariants.{Without, Rewritten, Dropped, Refused}
-use Rattle.restamp_verdict.specs.Job.{Verdict, without, rewritten, dropped, refused, IsJudged}
-use Rattle.restamp_verdict.specs.ErrorLocation.{IsMissingField, why_text, IsErrorLocation, ErrorLocation}
-use Rattle.restamp_verdict.specs.Reason.{Reason}
-use Rattle.restamp_verdict.specs.declared.job.Job.{Job}
-use Rattle.restamp_verdict.specs.declared.missing_field.MissingField.{MissingField}
-use Rattle.restamp_verdict.proofs.OneVerdict.{one_verdict}
-use Rattle.restamp_verdict.proofs.OneErrorLocation.{one_missing_field, one_error_location}
+use Rattle.restamp_lines.specs.Job.{Verdict, without, rewritten, dropped, refused, IsJudged}
+use Rattle.restamp_lines.specs.ErrorLocation.{IsMissingField, why_text, IsErrorLocation, ErrorLocation}
+use Rattle.restamp_formats.specs.Reason.{Reason}
+use Rattle.restamp_lines.specs.declared.job.Job.{Job}
+use Rattle.restamp_formats.specs.declared.missing_field.MissingField.{MissingField}
+use Rattle.restamp_lines.proofs.OneVerdict.{one_verdict}
+use Rattle.restamp_lines.proofs.OneErrorLocation.{one_missing_field, one_error_location}
 
 -- ---- A rejected line on a terminal
 

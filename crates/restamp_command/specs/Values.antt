@@ -25,17 +25,17 @@ use Rattle.time_record.specs.Reading.{Reads, Refuses}
 use Rattle.time_record.specs.Record.{empty}
 use Rattle.time_record.specs.Resolution.{IsOffset}
 use Rattle.time_parsing.specs.Outcome.{IsOutcome}
-use Rattle.restamp_verdict.specs.declared.reading.Defaults.{Defaults}
-use Rattle.restamp_verdict.specs.Zoned.{IsConverted, clock_of}
-use Rattle.restamp_verdict.specs.Reason.{nonexistent, outside_zone_range, Reason}
-use Rattle.restamp_verdict.specs.declared.clock.Clock.TheVariants as on
-use Rattle.restamp_verdict.specs.declared.local.Clocks.{Clocks}
-use Rattle.restamp_verdict.specs.Reading.{ParsesAs, IsReadInTurn}
-use Rattle.restamp_verdict.specs.declared.local.Fold.{Fold}
-use Rattle.restamp_verdict.specs.declared.local.Fold.TheVariants.{Refuse, Earlier, Later}
-use Rattle.restamp_verdict.specs.declared.reading.Reading.{Reading}
-use Rattle.restamp_verdict.specs.declared.reading.Reading.TheVariants.{Rfc3339}
-use Rattle.restamp_verdict.specs.declared.reading.Match.{Match}
+use Rattle.restamp_formats.specs.declared.reading.Defaults.{Defaults}
+use Rattle.restamp_formats.specs.Zoned.{IsConverted, clock_of}
+use Rattle.restamp_formats.specs.Reason.{nonexistent, outside_zone_range, Reason}
+use Rattle.restamp_formats.specs.declared.clock.Clock.TheVariants as on
+use Rattle.restamp_formats.specs.declared.local.Clocks.{Clocks}
+use Rattle.restamp_formats.specs.Reading.{ParsesAs, IsReadInTurn}
+use Rattle.restamp_formats.specs.declared.local.Fold.{Fold}
+use Rattle.restamp_formats.specs.declared.local.Fold.TheVariants.{Refuse, Earlier, Later}
+use Rattle.restamp_formats.specs.declared.reading.Reading.{Reading}
+use Rattle.restamp_formats.specs.declared.reading.Reading.TheVariants.{Rfc3339}
+use Rattle.restamp_formats.specs.declared.reading.Match.{Match}
 use Rattle.restamp_command.specs.Fault.{TimeArgError, unread, out_of_range, no_clock, erased_time_error}
 use Rattle.restamp_command.specs.declared.bounds.Unit.{Unit}
 use Rattle.restamp_command.specs.declared.bounds.Unit.TheVariants as unit

@@ -9,11 +9,11 @@ use Rattle.time_zones.specs.declared.finding.NamedZone.{NamedZone}
 use Rattle.time_zones.specs.declared.finding.NamedZone.TheVariants.{Utc}
 use Rattle.time_zones.specs.declared.zone_fault.ZoneFault.{ZoneFault}
 use Rattle.time_zones.specs.declared.zone_fault.ZoneFault.TheVariants.{NotAName}
-use Rattle.restamp_verdict.specs.declared.clock.Clock.{Clock}
-use Rattle.restamp_verdict.specs.declared.clock.Clock.TheVariants as on
-use Rattle.restamp_verdict.specs.declared.local.Clocks.{Clocks}
-use Rattle.restamp_verdict.specs.declared.local.Fold.{Fold}
-use Rattle.restamp_verdict.specs.declared.reading.Defaults.{Defaults}
+use Rattle.restamp_formats.specs.declared.clock.Clock.{Clock}
+use Rattle.restamp_formats.specs.declared.clock.Clock.TheVariants as on
+use Rattle.restamp_formats.specs.declared.local.Clocks.{Clocks}
+use Rattle.restamp_formats.specs.declared.local.Fold.{Fold}
+use Rattle.restamp_formats.specs.declared.reading.Defaults.{Defaults}
 use Rattle.restamp_command.specs.Values.{IsOffsetText}
 use Rattle.restamp_command.specs.declared.zone.OwnedDefaults.{OwnedDefaults}
 use Rattle.restamp_command.specs.declared.zone.Local.{Local}

@@ -6,13 +6,13 @@ ghost use Rattle.time_values.specs.Instants.{nanos_per_day};
 ghost use Rattle.time_values.specs.Moments.{utc_instant};
 ghost use Rattle.time_values.specs.MovedClocks.{IsNear};
 ghost use Rattle.time_values.specs.Offsets.{offset_seconds};
-ghost use Rattle.restamp_verdict.specs.Zoned.{IsConverted};
-ghost use Rattle.restamp_verdict.specs.Reason.{seen};
-ghost use Rattle.restamp_verdict.specs.declared.clock.Clock.TheVariants as on;
+ghost use Rattle.restamp_formats.specs.Zoned.{IsConverted};
+ghost use Rattle.restamp_formats.specs.Reason.{seen};
+ghost use Rattle.restamp_formats.specs.declared.clock.Clock.TheVariants as on;
 ghost use Rattle.restamp_command.specs.Values as words;
 
 use crate::fault::TimeArgError;
-use restamp_verdict::{Clocks, Defaults, Reading, Reason, read, read_in_turn};
+use restamp_formats::{Clocks, Defaults, Reading, Reason, read, read_in_turn};
 use time_values::{OffsetDateTime, PlainDateTime, UtcDateTime, UtcOffset};
 use time_zones::{NotOne, assume_zone, checked_to_zone};
 

@@ -3,7 +3,7 @@ ghost use Rattle.std.specs.Prelude.{◌≡◌, Some};
 ghost use Rattle.std.specs.Option.{option_map};
 ghost use Rattle.restamp_command.specs.Fault as spec;
 
-use restamp_verdict::{FormatFault, MissingField, Reason};
+use restamp_formats::{FormatFault, MissingField, Reason};
 use std::fmt;
 use time_zones::ZoneFault;
 

@@ -7,7 +7,7 @@ ghost use Rattle.restamp_command.specs.Request as spec;
 
 use crate::fault::Fault;
 use crate::options::Options;
-use restamp_verdict::{Reading, find_reading};
+use restamp_formats::{Reading, find_reading};
 use std::rt::{Env, Files};
 use time_zones::find_zones;
 

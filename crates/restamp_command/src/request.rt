@@ -15,9 +15,10 @@ use crate::values::{
     find_delimiter, find_fold, find_number, find_offset, find_positive, find_shows, find_year,
 };
 use crate::zone::{Local, OwnedDefaults};
+use restamp_formats::{Defaults, Fold, Form, Reading};
+use restamp_lines::Job;
 use restamp_place::{Fields, Place};
 use restamp_stream::{Output, Reports, Settings};
-use restamp_verdict::{Defaults, Fold, Form, Job, Reading};
 use std::rt::{Env, Files};
 use time_values::{OffsetDateTime, UtcDateTime, UtcOffset};
 use time_zones::find_zone;

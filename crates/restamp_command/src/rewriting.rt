@@ -8,8 +8,8 @@ ghost use Rattle.restamp_stream.specs.Streams.{job_of, ProcessedFiles, StoppedIn
 ghost use Rattle.restamp_stream.specs.Causes.{faults_of, HasWriteCause};
 ghost use Rattle.restamp_stream.specs.Reports.{WritesReason};
 ghost use Rattle.restamp_stream.specs.declared.settings.Settings.{Settings as Settings_};
-ghost use Rattle.restamp_verdict.specs.Reason.{seen};
-ghost use Rattle.restamp_verdict.specs.declared.job.Job.{Job as Job_};
+ghost use Rattle.restamp_formats.specs.Reason.{seen};
+ghost use Rattle.restamp_lines.specs.declared.job.Job.{Job as Job_};
 ghost use Rattle.restamp_command.specs.Request.{AreSettingsOf, IsJobOf};
 ghost use Rattle.restamp_command.specs.Rewriting.{IsAction, IsReason, ReportsError};
 ghost use Rattle.restamp_command.specs.Zones.{zone_name};
@@ -17,9 +17,10 @@ ghost use Rattle.restamp_command.specs.Zones.{zone_name};
 use crate::pointing::{write_expected, write_pointer};
 use crate::request::Request;
 use byte_streams::{Sink, Unwritten};
+use restamp_formats::{Brief, Reason};
 use restamp_in_place::{Folder, Made, Target, Unreplaced, replace_file};
+use restamp_lines::{ErrorLocation, Job, Verdict, Why};
 use restamp_stream::{Block, LineAction, Opening, Rewriting, Stop, Stream, Tally};
-use restamp_verdict::{Brief, ErrorLocation, Job, Reason, Verdict, Why};
 use std::alloc::Global;
 use time_values::text::Text;
 

@@ -1,7 +1,7 @@
 //! How moments are written by the options.
 ghost use Rattle.std.specs.Prelude.{◌≡◌, MatchResult, false};
 ghost use Rattle.time_values.specs.Calendar.{greatest_year};
-ghost use Rattle.restamp_verdict.specs.Naming.{IsWritingFault, fault_of};
+ghost use Rattle.restamp_formats.specs.Naming.{IsWritingFault, fault_of};
 ghost use Rattle.restamp_command.specs.Fault.{erased_fault};
 ghost use Rattle.restamp_command.specs.Request as spec;
 
@@ -10,7 +10,7 @@ use crate::formats::is_zoned;
 use crate::options::Options;
 use crate::values::find_digits;
 use crate::zone::{Zone, parse_zone};
-use restamp_verdict::{FormatFault, Named, Writing, find_writing};
+use restamp_formats::{FormatFault, Named, Writing, find_writing};
 use std::alloc::Global;
 use std::rt::{Env, Files};
 use time_writing::FractionDigits;

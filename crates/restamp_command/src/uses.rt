@@ -2,14 +2,14 @@
 ghost use Rattle.std.specs.Prelude.{◌≡◌, MatchOption, true};
 ghost use Rattle.std.specs.List.{list_any};
 ghost use Rattle.time_values.specs.Calendar.{greatest_year};
-ghost use Rattle.restamp_verdict.specs.MissingField.{can_default};
-ghost use Rattle.restamp_verdict.specs.declared.missing_field.Part.TheVariants as part;
+ghost use Rattle.restamp_formats.specs.MissingField.{can_default};
+ghost use Rattle.restamp_formats.specs.declared.missing_field.Part.TheVariants as part;
 ghost use Rattle.restamp_command.specs.Fault.{erased_fault};
 ghost use Rattle.restamp_command.specs.Request as spec;
 
 use crate::fault::Fault;
 use crate::options::Options;
-use restamp_verdict::{Part, Reading};
+use restamp_formats::{Part, Reading};
 
 // Whether some text of one of the formats may omit that part.
 fn one_can_default(formats: &[Reading], part: Part) -> bool

@@ -4,7 +4,7 @@ ghost use Rattle.time_values.specs.Calendar.{greatest_year};
 ghost use Rattle.time_components.specs.Tree.{borrowed_shape, sequence, trees};
 ghost use Rattle.restamp_command.specs.Values as spec;
 
-use restamp_verdict::Fold;
+use restamp_formats::Fold;
 use time_components::{BorrowedFormatItem, Padding, item};
 use time_parsing::Parsable;
 use time_values::UtcOffset;

@@ -5,7 +5,7 @@ ghost use Rattle.time_zones.specs.Suffix.{zone_of};
 ghost use Rattle.restamp_command.specs.Zones as spec;
 
 use crate::values::find_offset;
-use restamp_verdict::{Clock, Clocks, Defaults, Fold};
+use restamp_formats::{Clock, Clocks, Defaults, Fold};
 use std::rt::{Env, Files};
 use time_values::{OffsetDateTime, UtcOffset};
 use time_zones::{NamedZone, ZoneFault, ZoneText, find_zone};

@@ -1,5 +1,5 @@
 //! Timestamps without an offset, in the local time of a zone, and bounds that are words relative to the clock.
-use restamp_verdict::{
+use restamp_formats::{
     Clocks, Defaults, Fold, OffsetParts, Reason, TwoOffsets, find_reading, read_dated,
 };
 use std::alloc::Global;

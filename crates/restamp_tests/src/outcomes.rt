@@ -1,9 +1,9 @@
 //! Compares the full verdict on a line, which has a reason, with the brief verdict on it.
-use restamp_place::Place;
-use restamp_verdict::{
-    Brief, Clock, Defaults, Form, Job, Reading, Reason, Verdict, Writing, find_reading,
-    find_writing,
+use restamp_formats::{
+    Brief, Clock, Defaults, Form, Reading, Reason, Writing, find_reading, find_writing,
 };
+use restamp_lines::{Job, Verdict};
+use restamp_place::Place;
 use std::test::Fail;
 use time_values::{OffsetDateTime, UtcOffset};
 use time_writing::{FractionDigits, Text};

@@ -244,11 +244,11 @@ fn changed(rt: HostRuntime) {
 
 // Timestamps anywhere in a line. They consist of whole words and numbers.
 mod anywhere {
-    use restamp_place::Place;
-    use restamp_verdict::{
-        Clock, Defaults, Form, Job, REACH, Reading, Reason, Verdict, Writing, find_reading,
-        find_writing, read_dated,
+    use restamp_formats::{
+        Clock, Defaults, Form, Reading, Reason, Writing, find_reading, find_writing, read_dated,
     };
+    use restamp_lines::{Job, REACH, Verdict};
+    use restamp_place::Place;
     use std::test::Fail;
     use time_writing::{FractionDigits, Text};
 
@@ -429,7 +429,7 @@ mod anywhere {
 
 // Timestamps of RFC 3339 before a text.
 mod fronts {
-    use restamp_verdict::{Defaults, Reading, read};
+    use restamp_formats::{Defaults, Reading, read};
     use time_values::OffsetDateTime;
 
     static SAMPLES: [&[u8]; 4] = [

@@ -1,9 +1,8 @@
 //! Timestamps of RFC 3339 with a suffix of RFC 9557.
 use super::clocks::berlin;
+use restamp_formats::{Clock, Defaults, Form, Reading, Reason, Writing, find_writing, read};
+use restamp_lines::{Job, Verdict};
 use restamp_place::Place;
-use restamp_verdict::{
-    Clock, Defaults, Form, Job, Reading, Reason, Verdict, Writing, find_writing, read,
-};
 use std::alloc::Global;
 use std::test::Fail;
 use time_values::error::{Parse, ParseFromDescription};

@@ -1,5 +1,5 @@
 use Rattle.std.proofs.Common.{Ok, Err, refl}
-use Rattle.restamp_verdict.specs.Reason.{seen}
+use Rattle.restamp_formats.specs.Reason.{seen}
 use Rattle.restamp_command.proofs.bounds.find_moment.Goals as goal
 
 pub returns-in-Ok : goal.returns-in-Ok

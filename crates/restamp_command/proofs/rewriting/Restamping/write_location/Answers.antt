@@ -1,7 +1,7 @@
 use Rattle.std.proofs.Common.{Bool, true, false, ap, refl, sym}
 use Rattle.restamp_stream.proofs.LinesLemmas.{OnOk-map}
-use Rattle.restamp_verdict.specs.ErrorLocation.{why_text, erased_location}
-use Rattle.restamp_verdict.specs.Reason.{seen}
+use Rattle.restamp_lines.specs.ErrorLocation.{why_text, erased_location}
+use Rattle.restamp_formats.specs.Reason.{seen}
 use Rattle.restamp_command.specs.Rewriting.{expected_text, error_report}
 use Rattle.restamp_command.proofs.FormatLemmas.{Appends-plain, Appends-location}
 use Rattle.restamp_command.proofs.rewriting.Restamping.write_location.Goals as goal

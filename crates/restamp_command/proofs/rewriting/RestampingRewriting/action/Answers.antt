@@ -1,5 +1,5 @@
 use Rattle.std.proofs.Common.{refl}
-use Rattle.restamp_verdict.specs.Job.{dropped, refused}
+use Rattle.restamp_lines.specs.Job.{dropped, refused}
 use Rattle.restamp_command.proofs.rewriting.RestampingRewriting.action.Goals as goal
 
 pub returns-in-Dropped-clause-action : goal.returns-in-Dropped-clause-action

@@ -3,10 +3,10 @@ use Rattle.time_values.specs.Calendar.{greatest_year}
 use Rattle.restamp_stream.specs.declared.action.LineAction.{LineAction}
 use Rattle.restamp_stream.specs.declared.action.LineAction.TheVariants.{Refused}
 use Rattle.restamp_stream.proofs.LinesLemmas.{OnOk-map}
-use Rattle.restamp_verdict.specs.Job.{Verdict, IsJudged, without, dropped, refused}
-use Rattle.restamp_verdict.specs.declared.job.Job.{Job}
-use Rattle.restamp_verdict.specs.Reason.{Reason, seen}
-use Rattle.restamp_verdict.proofs.OneVerdict.{one_verdict}
+use Rattle.restamp_lines.specs.Job.{Verdict, IsJudged, without, dropped, refused}
+use Rattle.restamp_lines.specs.declared.job.Job.{Job}
+use Rattle.restamp_formats.specs.Reason.{Reason, seen}
+use Rattle.restamp_lines.proofs.OneVerdict.{one_verdict}
 use Rattle.restamp_command.specs.Rewriting.{IsAction, action_of}
 use Rattle.restamp_command.proofs.rewriting.RestampingRewriting.write_reason.Goals as goal
 

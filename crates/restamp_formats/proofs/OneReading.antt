@@ -1,0 +1,260 @@
+-- A text has exactly one reading.
+use Rattle.std.proofs.Common.{◌≡◌, ℕ, zero, suc, ℤ, pos, Bool, true, false, List, [], ◌∷◌, sym, ap, subst, arith, ◌∙◌, None, Some, Ok, Err}
+use Rattle.std.specs.Prelude.{Option, Result, ◌-ℤ◌, MatchOption, MatchResult, MatchBool}
+use Rattle.std.proofs.lemmas.Int.{ints}
+use Rattle.time_values.specs.Moments.{offset_of}
+use Rattle.time_values.specs.Offsets.{IsUtc}
+use Rattle.time_values.specs.Calendar.{greatest_year}
+use Rattle.time_values.specs.Refusal.{Refusal}
+use Rattle.time_values.specs.declared.offset_date_time.OffsetDateTime.{OffsetDateTime}
+use Rattle.time_values.specs.declared.utc_offset.UtcOffset.{UtcOffset}
+use Rattle.time_zones.specs.declared.zones.Zones.{Zones}
+use Rattle.time_zones.proofs.FolderLemmas.{one_answer, same_offset_by_seconds}
+use Rattle.time_record.specs.Reading as Description
+use Rattle.time_record.specs.Record.{Record, empty}
+use Rattle.time_record.specs.Resolution.{IsMoment}
+use Rattle.time_record.proofs.ResolutionLemmas.{IsMoment-one}
+use Rattle.time_readers.specs.Direct.{RefusesRfc3339, RefusesRfc2822}
+use Rattle.time_parsing.specs.Outcome.{Refusing, Path, over_record, direct, IsExact, IsExactPath}
+use Rattle.time_parsing.specs.Outcome as Outcome
+use Rattle.time_parsing.specs.Iso8601 as Iso8601
+use Rattle.time_parsing.specs.Rfc2822 as Rfc2822
+use Rattle.time_parsing.specs.Rfc3339 as Rfc3339
+use Rattle.time_parsing.specs.exact.Laws.{tree_exact, rfc3339_exact_path, rfc2822_exact_path, iso8601_exact, rfc2822_exact, rfc3339_exact}
+use Rattle.time_parsing.proofs.OneOutcome.{one_moment_outcome, one_outcome, one_front}
+use Rattle.restamp_formats.specs.Reading.{IsReadBy, IsReadWith, IsRead, ParsesAs, ParsesInZone, ParsesLocally, Undated, undated, at_offset, completed, in_year, is_after, is_early, IsEarly, IsFinal, year_after, AreYearsTried, IsCompleted, IsDated, AreTried, IsReadInTurn, all_of, front_of, bare_where, guarded, IsGuarded, IsReadInFront, zones_of}
+use Rattle.time_components.specs.Tree.{steps_shape}
+use Rattle.restamp_formats.specs.Zoned.{IsOffsetWhen, clock_of, offset_by, IsSuffixed}
+use Rattle.restamp_formats.specs.Reason.{Reason, unread, is_local_time_error}
+use Rattle.restamp_formats.specs.declared.local.Clocks.{Clocks}
+use Rattle.restamp_formats.specs.declared.reading.Defaults.{Defaults}
+use Rattle.restamp_formats.specs.declared.reading.Reading.{Reading}
+use Rattle.restamp_formats.specs.declared.reading.Reading.TheVariants as reading
+use Rattle.restamp_formats.specs.declared.reading.Match.{Match}
+use Rattle.restamp_formats.proofs.OneWriting.{one_suffixed}
+
+one_read_by : (is_prefix : Bool) (path : Path) (reads : Outcome.Reading) (refuses : Refusing)
+    → IsExact reads refuses → IsExactPath greatest_year path reads refuses
+    → (text : List ℕ) (a b : Result Match Refusal)
+    → IsReadBy greatest_year is_prefix path reads refuses text a
+    → IsReadBy greatest_year is_prefix path reads refuses text b → a ≡ b
+one_read_by true path reads refuses exact alone text a b p q =
+    p.2 ∙ ap (front_of text)
+    (one_front reads refuses exact (IsMoment greatest_year) IsMoment-one text empty p.0 q.0 p.1 q.1) ∙ sym q.2
+one_read_by false path reads refuses exact alone text a b p q =
+    p.2 ∙ ap (all_of text)
+    (one_moment_outcome path reads refuses exact alone IsMoment-one text None p.0 q.0 p.1 q.1) ∙ sym q.2
+
+one_completed : (defaults : Defaults) (r : Record) (a b : Result OffsetDateTime Refusal)
+    → IsCompleted greatest_year defaults r a → IsCompleted greatest_year defaults r b → a ≡ b
+one_completed defaults r a b p q = IsMoment-one (completed greatest_year defaults r) a b p q
+
+one_read_with : (is_prefix : Bool) (reads : Outcome.Reading) (refuses : Refusing) → IsExact reads refuses
+    → (text : List ℕ) (defaults : Defaults) (a b : Result Match Refusal)
+    → IsReadWith greatest_year is_prefix reads refuses text defaults a
+    → IsReadWith greatest_year is_prefix reads refuses text defaults b → a ≡ b
+one_read_with true reads refuses exact text defaults a b p q =
+    p.2 ∙ ap (front_of text)
+    (one_front reads refuses exact (IsCompleted greatest_year defaults) (one_completed defaults) text empty p.0 q.0 p.1 q.1) ∙ sym q.2
+one_read_with false reads refuses exact text defaults a b p q =
+    p.2 ∙ ap (all_of text)
+    (one_outcome reads refuses exact (IsCompleted greatest_year defaults) (one_completed defaults) text empty p.0 q.0 p.1 q.1) ∙ sym q.2
+
+pub one_read_in_front : (text : List ℕ) (a b : Result Match Refusal) → IsReadInFront greatest_year text a → IsReadInFront greatest_year text b
+    → a ≡ b
+one_read_in_front text a b p q =
+    one_read_by true (direct (RefusesRfc3339 greatest_year)) (Rfc3339.Reads greatest_year) (Rfc3339.Refuses greatest_year)
+    (rfc3339_exact greatest_year) rfc3339_exact_path text a b p q
+
+one_read : (format : Reading) (is_prefix : Bool) (text : List ℕ) (defaults : Defaults) (a b : Result Match Refusal)
+    → IsRead greatest_year format is_prefix text defaults a → IsRead greatest_year format is_prefix text defaults b → a ≡ b
+one_read reading.Rfc3339 is_prefix text defaults a b p q =
+    one_read_by is_prefix (direct (RefusesRfc3339 greatest_year)) (Rfc3339.Reads greatest_year) (Rfc3339.Refuses greatest_year)
+    (rfc3339_exact greatest_year) rfc3339_exact_path text a b p q
+one_read (reading.Zoned zones) is_prefix text defaults a b p q =
+    one_read_in_front text a b p q
+one_read reading.Rfc2822 is_prefix text defaults a b p q =
+    p.2 ∙ ap (bare_where is_prefix text)
+    (one_read_by is_prefix (direct (RefusesRfc2822 greatest_year)) (Rfc2822.Reads greatest_year) (Rfc2822.Refuses greatest_year)
+    (rfc2822_exact greatest_year) rfc2822_exact_path text p.0 q.0 p.1 q.1) ∙ sym q.2
+one_read reading.Iso8601 is_prefix text defaults a b p q =
+    one_read_with is_prefix (Iso8601.Reads greatest_year) (Iso8601.Refuses greatest_year) (iso8601_exact greatest_year)
+    text defaults a b p q
+one_read (reading.Described d) is_prefix text defaults a b p q =
+    one_read_with is_prefix (Description.Reads greatest_year (steps_shape d)) (Description.Refuses greatest_year (steps_shape d))
+    (tree_exact greatest_year (steps_shape d)) text defaults a b p q
+one_read (reading.Complete d) is_prefix text defaults a b p q =
+    one_read_by is_prefix over_record (Description.Reads greatest_year (steps_shape d))
+    (Description.Refuses greatest_year (steps_shape d)) (tree_exact greatest_year (steps_shape d)) tt text a b p q
+one_read (reading.Counted d) is_prefix text defaults a b p q =
+    one_read_with is_prefix (Description.Reads greatest_year (steps_shape d)) (Description.Refuses greatest_year (steps_shape d))
+    (tree_exact greatest_year (steps_shape d)) text defaults a b p q
+
+-- the further rules of a format have one result
+one_guarded : (zones : Option Zones) (is_prefix : Bool) (text : List ℕ) (s : Match) (kept a b : Result Match Reason)
+    → MatchOption zones (a ≡ kept) (λ z. IsSuffixed z is_prefix text s a)
+    → MatchOption zones (b ≡ kept) (λ z. IsSuffixed z is_prefix text s b) → a ≡ b
+one_guarded None is_prefix text s kept a b p q = p ∙ sym q
+one_guarded (Some z) is_prefix text s kept a b p q = one_suffixed z text s is_prefix a b p q
+
+one_told : (format : Reading) (is_prefix : Bool) (text : List ℕ) (outcome : Result Match Refusal) (a b : Result Match Reason)
+    → MatchResult outcome (λ s. IsGuarded format is_prefix text s a) (λ e. a ≡ Err (unread e))
+    → MatchResult outcome (λ s. IsGuarded format is_prefix text s b) (λ e. b ≡ Err (unread e)) → a ≡ b
+one_told format is_prefix text (Ok s) a b p q = one_guarded (zones_of format) is_prefix text s (guarded format text s) a b p q
+one_told format is_prefix text (Err e) a b p q = p ∙ sym q
+
+pub one_has : (format : Reading) (is_prefix : Bool) (text : List ℕ) (defaults : Defaults) (a b : Result Match Reason)
+    → ParsesAs greatest_year format is_prefix text defaults a → ParsesAs greatest_year format is_prefix text defaults b → a ≡ b
+one_has format is_prefix text defaults a b p q =
+    one_told format is_prefix text q.0 a b
+    (subst (λ (outcome : Result Match Refusal). MatchResult outcome (λ s. IsGuarded format is_prefix text s a) (λ e. a ≡ Err (unread e)))
+    (one_read format is_prefix text defaults p.0 q.0 p.1 q.1) p.2) q.2
+
+-- one result has one consequence
+pub one_after : {V X : Type 0} (r s : Result V Reason) (P : V → X → Type 0) (Q : Reason → X → Type 0) (x y : X) → r ≡ s
+    → ((v : V) → P v x → P v y → x ≡ y) → ((e : Reason) → Q e x → Q e y → x ≡ y)
+    → MatchResult r (λ v. P v x) (λ e. Q e x) → MatchResult s (λ v. P v y) (λ e. Q e y) → x ≡ y
+one_after {V} (Ok v) (Ok w) P Q x y e one other p q =
+    let same : v ≡ w = cc in one w (subst (λ (u : V). P u x) same p) q
+one_after (Ok v) (Err f) P Q x y e one other p q = absurd cc
+one_after (Err f) (Ok v) P Q x y e one other p q = absurd cc
+one_after (Err f) (Err g) P Q x y e one other p q =
+    let same : f ≡ g = cc in other g (subst (λ (u : Reason). Q u x) same p) q
+
+-- a zone has one offset at a local date and time
+one_offset : (clocks : Clocks) (v : OffsetDateTime) (a b : Result UtcOffset Reason)
+    → IsOffsetWhen clocks v a → IsOffsetWhen clocks v b → a ≡ b
+one_offset clocks v a b p q =
+    p.2 ∙ ap (offset_by clocks.fold) (one_answer clocks.zone (clock_of v) p.0 q.0 p.1 q.1) ∙ sym q.2
+
+one_utc : (a b : UtcOffset) → IsUtc a → IsUtc b → a ≡ b
+one_utc a b p q = same_offset_by_seconds a b (omega (arith, ints, p.0, p.1, p.2, q.0, q.1, q.2))
+
+-- a text has one match as a local time
+one_on : (clocks : Clocks) (format : Reading) (is_prefix : Bool) (text : List ℕ) (defaults : Defaults) (a b : Result Match Reason)
+    → ParsesInZone greatest_year clocks format is_prefix text defaults a → ParsesInZone greatest_year clocks format is_prefix text defaults b → a ≡ b
+one_on clocks format is_prefix text defaults a b p q =
+    let SaysAt : UtcOffset → Result Match Reason → Type 0 = λ o x. ParsesAs greatest_year format is_prefix text (at_offset o defaults) x in
+    let same : p.0 ≡ q.0 = one_utc p.0 q.0 p.1 q.1 in
+    one_after p.2 q.2
+    (λ s x. (offset : Result UtcOffset Reason) × IsOffsetWhen clocks s.moment offset
+    × MatchResult offset (λ o. SaysAt o x) (λ why. x ≡ Err why)) (λ why x. x ≡ Err why) a b
+    (one_has format is_prefix text (at_offset q.0 defaults) p.2 q.2 (subst (λ (o : UtcOffset). SaysAt o p.2) same p.3) q.3)
+    (λ s u v. one_after u.0 v.0 SaysAt (λ why x. x ≡ Err why) a b (one_offset clocks s.moment u.0 v.0 u.1 v.1)
+    (λ o i j. one_has format is_prefix text (at_offset o defaults) a b i j) (λ why i j. i ∙ sym j) u.2 v.2)
+    (λ why u v. u ∙ sym v) p.4 q.4
+
+one_unplaced : (clocks : Option Clocks) (format : Reading) (is_prefix : Bool) (text : List ℕ) (defaults : Defaults) (e : Reason)
+    (a b : Result Match Reason)
+    → MatchOption clocks (a ≡ Err e) (λ c. ParsesInZone greatest_year c format is_prefix text defaults a)
+    → MatchOption clocks (b ≡ Err e) (λ c. ParsesInZone greatest_year c format is_prefix text defaults b) → a ≡ b
+one_unplaced None format is_prefix text defaults e a b p q = p ∙ sym q
+one_unplaced (Some c) format is_prefix text defaults e a b p q = one_on c format is_prefix text defaults a b p q
+
+one_locally : (format : Reading) (is_prefix : Bool) (text : List ℕ) (defaults : Defaults) (a b : Result Match Reason)
+    → ParsesLocally greatest_year format is_prefix text defaults a → ParsesLocally greatest_year format is_prefix text defaults b → a ≡ b
+one_locally format is_prefix text defaults a b p q =
+    one_after p.0 q.0 (λ s x. x ≡ Ok s)
+    (λ e x. MatchOption defaults.clocks (x ≡ Err e) (λ c. ParsesInZone greatest_year c format is_prefix text defaults x)) a b
+    (one_has format is_prefix text defaults p.0 q.0 p.1 q.1) (λ s u v. u ∙ sym v)
+    (λ e u v. one_unplaced defaults.clocks format is_prefix text defaults e a b u v) p.2 q.2
+
+-- the consequence of a rejection in a year
+abbrev Passes : ℕ → Undated → ℤ → Reason → Result Match Reason → Type 0
+Passes n u year why result =
+    (final : Bool) × IsFinal greatest_year u year why final
+    × MatchBool final (result ≡ Err why) (AreYearsTried greatest_year u n (year -ℤ pos 1) why result)
+
+-- the consequence of a result in a year
+abbrev Follows : ℕ → Undated → ℤ → Reason → Result Match Reason → Result Match Reason → Type 0
+Follows n u year reason read result =
+    MatchResult read
+    (λ s. MatchBool (is_after greatest_year s.moment u.latest)
+    (AreYearsTried greatest_year u n (year -ℤ pos 1) reason result) (result ≡ Ok s))
+    (λ why. Passes n u year why result)
+
+-- the earlier years have one result
+abbrev OneBefore : ℕ → Undated → ℤ → Type 0
+OneBefore n u year = (why : Reason) (a b : Result Match Reason)
+    → AreYearsTried greatest_year u n (year -ℤ pos 1) why a → AreYearsTried greatest_year u n (year -ℤ pos 1) why b → a ≡ b
+
+one_late : (late : Bool) (n : ℕ) (u : Undated) (year : ℤ) (reason : Reason) (s : Match) (a b : Result Match Reason) → OneBefore n u year
+    → MatchBool late (AreYearsTried greatest_year u n (year -ℤ pos 1) reason a) (a ≡ Ok s)
+    → MatchBool late (AreYearsTried greatest_year u n (year -ℤ pos 1) reason b) (b ≡ Ok s) → a ≡ b
+one_late true n u year reason s a b before p q = before reason a b p q
+one_late false n u year reason s a b before p q = p ∙ sym q
+
+one_passed : (final : Bool) (n : ℕ) (u : Undated) (year : ℤ) (why : Reason) (a b : Result Match Reason) → OneBefore n u year
+    → MatchBool final (a ≡ Err why) (AreYearsTried greatest_year u n (year -ℤ pos 1) why a)
+    → MatchBool final (b ≡ Err why) (AreYearsTried greatest_year u n (year -ℤ pos 1) why b) → a ≡ b
+one_passed true n u year why a b before p q = p ∙ sym q
+one_passed false n u year why a b before p q = before why a b p q
+
+one_final_by : (of_clocks : Bool) (u : Undated) (year : ℤ) (a b : Bool)
+    → MatchBool of_clocks (IsEarly greatest_year u year a) (a ≡ false)
+    → MatchBool of_clocks (IsEarly greatest_year u year b) (b ≡ false) → a ≡ b
+one_final_by true u year a b p q =
+    p.2 ∙ ap (is_early greatest_year u.latest)
+    (one_has u.format u.is_prefix u.text (at_offset (offset_of u.latest) (in_year year u.offset u.clocks)) p.0 q.0 p.1 q.1) ∙ sym q.2
+one_final_by false u year a b p q = p ∙ sym q
+
+one_passing : (n : ℕ) (u : Undated) (year : ℤ) (why : Reason) (a b : Result Match Reason) → OneBefore n u year
+    → Passes n u year why a → Passes n u year why b → a ≡ b
+one_passing n u year why a b before p q =
+    one_passed q.0 n u year why a b before
+    (subst (λ (final : Bool). MatchBool final (a ≡ Err why) (AreYearsTried greatest_year u n (year -ℤ pos 1) why a))
+    (one_final_by (is_local_time_error why) u year p.0 q.0 p.1 q.1) p.2) q.2
+
+one_following : (n : ℕ) (u : Undated) (year : ℤ) (reason : Reason) (read a b : Result Match Reason)
+    → OneBefore n u year → Follows n u year reason read a → Follows n u year reason read b → a ≡ b
+one_following n u year reason (Ok s) a b before p q =
+    one_late (is_after greatest_year s.moment u.latest) n u year reason s a b before p q
+one_following n u year reason (Err why) a b before p q =
+    one_passing n u year why a b before p q
+
+one_years : (n : ℕ) (u : Undated) (year : ℤ) (reason : Reason) (a b : Result Match Reason)
+    → AreYearsTried greatest_year u n year reason a → AreYearsTried greatest_year u n year reason b → a ≡ b
+unfolding AreYearsTried
+one_years zero u year reason a b p q = p ∙ sym q
+one_years (suc n) u year reason a b p q =
+    one_following n u year reason q.0 a b (λ why x y. one_years n u (year -ℤ pos 1) why x y)
+    (subst (λ (read : Result Match Reason). Follows n u year reason read a)
+    (one_locally u.format u.is_prefix u.text (in_year year u.offset u.clocks) p.0 q.0 p.1 q.1) p.2) q.2
+
+-- a text without a default year has one result
+one_latest : (latest : Option OffsetDateTime) (format : Reading) (is_prefix : Bool) (text : List ℕ) (offset : Option UtcOffset) (clocks : Option Clocks)
+    (e : Reason) (a b : Result Match Reason)
+    → MatchOption latest (a ≡ Err e) (λ v. AreYearsTried greatest_year (undated format is_prefix text offset clocks v) 10 (year_after v) e a)
+    → MatchOption latest (b ≡ Err e) (λ v. AreYearsTried greatest_year (undated format is_prefix text offset clocks v) 10 (year_after v) e b)
+    → a ≡ b
+one_latest None format is_prefix text offset clocks e a b p q = p ∙ sym q
+one_latest (Some v) format is_prefix text offset clocks e a b p q =
+    one_years 10 (undated format is_prefix text offset clocks v) (year_after v) e a b p q
+
+pub one_dated : (format : Reading) (is_prefix : Bool) (text : List ℕ) (defaults : Defaults) (a b : Result Match Reason)
+    → IsDated greatest_year format is_prefix text defaults a → IsDated greatest_year format is_prefix text defaults b → a ≡ b
+one_dated format is_prefix text defaults a b p q =
+    one_after p.0 q.0 (λ s x. x ≡ Ok s)
+    (λ e x. MatchOption defaults.latest (x ≡ Err e)
+    (λ v. AreYearsTried greatest_year (undated format is_prefix text defaults.offset defaults.clocks v) 10 (year_after v) e x)) a b
+    (one_locally format is_prefix text defaults p.0 q.0 p.1 q.1) (λ s u v. u ∙ sym v)
+    (λ e u v. one_latest defaults.latest format is_prefix text defaults.offset defaults.clocks e a b u v) p.2 q.2
+
+one_tried : (formats : List Reading) (is_prefix : Bool) (text : List ℕ) (defaults : Defaults) (reason : Reason)
+    (a b : Result Match Reason)
+    → AreTried greatest_year formats is_prefix text defaults reason a
+    → AreTried greatest_year formats is_prefix text defaults reason b → a ≡ b
+one_tried [] is_prefix text defaults reason a b p q = p ∙ sym q
+one_tried (format ∷ formats) is_prefix text defaults reason a b p q =
+    one_after p.0 q.0 (λ s x. x ≡ Ok s) (λ _ x. AreTried greatest_year formats is_prefix text defaults reason x) a b
+    (one_dated format is_prefix text defaults p.0 q.0 p.1 q.1) (λ s u v. u ∙ sym v)
+    (λ e u v. one_tried formats is_prefix text defaults reason a b u v) p.2 q.2
+
+pub one_in_turn : (format : Reading) (formats : List Reading) (is_prefix : Bool) (text : List ℕ) (defaults : Defaults)
+    (a b : Result Match Reason)
+    → IsReadInTurn greatest_year format formats is_prefix text defaults a
+    → IsReadInTurn greatest_year format formats is_prefix text defaults b → a ≡ b
+one_in_turn format formats is_prefix text defaults a b p q =
+    one_after p.0 q.0 (λ s x. x ≡ Ok s) (λ e x. AreTried greatest_year formats is_prefix text defaults e x) a b
+    (one_dated format is_prefix text defaults p.0 q.0 p.1 q.1) (λ s u v. u ∙ sym v)
+    (λ e u v. one_tried formats is_prefix text defaults e a b u v) p.2 q.2

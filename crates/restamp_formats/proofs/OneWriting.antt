@@ -1,0 +1,198 @@
+-- A moment has exactly one text in a form.
+use Rattle.std.specs.Prelude.{Option, Result, MatchOption, MatchBool, option_map}
+use Rattle.std.specs.Fmt.{signed_decimal}
+use Rattle.std.proofs.Common.{◌≡◌, ℕ, ℤ, List, sym, ap, subst, refl, arith, ◌∙◌, None, Some, Ok, Err, ◌+◌, ◌≤◌, Bool, true, false, length, take, drop}
+use Rattle.std.proofs.lemmas.Int.{ints}
+use Rattle.jiff_tz.specs.declared.timezone.TimeZone.{TimeZone}
+use Rattle.time_values.specs.Moments.{shown_at, offset_date, offset_time, offset_of, offset_instant}
+use Rattle.time_values.specs.Instants.{IsInstant, IsWhole, clock_nanos}
+use Rattle.time_values.specs.Calendar.{greatest_year}
+use Rattle.time_values.specs.Shown.{Items}
+use Rattle.time_values.specs.declared.offset_date_time.OffsetDateTime.{OffsetDateTime}
+use Rattle.time_values.specs.declared.utc_offset.UtcOffset.{UtcOffset}
+use Rattle.time_values.specs.Refusal.{trailing}
+use Rattle.time_values.proofs.InstantLemmas.{instant_is, clock_nanos_range, same_moment}
+use Rattle.time_values.proofs.NumberLemmas.{same_weekday}
+use Rattle.time_zones.specs.Suffix.{Checked, GoesWith, IsLongest, IsSuffix, Tag, critical_key, Says, zone_tag_of}
+use Rattle.time_zones.specs.declared.suffix.Suffixed.{Suffixed}
+use Rattle.time_zones.specs.declared.zones.Zones.{Zones}
+use Rattle.time_zones.proofs.FolderLemmas.{same_offset_by_seconds, one_check}
+use Rattle.time_zones.proofs.LongestLemmas.{suffix_once}
+use Rattle.time_writing.specs.Texts.{Writes, WritesSuch, IsMailText, mail_text}
+use Rattle.time_writing.specs.declared.parts.FractionDigits.{FractionDigits}
+use Rattle.time_writing.specs.declared.parts.Unwritable.{Unwritable}
+use Rattle.restamp_formats.specs.Zoned.{IsConvertedTo, IsConvertedIn, IsConverted, conversion_error, IsChecked, IsLongestSuffix, IsSuffixed, Suffix, checked, extended, has_tail, tells_offset}
+use Rattle.restamp_formats.specs.Form.{IsCounted, IsNamedText, IsWrittenBy, IsWritten, unit_of, written}
+use Rattle.restamp_formats.specs.Reason.{Reason, unread}
+use Rattle.restamp_formats.specs.declared.clock.Clock.{Clock}
+use Rattle.restamp_formats.specs.declared.clock.Clock.TheVariants as clock
+use Rattle.restamp_formats.specs.declared.form.Form.{Form}
+use Rattle.restamp_formats.specs.declared.form.Unit.{Unit as Unit_}
+use Rattle.restamp_formats.specs.declared.form.Unit.TheVariants.{Seconds, Milliseconds, Microseconds, Nanoseconds}
+use Rattle.restamp_formats.specs.declared.form.Named.{Named as Named_}
+use Rattle.restamp_formats.specs.declared.form.Named.TheVariants.{Rfc3339, Rfc2822, Iso8601, Count}
+use Rattle.restamp_formats.specs.declared.form.Writing.{Writing}
+use Rattle.restamp_formats.specs.declared.form.Writing.TheVariants.{Named, Described}
+use Rattle.restamp_formats.specs.declared.reading.Match.{Match}
+
+-- the local date and time of a moment
+clock_is : (v : OffsetDateTime)
+    → clock_nanos greatest_year (offset_date v) (offset_time v) ≡ shown_at (offset_instant greatest_year v) (offset_of v)
+clock_is v = let e = instant_is (offset_date v) (offset_time v) (offset_of v) in omega (arith, ints, e)
+
+-- moments with one instant and one offset are equal
+pub same_shown : (v w : OffsetDateTime)
+    → offset_instant greatest_year v ≡ offset_instant greatest_year w → offset_of v ≡ offset_of w → v ≡ w
+same_shown v w e o =
+    let clocks : clock_nanos greatest_year (offset_date v) (offset_time v) ≡ clock_nanos greatest_year (offset_date w) (offset_time w) =
+    clock_is v ∙ ap (λ n. shown_at n (offset_of v)) e ∙ ap (shown_at (offset_instant greatest_year w)) o ∙ sym (clock_is w) in
+    let parts = same_moment (offset_date v) (offset_date w) (offset_time v) (offset_time w) clocks in
+    λ j. record { date = parts.0 j; time = parts.1 j; offset = o j }
+
+-- a moment has a date at its own offset
+pub converted_in : (v : OffsetDateTime) → IsInstant greatest_year (shown_at (offset_instant greatest_year v) (offset_of v))
+converted_in v = subst (IsInstant greatest_year) (clock_is v) (clock_nanos_range (offset_date v) (offset_time v))
+
+one_shown_at : (o : UtcOffset) (v : OffsetDateTime) (a b : Option OffsetDateTime)
+    → IsConvertedTo greatest_year o v a → IsConvertedTo greatest_year o v b → a ≡ b
+one_shown_at o v None None p q = refl
+one_shown_at o v None (Some w) p q =
+    absurd (p (subst (λ n. IsInstant greatest_year (shown_at n o)) q.0
+    (subst (λ k. IsInstant greatest_year (shown_at (offset_instant greatest_year w) k)) q.1 (converted_in w))))
+one_shown_at o v (Some w) None p q =
+    absurd (q (subst (λ n. IsInstant greatest_year (shown_at n o)) p.0
+    (subst (λ k. IsInstant greatest_year (shown_at (offset_instant greatest_year w) k)) p.1 (converted_in w))))
+one_shown_at o v (Some w) (Some x) p q = ap Some (same_shown w x (p.0 ∙ sym q.0) (p.1 ∙ sym q.1))
+
+one_shown_in : (zone : TimeZone) (v : OffsetDateTime) (a b : Option OffsetDateTime)
+    → IsConvertedIn greatest_year zone v a → IsConvertedIn greatest_year zone v b → a ≡ b
+one_shown_in zone v None None p q = refl
+one_shown_in zone v None (Some w) p q = absurd (p q.1)
+one_shown_in zone v (Some w) None p q = absurd (q p.1)
+one_shown_in zone v (Some w) (Some x) p q =
+    ap Some (same_shown w x (p.0 ∙ sym q.0) (same_offset_by_seconds (offset_of w) (offset_of x) (p.2 ∙ sym q.2)))
+
+pub one_shown : (on : Clock) (v : OffsetDateTime) (a b : Option OffsetDateTime)
+    → IsConverted greatest_year on v a → IsConverted greatest_year on v b → a ≡ b
+one_shown clock.Own v a b p q = p ∙ sym q
+one_shown (clock.Fixed o) v a b p q = one_shown_at o v a b p q
+one_shown (clock.Zone zone) v a b p q = one_shown_in zone v a b p q
+
+same_items : (s t : Items) → s.items ≡ t.items → s ≡ t
+same_items s t e = λ j. record { items = e j }
+
+one_text : (reason : Option Unwritable) (bytes : List ℕ) (a b : Result Items Unwritable)
+    → Writes reason bytes a → Writes reason bytes b → a ≡ b
+one_text (Some why) bytes a b p q = p ∙ sym q
+one_text None bytes (Ok s) (Ok t) p q = ap Ok (same_items s t (p ∙ sym q))
+one_text None bytes (Ok s) (Err e) p q = absurd q
+one_text None bytes (Err e) b p q = absurd p
+
+one_mail_text : (v : OffsetDateTime) (s t : List ℕ) → IsMailText v s → IsMailText v t → s ≡ t
+one_mail_text v s t p q = p.2 ∙ ap (λ w. mail_text w v) (same_weekday p.0 q.0 (p.1 ∙ sym q.1)) ∙ sym q.2
+
+one_mail : (reason : Option Unwritable) (v : OffsetDateTime) (a b : Result Items Unwritable)
+    → WritesSuch reason (IsMailText v) a → WritesSuch reason (IsMailText v) b → a ≡ b
+one_mail (Some why) v a b p q = p ∙ sym q
+one_mail None v (Ok s) (Ok t) p q = ap Ok (same_items s t (one_mail_text v s.items t.items p q))
+one_mail None v (Ok s) (Err e) p q = absurd q
+one_mail None v (Err e) b p q = absurd p
+
+one_whole : (unit : Unit_) (n x y : ℤ) → IsWhole (unit_of unit) n x → IsWhole (unit_of unit) n y → x ≡ y
+one_whole Seconds n x y p q = omega (arith, ints)
+one_whole Milliseconds n x y p q = omega (arith, ints)
+one_whole Microseconds n x y p q = omega (arith, ints)
+one_whole Nanoseconds n x y p q = omega (arith, ints)
+
+one_count : (unit : Unit_) (v : OffsetDateTime) (a b : Result Items Reason)
+    → IsCounted greatest_year unit v a → IsCounted greatest_year unit v b → a ≡ b
+one_count unit v (Ok s) (Ok t) p q =
+    ap Ok (same_items s t (p.1.2 ∙ ap signed_decimal (one_whole unit (offset_instant greatest_year v) p.1.0 q.1.0 p.1.1 q.1.1) ∙ sym q.1.2))
+one_count unit v (Ok s) (Err e) p q = absurd (q.1 p.0)
+one_count unit v (Err e) (Ok t) p q = absurd (p.1 q.0)
+one_count unit v (Err e) (Err f) p q = ap Err (p.0 ∙ sym q.0)
+
+one_named : (named : Named_) (digits : FractionDigits) (v : OffsetDateTime) (a b : Result Items Reason)
+    → IsNamedText greatest_year named digits v a → IsNamedText greatest_year named digits v b → a ≡ b
+one_named Rfc3339 digits v a b p q = p.2 ∙ ap written (one_text _ _ p.0 q.0 p.1 q.1) ∙ sym q.2
+one_named Rfc2822 digits v a b p q = p.2 ∙ ap written (one_mail _ v p.0 q.0 p.1 q.1) ∙ sym q.2
+one_named Iso8601 digits v a b p q = p.2 ∙ ap written (one_text _ _ p.0 q.0 p.1 q.1) ∙ sym q.2
+one_named (Count unit) digits v a b p q = one_count unit v a b p q
+
+one_by : (writing : Writing) (digits : FractionDigits) (v : OffsetDateTime) (a b : Result Items Reason)
+    → IsWrittenBy greatest_year writing digits v a → IsWrittenBy greatest_year writing digits v b → a ≡ b
+one_by (Named named) digits v a b p q = one_named named digits v a b p q
+one_by (Described d) digits v a b p q = p ∙ sym q
+
+one_at : (form : Form) (shown other : Option OffsetDateTime) (a b : Result Items Reason) → shown ≡ other
+    → MatchOption shown (a ≡ Err (conversion_error form.clock)) (λ w. IsWrittenBy greatest_year form.writing.now form.digits w a)
+    → MatchOption other (b ≡ Err (conversion_error form.clock)) (λ w. IsWrittenBy greatest_year form.writing.now form.digits w b) → a ≡ b
+one_at form None None a b e p q = p ∙ sym q
+one_at form None (Some w) a b e p q = absurd cc
+one_at form (Some v) None a b e p q = absurd cc
+one_at form (Some v) (Some w) a b e p q =
+    let same : v ≡ w = cc in
+    one_by form.writing.now form.digits w a b (subst (λ x. IsWrittenBy greatest_year form.writing.now form.digits x a) same p) q
+
+pub one_written : (form : Form) (v : OffsetDateTime) (a b : Result Items Reason)
+    → IsWritten greatest_year form v a → IsWritten greatest_year form v b → a ≡ b
+one_written form v a b p q = one_at form p.0 q.0 a b (one_shown form.clock v p.0 q.0 p.1 q.1) p.2 q.2
+
+-- ---- A timestamp with a suffix: the longest suffix after it is unique, and so is the match of both
+
+pub one_suffix : (bytes : List ℕ) (s t : Suffix) → IsLongestSuffix bytes s → IsLongestSuffix bytes t → s ≡ t
+one_suffix bytes s t h k =
+    let most : s.len ≤ t.len = k.longest s.len s.zone s.tags h.within h.is_suffix in
+    let least : t.len ≤ s.len = h.longest t.len t.zone t.tags k.within k.is_suffix in
+    let len : s.len ≡ t.len = omega arith in
+    let same = suffix_once (take t.len bytes) s.zone t.zone s.tags t.tags
+    (subst (λ (n : ℕ). IsSuffix (take n bytes) s.zone s.tags) len h.is_suffix) k.is_suffix in
+    λ i. record { len = len i; zone = same.0 i; tags = same.1 i }
+
+module _ (zones : Zones) (text : List ℕ) (front : Match) where
+  one_checked : (s : Suffix) (a b : Result Match Reason) → IsChecked zones text front s a → IsChecked zones text front s b → a ≡ b
+  one_checked s a b p q =
+      p.2 ∙ ap (checked (extended front s.len))
+      (one_check zones (tells_offset (take front.length text)) front.moment s.zone (critical_key s.tags) p.0 q.0 p.1 q.1) ∙ sym q.2
+
+  one_ended : (tail : Bool) (s : Suffix) (a b : Result Match Reason)
+      → MatchBool tail (a ≡ Err (unread trailing)) (IsChecked zones text front s a)
+      → MatchBool tail (b ≡ Err (unread trailing)) (IsChecked zones text front s b) → a ≡ b
+  one_ended true s a b p q = p ∙ sym q
+  one_ended false s a b p q = one_checked s a b p q
+
+  pub one_suffixed : (is_prefix : Bool) (a b : Result Match Reason) → IsSuffixed zones is_prefix text front a
+      → IsSuffixed zones is_prefix text front b → a ≡ b
+  one_suffixed is_prefix a b p q =
+      one_ended (has_tail is_prefix text (front.length + q.0.len)) q.0 a b
+      (subst (λ (s : Suffix). MatchBool (has_tail is_prefix text (front.length + s.len)) (a ≡ Err (unread trailing))
+      (IsChecked zones text front s a)) (one_suffix (drop front.length text) p.0 q.0 p.1 q.1) p.2) q.2
+
+-- the suffix that was parsed, with these tags
+abbrev pub suffix_of : Suffixed → List Tag → Suffix
+suffix_of r tags = record { len = r.len; zone = option_map zone_tag_of r.zone; tags = tags }
+
+-- that suffix is the longest one after a prefix, and decides the match of the text
+pub read-longest : (text : List ℕ) (front : Match) (r : Suffixed) (rest : List ℕ) → rest ≡ drop front.length text → r.len ≤ length rest
+    → (says : Says (take r.len rest) r) → IsLongest rest r.len → IsLongestSuffix (drop front.length text) (suffix_of r says.0)
+read-longest text front r rest cut within says longest =
+    subst (λ (bytes : List ℕ). IsLongestSuffix bytes (suffix_of r says.0)) cut
+    (record { within = within; is_suffix = says.1; longest = longest })
+
+module _ (zones : Zones) (is_prefix : Bool) (text : List ℕ) (front : Match) (r : Suffixed) (rest : List ℕ)
+    (cut : rest ≡ drop front.length text) (within : r.len ≤ length rest) (says : Says (take r.len rest) r)
+    (longest : IsLongest rest r.len) where
+  found : IsLongestSuffix (drop front.length text) (suffix_of r says.0)
+  found = read-longest text front r rest cut within says longest
+
+  pub read-refused : has_tail is_prefix text (front.length + r.len) ≡ true → IsSuffixed zones is_prefix text front (Err (unread trailing))
+  read-refused tail = (suffix_of r says.0, found, rw tail refl)
+
+  pub read-checked : (tells : Bool) (answer : Checked) → has_tail is_prefix text (front.length + r.len) ≡ false
+      → tells ≡ tells_offset (take front.length text)
+      → GoesWith zones tells front.moment (option_map zone_tag_of r.zone) (option_map (λ key. key.now) r.critical_key) answer
+      → IsSuffixed zones is_prefix text front (checked (extended front r.len) answer)
+  read-checked tells answer tail is goes =
+      let by_tags = subst (λ (key : Option (List ℕ)). GoesWith zones tells front.moment (option_map zone_tag_of r.zone) key answer) says.2 goes in
+      let by_front = subst (λ (b : Bool). GoesWith zones b front.moment (option_map zone_tag_of r.zone) (critical_key says.0) answer) is by_tags in
+      (suffix_of r says.0, found, rw tail (answer, by_front, refl))

@@ -1,0 +1,206 @@
+-- Consequences of the match of a text by one format, at one offset or with one year.
+use Rattle.std.specs.Prelude.{IfSome, Option, Result, MatchBool, MatchOption, ◌+ℤ◌, ◌-ℤ◌, FitsSigned, MatchResult}
+use Rattle.std.specs.Int.{w32, cast_signed as to_z, cast_unsigned as of_z}
+use Rattle.std.proofs.Common.{◌≡◌, ℕ, zero, suc, ◌+◌, ◌-◌, ◌<◌, ℤ, pos, Bool, true, false, List, ◌∷◌, length, get_or, drop, refl, sym, ap, subst, arith, add-one, ◌∙◌, None, Some, Ok, Err}
+use Rattle.std.proofs.lemmas.Int.{to_z-of_z}
+use Rattle.std.proofs.Math.Seq.{drop-cons}
+use Rattle.time_values.specs.declared.offset_date_time.OffsetDateTime.{OffsetDateTime}
+use Rattle.time_values.specs.Moments.{offset_of}
+use Rattle.time_values.specs.Offsets.{IsUtc}
+use Rattle.time_values.specs.declared.utc_offset.UtcOffset.{UtcOffset}
+use Rattle.time_values.specs.Refusal.{refusal_of}
+use Rattle.time_values.specs.declared.error.Parse.{Parse}
+use Rattle.restamp_formats.specs.Reading.{AreTried, ParsesAs, ParsesLocally, Undated, undated, is_after, IsFinal, year_after, IsReadInYear, AreYearsTried, IsDated, IsReadInTurn, ParsesInZone, IsEarly, at_offset, in_year, is_early, IsRead, is_counted, erased_match, zones_of}
+use Rattle.restamp_formats.specs.Reason.{Gives, IsErrOf, Reason, unread}
+use Rattle.restamp_formats.specs.declared.reading.Defaults.{Defaults}
+use Rattle.restamp_formats.specs.declared.reading.Reading.{Reading}
+use Rattle.restamp_formats.specs.declared.reading.Match.{Match}
+use Rattle.restamp_formats.specs.Zoned.{IsOffsetWhen}
+use Rattle.restamp_formats.specs.declared.local.Clocks.{Clocks}
+
+-- ---- The match of a text that needs no defaults
+
+pub dated_at_once : (Y : ℕ) (format : Reading) (is_prefix : Bool) (text : List ℕ) (defaults : Defaults) (s : Match)
+    → ParsesAs Y format is_prefix text defaults (Ok s) → IsDated Y format is_prefix text defaults (Ok s)
+dated_at_once Y format is_prefix text defaults s says = (Ok s, (Ok s, says, refl), refl)
+
+pub in_turn_at_once : (Y : ℕ) (format : Reading) (formats : List Reading) (is_prefix : Bool) (text : List ℕ) (defaults : Defaults) (s : Match)
+    → ParsesLocally Y format is_prefix text defaults (Ok s) → IsReadInTurn Y format formats is_prefix text defaults (Ok s)
+in_turn_at_once Y format formats is_prefix text defaults s says = (Ok s, (Ok s, says, refl), refl)
+
+-- ---- Formats that are tried in turn
+
+pub at_item : (formats : List Reading) (i : ℕ) (format : Reading) → i < length formats → format ≡ get_or formats i format
+    → drop i formats ≡ format ∷ drop (i + 1) formats
+at_item formats i format below is =
+    rw add-one (drop-cons formats i format below ∙ ap (λ first. first ∷ drop (suc i) formats) (sym is))
+
+module _ (Y : ℕ) (formats : List Reading) (i : ℕ) (format : Reading) (below : i < length formats)
+    (is : format ≡ get_or formats i format) (is_prefix : Bool) (text : List ℕ) (defaults : Defaults) (reason : Reason) where
+  pub tried-here : (s : Match) → IsDated Y format is_prefix text defaults (Ok s)
+      → AreTried Y (drop i formats) is_prefix text defaults reason (Ok s)
+  tried-here s says =
+      subst (λ left. AreTried Y left is_prefix text defaults reason (Ok s)) (sym (at_item formats i format below is)) (Ok s, says, refl)
+
+  pub tried-later : (e : Reason) (result : Result Match Reason) → IsDated Y format is_prefix text defaults (Err e)
+      → AreTried Y (drop (i + 1) formats) is_prefix text defaults reason result
+      → AreTried Y (drop i formats) is_prefix text defaults reason result
+  tried-later e result says later =
+      subst (λ left. AreTried Y left is_prefix text defaults reason result) (sym (at_item formats i format below is)) (Err e, says, later)
+
+on_true : (b : Bool) (P Q : Type 0) → b ≡ true → P → MatchBool b P Q
+on_true true P Q e p = p
+on_true false P Q e p = absurd cc
+
+pub on_false : (b : Bool) (P Q : Type 0) → b ≡ false → Q → MatchBool b P Q
+on_false true P Q e q = absurd cc
+on_false false P Q e q = q
+
+pub on_none : {V : Type 0} (o : Option V) (P : Type 0) (Q : V → Type 0) → o ≡ None → P → MatchOption o P Q
+on_none None P Q e p = p
+on_none (Some v) P Q e p = absurd cc
+
+pub on_some : {V : Type 0} (o : Option V) (v : V) (P : Type 0) (Q : V → Type 0) → o ≡ Some v → Q v → MatchOption o P Q
+on_some None v P Q e q = absurd cc
+on_some (Some w) v P Q e q = let same : v ≡ w = cc in subst Q same q
+
+-- a year that is passed on, one less or one more
+pub one_less : (y : ℤ) → FitsSigned w32 y → FitsSigned w32 (y -ℤ pos 1) → to_z w32 (of_z w32 (to_z w32 (of_z w32 y) -ℤ pos 1)) ≡ y -ℤ pos 1
+one_less y fits less = ap (λ (x : ℤ). to_z w32 (of_z w32 (x -ℤ pos 1))) (to_z-of_z w32 y fits) ∙ to_z-of_z w32 (y -ℤ pos 1) less
+
+pub one_more : (y : ℤ) → FitsSigned w32 y → FitsSigned w32 (y +ℤ pos 1) → to_z w32 (of_z w32 (to_z w32 (of_z w32 y) +ℤ pos 1)) ≡ y +ℤ pos 1
+one_more y fits more = ap (λ (x : ℤ). to_z w32 (of_z w32 (x +ℤ pos 1))) (to_z-of_z w32 y fits) ∙ to_z-of_z w32 (y +ℤ pos 1) more
+
+-- a text without a year, in the years that are tried
+module _ (Y : ℕ) (u : Undated) (year : ℤ) (reason : Reason) (result : Result Match Reason) where
+  pub years-end : (n : ℕ) → n ≡ 0 → AreYearsTried Y u n year reason (Err reason)
+  unfolding AreYearsTried
+  years-end zero e = refl
+  years-end (suc n) e = absurd (omega arith)
+
+  pub years-late : (n : ℕ) (s : Match) → 0 < n → IsReadInYear Y u year (Ok s) → is_after Y s.moment u.latest ≡ true
+      → AreYearsTried Y u (n - 1) (year -ℤ pos 1) reason result → AreYearsTried Y u n year reason result
+  unfolding AreYearsTried
+  years-late zero s some read late later = absurd (omega arith)
+  years-late (suc n) s some read late later =
+      let k : suc n - 1 ≡ n = omega arith in (
+        Ok s,
+        read,
+        on_true (is_after Y s.moment u.latest) _ _ late
+            (subst (λ (m : ℕ). AreYearsTried Y u m (year -ℤ pos 1) reason result) k later),
+      )
+
+  pub years-found : (n : ℕ) (s : Match) → 0 < n → IsReadInYear Y u year (Ok s) → is_after Y s.moment u.latest ≡ false
+      → AreYearsTried Y u n year reason (Ok s)
+  unfolding AreYearsTried
+  years-found zero s some read early = absurd (omega arith)
+  years-found (suc n) s some read early = (Ok s, read, on_false (is_after Y s.moment u.latest) _ _ early refl)
+
+  pub years-final : (n : ℕ) (why : Reason) → 0 < n → IsReadInYear Y u year (Err why) → IsFinal Y u year why true
+      → AreYearsTried Y u n year reason (Err why)
+  unfolding AreYearsTried
+  years-final zero why some read final = absurd (omega arith)
+  years-final (suc n) why some read final = (Err why, read, (true, final, refl))
+
+  pub years-refused : (n : ℕ) (why : Reason) → 0 < n → IsReadInYear Y u year (Err why) → IsFinal Y u year why false
+      → AreYearsTried Y u (n - 1) (year -ℤ pos 1) why result → AreYearsTried Y u n year reason result
+  unfolding AreYearsTried
+  years-refused zero why some read passed later = absurd (omega arith)
+  years-refused (suc n) why some read passed later =
+      let k : suc n - 1 ≡ n = omega arith in (
+        Err why,
+        read,
+        (false, passed, subst (λ (m : ℕ). AreYearsTried Y u m (year -ℤ pos 1) why result) k later),
+      )
+
+-- the match of a text by the first of several formats
+pub in_turn-first : (Y : ℕ) (format : Reading) (formats : List Reading) (is_prefix : Bool) (text : List ℕ) (defaults : Defaults) (s : Match)
+    → ParsesAs Y format is_prefix text defaults (Ok s) → IsReadInTurn Y format formats is_prefix text defaults (Ok s)
+in_turn-first Y format formats is_prefix text defaults s says = (Ok s, (Ok s, (Ok s, says, refl), refl), refl)
+
+-- the match of a text that may omit its year
+module _ (Y : ℕ) (format : Reading) (is_prefix : Bool) (text : List ℕ) (defaults : Defaults) (e : Reason) where
+  pub dated-none : defaults.latest ≡ None → ParsesLocally Y format is_prefix text defaults (Err e) → IsDated Y format is_prefix text defaults (Err e)
+  dated-none none says = (Err e, says, on_none defaults.latest _ _ none refl)
+
+  pub dated-rejected : defaults.clocks ≡ None → defaults.latest ≡ None → ParsesAs Y format is_prefix text defaults (Err e)
+      → IsDated Y format is_prefix text defaults (Err e)
+  dated-rejected no_clocks no_latest says = dated-none no_latest (Err e, says, on_none defaults.clocks _ _ no_clocks refl)
+
+  pub dated-years : (v : OffsetDateTime) (year : ℤ) (result : Result Match Reason) → defaults.latest ≡ Some v
+      → ParsesLocally Y format is_prefix text defaults (Err e) → year ≡ year_after v
+      → AreYearsTried Y (undated format is_prefix text defaults.offset defaults.clocks v) 10 year e result
+      → IsDated Y format is_prefix text defaults result
+  dated-years v year result some says after tried = (
+    Err e,
+    says,
+    on_some defaults.latest v _ _ some
+        (subst (λ (y : ℤ). AreYearsTried Y (undated format is_prefix text defaults.offset defaults.clocks v) 10 y e result) after tried),
+  )
+
+-- ---- The match of a text as a local time in a zone
+
+module _ (Y : ℕ) (format : Reading) (is_prefix : Bool) (text : List ℕ) (defaults : Defaults) where
+  -- the match with equal defaults
+  with_same : (d e : Defaults) (r : Result Match Reason) → d ≡ e → ParsesAs Y format is_prefix text d r → ParsesAs Y format is_prefix text e r
+  with_same d e r same says = subst (λ (i : Defaults). ParsesAs Y format is_prefix text i r) same says
+
+  -- the match in a zone: none in UTC, none by the zone, or the match at the zone's offset
+  module _ (clocks : Clocks) (utc : UtcOffset) (d : Defaults) (same : d ≡ at_offset utc defaults) (is : IsUtc utc) where
+    pub on-unread : (e : Reason) → ParsesAs Y format is_prefix text d (Err e) → ParsesInZone Y clocks format is_prefix text defaults (Err e)
+    on-unread e says = (utc, is, Err e, with_same d (at_offset utc defaults) (Err e) same says, refl)
+
+    pub on-refused : (s : Match) (why : Reason) → ParsesAs Y format is_prefix text d (Ok s) → IsOffsetWhen clocks s.moment (Err why)
+        → ParsesInZone Y clocks format is_prefix text defaults (Err why)
+    on-refused s why says when =
+        (utc, is, Ok s, with_same d (at_offset utc defaults) (Ok s) same says, (Err why, when, refl))
+
+    pub on-shown : (s : Match) (o : UtcOffset) (e : Defaults) (r : Result Match Reason) → ParsesAs Y format is_prefix text d (Ok s)
+        → IsOffsetWhen clocks s.moment (Ok o) → e ≡ at_offset o defaults → ParsesAs Y format is_prefix text e r
+        → ParsesInZone Y clocks format is_prefix text defaults r
+    on-shown s o e r says when there later = (
+      utc,
+      is,
+      Ok s,
+      with_same d (at_offset utc defaults) (Ok s) same says,
+      (Ok o, when, with_same e (at_offset o defaults) r there later),
+    )
+
+  -- the match of a text that the format rejects without a zone
+  pub locally-none : (e : Reason) → defaults.clocks ≡ None → ParsesAs Y format is_prefix text defaults (Err e)
+      → ParsesLocally Y format is_prefix text defaults (Err e)
+  locally-none e none says = (Err e, says, on_none defaults.clocks _ _ none refl)
+
+  pub locally-on : (e : Reason) (clocks : Clocks) (r : Result Match Reason) → defaults.clocks ≡ Some clocks
+      → ParsesAs Y format is_prefix text defaults (Err e) → ParsesInZone Y clocks format is_prefix text defaults r
+      → ParsesLocally Y format is_prefix text defaults r
+  locally-on e clocks r some says on = (Err e, says, on_some defaults.clocks clocks _ _ some on)
+
+-- whether the match with a year isn't too late
+pub early : (Y : ℕ) (u : Undated) (year : ℤ) (d e : Defaults) (o : UtcOffset) (shown : Result Match Reason) (b : Bool)
+    → d ≡ in_year year u.offset u.clocks → o ≡ offset_of u.latest → e ≡ at_offset o d
+    → ParsesAs Y u.format u.is_prefix u.text e shown → b ≡ is_early Y u.latest shown → IsEarly Y u year b
+early Y u year d e o shown b of_year of_latest at says is =
+    let same : e ≡ at_offset (offset_of u.latest) (in_year year u.offset u.clocks) =
+    at ∙ ap (λ (i : UtcOffset). at_offset i d) of_latest ∙ ap (at_offset (offset_of u.latest)) of_year in
+    (shown, subst (λ (i : Defaults). ParsesAs Y u.format u.is_prefix u.text i shown) same says, is)
+
+-- a text by a format without a suffix, which accepts a fraction after a minus
+pub says_plain : {E : Type 0} (IsOf : Reason → E → Type 0) (Y : ℕ) (format : Reading) (is_prefix : Bool) (text : List ℕ) (defaults : Defaults)
+    (parsed : Result Match Parse) (result : Result Match E) → zones_of format ≡ None → is_counted format ≡ false
+    → IsRead Y format is_prefix text defaults (erased_match parsed)
+    → MatchResult parsed (λ s. result ≡ Ok s) (λ e. IsErrOf IsOf (unread (refusal_of e)) result)
+    → Gives IsOf (ParsesAs Y format is_prefix text defaults) result
+says_plain IsOf Y format is_prefix text defaults (Ok s) result zones counted is same =
+    subst (Gives IsOf (ParsesAs Y format is_prefix text defaults)) (sym same) (Ok s, is, on_none (zones_of format) _ _ zones (rw counted refl))
+says_plain IsOf Y format is_prefix text defaults (Err e) (Ok s) zones counted is kept = absurd kept
+says_plain IsOf Y format is_prefix text defaults (Err e) (Err why) zones counted is kept =
+    (unread (refusal_of e), kept, (Err (refusal_of e), is, refl))
+
+-- the match of such a text, without the reason of an error
+pub says_plain-some : (Y : ℕ) (format : Reading) (is_prefix : Bool) (text : List ℕ) (defaults : Defaults) (parsed : Result Match Parse)
+    (found : Option Match) → zones_of format ≡ None → is_counted format ≡ false → IsRead Y format is_prefix text defaults (erased_match parsed)
+    → IfSome found (λ s. parsed ≡ Ok s) → IfSome found (λ s. ParsesAs Y format is_prefix text defaults (Ok s))
+says_plain-some Y format is_prefix text defaults parsed None zones counted is same = tt
+says_plain-some Y format is_prefix text defaults parsed (Some s) zones counted is same =
+    (Ok s, subst (λ p. IsRead Y format is_prefix text defaults (erased_match p)) same is, on_none (zones_of format) _ _ zones (rw counted refl))

@@ -1,0 +1,158 @@
+-- A timestamp that was written parses back, and writing it again gives the same text.
+use Rattle.std.proofs.Common.{◌≡◌, ℕ, false, List, length, sym, ap, subst, refl, ◌∙◌, None, Some, Ok, Err}
+use Rattle.std.specs.Prelude.{Option, Result, MatchOption, IsOkAnd}
+use Rattle.jiff_core.specs.Timestamp.{IsTimestampNanos}
+use Rattle.jiff_tz.specs.Zone as Zone
+use Rattle.time_values.specs.Moments.{offset_time, offset_instant}
+use Rattle.time_values.specs.Calendar.{greatest_year}
+use Rattle.time_values.specs.Shown.{Items}
+use Rattle.time_values.specs.Times as Times
+use Rattle.time_values.specs.declared.offset_date_time.OffsetDateTime.{OffsetDateTime}
+use Rattle.time_descriptions.specs.Description.{shape}
+use Rattle.time_writing.specs.Texts.{WritesSuch, IsMailText, moment_text, count_of, unwritable_3339, unwritable_2822}
+use Rattle.time_writing.specs.declared.parts.FractionDigits.{FractionDigits}
+use Rattle.time_writing.specs.declared.parts.FractionDigits.TheVariants.{Exactly}
+use Rattle.time_writing.specs.declared.parts.Unwritable.{Unwritable}
+use Rattle.time_record.specs.Record.{empty}
+use Rattle.time_record.specs.Resolution.{IsMoment}
+use Rattle.time_readers.specs.Direct.{RefusesRfc3339}
+use Rattle.time_parsing.specs.Outcome.{IsMomentOutcome, IsOutcome, direct}
+use Rattle.time_parsing.specs.Iso8601 as Iso8601
+use Rattle.time_parsing.specs.Rfc3339 as Rfc3339
+use Rattle.time_parsing.specs.Written.{IsCut}
+use Rattle.time_parsing.proofs.IsoBack.{iso_read_back}
+use Rattle.time_parsing.proofs.MailForm.{mail_read_back}
+use Rattle.time_parsing.proofs.WrittenBack.{read_back, auto-keeps, nine-keeps}
+use Rattle.restamp_formats.specs.Zoned.{IsConverted, conversion_error}
+use Rattle.restamp_formats.specs.Form.{IsNamedText, IsWrittenBy, IsWritten, written}
+use Rattle.restamp_formats.specs.Laws.{HasDigits, AutoHasAll, ReadsAll, IsReadable, ReadsRewrittenBack, WritesSameText}
+use Rattle.restamp_formats.specs.Reading.{said}
+use Rattle.restamp_formats.specs.Reason.{Reason}
+use Rattle.restamp_formats.specs.declared.clock.Clock.{Clock}
+use Rattle.restamp_formats.specs.declared.clock.Clock.TheVariants as clock
+use Rattle.restamp_formats.specs.declared.form.Form.{Form}
+use Rattle.restamp_formats.specs.declared.form.Named.{Named as Named_}
+use Rattle.restamp_formats.specs.declared.form.Named.TheVariants.{Rfc3339, Rfc2822, Iso8601, Count}
+use Rattle.restamp_formats.specs.declared.form.Writing.{Writing}
+use Rattle.restamp_formats.specs.declared.form.Writing.TheVariants.{Named, Described}
+use Rattle.restamp_formats.specs.declared.reading.Defaults.{Defaults}
+use Rattle.restamp_formats.specs.declared.reading.Reading.{Reading}
+use Rattle.restamp_formats.specs.declared.reading.Match.{Match}
+use Rattle.restamp_formats.proofs.DescribedBack.{keeps_moment, SaysAll, described_back}
+use Rattle.restamp_formats.proofs.OneReading.{one_has}
+use Rattle.restamp_formats.proofs.OneWriting.{one_shown, one_written}
+
+-- the text of a moment that has one
+text_is : (reason : Option Unwritable) (such : List ℕ → Type 0) (text : Items) (result : Result Items Unwritable)
+    → WritesSuch reason such result → Ok text ≡ written result → (reason ≡ None) × such text.items
+text_is None such text (Ok t) p e =
+    let same : text ≡ t = cc in (refl, subst (λ (u : Items). such u.items) (sym same) p)
+text_is None such text (Err why) p e = absurd p
+text_is (Some why) such text (Ok t) p e = absurd cc
+text_is (Some why) such text (Err other) p e = absurd cc
+
+-- a moment whose fraction loses no digits
+abbrev nanosecond_of : OffsetDateTime → ℕ
+nanosecond_of v = Times.nanosecond (offset_time v)
+
+whole : (k : ℕ) (v : OffsetDateTime) → HasDigits k v → IsCut k v v
+whole k v keeps = record { date = refl; clock = (refl, refl, refl, sym keeps); offset = refl }
+
+named_back : (named : Named_) (digits : FractionDigits) (v : OffsetDateTime) (text : Items) (format : Reading)
+    (defaults : Defaults) → ReadsAll greatest_year format defaults (Named named) digits v
+    → IsNamedText greatest_year named digits v (Ok text) → SaysAll format defaults v text.items
+named_back Rfc3339 digits v text format defaults all p =
+    let k = count_of digits (nanosecond_of v) in
+    let is = text_is (unwritable_3339 v) (λ b. b ≡ moment_text k v) text p.0 p.1 p.2 in
+    let back = read_back digits v v is.0 (whole k v all.1) in
+    subst (λ (f : Reading). SaysAll f defaults v text.items) (sym all.0) (
+      Ok (said v (length text.items)),
+      (
+        Ok v,
+        subst (λ b. IsMomentOutcome greatest_year (direct (RefusesRfc3339 greatest_year)) (Rfc3339.Reads greatest_year)
+            (Rfc3339.Refuses greatest_year) b None (Ok v)) (sym is.1) back.0,
+        refl,
+      ),
+      refl,
+    )
+named_back Rfc2822 digits v text format defaults all p =
+    let is = text_is (unwritable_2822 v) (IsMailText v) text p.0 p.1 p.2 in
+    let back = mail_read_back v v text.items is.0 (whole 0 v all.1) is.1 in
+    subst (λ (f : Reading). SaysAll f defaults v text.items) (sym all.0)
+    (Ok (said v (length text.items)), (Ok (said v (length text.items)), (Ok v, back.0, refl), refl), refl)
+named_back Iso8601 digits v text format defaults all p =
+    let is = text_is (unwritable_3339 v) (λ b. b ≡ moment_text 9 v) text p.0 p.1 p.2 in
+    let back = iso_read_back (Exactly 9) v v is.0 (whole 9 v (nine-keeps (nanosecond_of v) (offset_time v).nanosecond_in)) in
+    let outcome = subst (λ b. IsOutcome (IsMoment greatest_year) (Iso8601.Reads greatest_year) (Iso8601.Refuses greatest_year) b
+    empty (Ok v)) (sym is.1) back.0 in
+    subst (λ (f : Reading). SaysAll f defaults v text.items) (sym all) (
+      Ok (said v (length text.items)),
+      (Ok v, (outcome.0, outcome.1, keeps_moment greatest_year defaults outcome.0 v outcome.2), refl),
+      refl,
+    )
+named_back (Count unit) digits v text format defaults all p = absurd all
+
+by_back : (writing : Writing) (digits : FractionDigits) (v : OffsetDateTime) (text : Items) (format : Reading)
+    (defaults : Defaults) → ReadsAll greatest_year format defaults writing digits v
+    → IsWrittenBy greatest_year writing digits v (Ok text) → SaysAll format defaults v text.items
+by_back (Named named) digits v text format defaults all p = named_back named digits v text format defaults all p
+by_back (Described d) digits v text format defaults all p = described_back format defaults (shape d) v text all p
+
+-- converting a moment to a clock keeps its instant, and a second conversion changes nothing
+pub shown_instant : (on : Clock) (v w : OffsetDateTime) → IsConverted greatest_year on v (Some w)
+    → offset_instant greatest_year w ≡ offset_instant greatest_year v
+shown_instant clock.Own v w p = let same : w ≡ v = cc in ap (offset_instant greatest_year) same
+shown_instant (clock.Fixed o) v w p = p.0
+shown_instant (clock.Zone zone) v w p = p.0
+
+shown_again : (on : Clock) (v w : OffsetDateTime) → IsConverted greatest_year on v (Some w) → IsConverted greatest_year on w (Some w)
+shown_again clock.Own v w p = refl
+shown_again (clock.Fixed o) v w p = (refl, p.1)
+shown_again (clock.Zone zone) v w p =
+    (refl, subst IsTimestampNanos (sym p.0) p.1, p.2 ∙ ap (Zone.offset_at zone) (sym p.0))
+
+-- the converted moment: the text parses as it, and it is written as the text again
+pub record IsBack (format : Reading) (defaults : Defaults) (form : Form) (v : OffsetDateTime) (bytes : List ℕ)
+    (w : OffsetDateTime) : Type 0 where
+  pub shown : IsConverted greatest_year form.clock v (Some w)
+  pub says : SaysAll format defaults w bytes
+  pub text : Items
+  pub again : IsWritten greatest_year form w (Ok text)
+  pub same : bytes ≡ text.items
+
+pub back : (format : Reading) (defaults : Defaults) (form : Form) (v : OffsetDateTime) (bytes : List ℕ)
+    → IsReadable greatest_year format defaults form v bytes → (w : OffsetDateTime) × IsBack format defaults form v bytes w
+back format defaults form v bytes ((w, shown, all), (text, (other, p, q), e)) =
+    let there = subst (λ (s : Option OffsetDateTime). MatchOption s (Ok text ≡ Err (conversion_error form.clock))
+    (λ u. IsWrittenBy greatest_year form.writing.now form.digits u (Ok text)))
+    (one_shown form.clock v other (Some w) p shown) q in
+    let says = by_back form.writing.now form.digits w text format defaults all there in (
+      w,
+      record {
+        shown = shown;
+        says = subst (λ (b : List ℕ). SaysAll format defaults w b) (sym e) says;
+        text = text;
+        again = (Some w, shown_again form.clock v w shown, there);
+        same = e;
+      },
+    )
+
+pub auto_has_all : AutoHasAll
+auto_has_all v = auto-keeps (nanosecond_of v) (offset_time v).nanosecond_in
+
+pub reads_rewritten_back : ReadsRewrittenBack greatest_year
+reads_rewritten_back format defaults form v bytes read is says =
+    let it = back format defaults form v bytes is in
+    subst (λ (r : Result Match Reason). IsOkAnd r (λ s. IsConverted greatest_year form.clock v (Some s.moment) × (s.start ≡ 0) × (s.length ≡ length bytes)))
+    (one_has format false bytes defaults (Ok (said it.0 (length bytes))) read it.1.says says) (it.1.shown, refl, refl)
+
+pub writes_same_text : WritesSameText greatest_year
+writes_same_text format defaults form v bytes said_ again is says next =
+    let it = back format defaults form v bytes is in
+    let one : Ok (said it.0 (length bytes)) ≡ Ok said_ =
+    one_has format false bytes defaults (Ok (said it.0 (length bytes))) (Ok said_) it.1.says says in
+    let same : said it.0 (length bytes) ≡ said_ = cc in
+    let there : IsWritten greatest_year form said_.moment (Ok it.1.text) =
+    subst (λ (s : Match). IsWritten greatest_year form s.moment (Ok it.1.text)) same it.1.again in
+    subst (λ (r : Result Items Reason). IsOkAnd r (λ text. text.items ≡ bytes))
+    (one_written form said_.moment (Ok it.1.text) again there next) (sym it.1.same)

@@ -1,0 +1,16 @@
+use Rattle.std.proofs.Common.{Err, Result}
+use Rattle.time_values.specs.Calendar.{greatest_year}
+use Rattle.restamp_formats.specs.Reading.{AreTried, IsReadInTurn}
+use Rattle.restamp_formats.specs.Reason.{Reason}
+use Rattle.restamp_formats.specs.declared.reading.Match.{Match}
+use Rattle.restamp_formats.proofs.GivesLemmas.{gives_so}
+use Rattle.restamp_formats.proofs.dated.read_further.Goals as goal
+
+pub returns-in-Err-clause-said : goal.returns-in-Err-clause-said
+returns-in-Err-clause-said g c =
+    let why = c.in-Err.ensures.said in
+    let with : (given : Result Match Reason)
+    → AreTried greatest_year c.args.others.now c.args.is_prefix c.args.text.now c.args.defaults.now why.0 given
+    → IsReadInTurn greatest_year c.args.first.now c.args.others.now c.args.is_prefix c.args.text.now c.args.defaults.now given =
+    λ given tried. (Err why.0, why.2, tried) in
+    gives_so g.E.FromReason.is_of c.read_others.result with (c.read_others.ensures.said why.0 why.1)

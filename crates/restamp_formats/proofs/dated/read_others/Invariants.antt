@@ -1,0 +1,14 @@
+use Rattle.std.proofs.Common.{drop}
+use Rattle.std.specs.Prelude.{Result}
+use Rattle.time_values.specs.Calendar.{greatest_year}
+use Rattle.restamp_formats.specs.Reading.{AreTried}
+use Rattle.restamp_formats.specs.Reason.{Reason}
+use Rattle.restamp_formats.specs.declared.reading.Match.{Match}
+use Rattle.restamp_formats.proofs.dated.read_others.Given as goal
+
+-- the result of the remaining formats is that of all of them
+abbrev pub invariant-loop-reading : goal.invariant-loop-reading
+invariant-loop-reading g l =
+    (reason : Reason) (result : Result Match Reason)
+    → AreTried greatest_year (drop l.reading-index l.readings) l.is_prefix l.text l.defaults reason result
+    → AreTried greatest_year l.readings l.is_prefix l.text l.defaults reason result

@@ -1,0 +1,166 @@
+-- The values of a moment that components give, and when these determine it. `Y` is the greatest year.
+use Rattle.std.specs.Prelude.{◌≡◌, ℕ, List, [], ◌∷◌, ◌++◌, false, Option, None, Some, option_and_then, Result, Ok, Err, pos, unsigned_abs, MatchOption}
+use Rattle.time_values.specs.declared.offset_date_time.OffsetDateTime.{OffsetDateTime}
+use Rattle.time_values.specs.Dates as Dates
+use Rattle.time_values.specs.Moments.{offset_date, offset_of, offset_time}
+use Rattle.time_values.specs.Offsets as Offsets
+use Rattle.time_values.specs.Shown.{is_behind}
+use Rattle.time_values.specs.Sign.{signed_by}
+use Rattle.time_values.specs.Times as Times
+use Rattle.time_values.specs.declared.date.Date.{Date}
+use Rattle.time_values.specs.declared.time.Time.{Time}
+use Rattle.time_values.specs.declared.utc_offset.UtcOffset.{UtcOffset}
+use Rattle.time_components.specs.declared.format_description.Component.{Component}
+use Rattle.time_components.specs.Tree.{Tree, Trees, literal, component, sequence, optional, first_of, none, more, steps_shape}
+use Rattle.time_components.specs.declared.format_description.Component.TheVariants as component
+use Rattle.time_formatting.specs.Components.{component_text, value_of, Stops, count_of, half_of, hour_12, weekday_of, kept}
+use Rattle.time_formatting.specs.declared.walk.Unformattable.{Unformattable}
+use Rattle.time_record.specs.Components.{put_value, is_pm}
+use Rattle.time_record.specs.Record.{Record, empty}
+use Rattle.time_record.specs.Resolution.{Clock, clock_of, offset_part, offset_seconds_of, full_year}
+use Rattle.restamp_formats.specs.Reading.{IsCompleted, is_negative_fraction}
+use Rattle.restamp_formats.specs.declared.reading.Defaults.{Defaults}
+use Rattle.restamp_formats.specs.declared.reading.Reading.{Reading}
+use Rattle.restamp_formats.specs.declared.reading.Reading.TheVariants as reading
+
+-- ---- The text of a moment by a tree, and when it parses back. `Y` is the greatest year.
+
+-- a text, or no bytes if it can't be written
+abbrev pub or_nothing : Result (List ℕ) Unformattable → List ℕ
+or_nothing (Ok text) = text
+or_nothing (Err why) = []
+
+-- the pieces that a tree writes: literal bytes, and components
+pub data Piece : Type 0 where
+  verbatim : List ℕ → Piece
+  part : Component → Piece
+
+abbrev mutual
+  -- the pieces of trees in turn; of a choice, those of the first alternative
+  pub pieces : Tree → List Piece
+  pieces (literal text) = verbatim text ∷ []
+  pieces (component whole c) = part c ∷ []
+  pieces (sequence ts) = all_pieces ts
+  pieces (optional t) = pieces t
+  pieces (first_of ts) = first_pieces ts
+
+  pub all_pieces : Trees → List Piece
+  all_pieces none = []
+  all_pieces (more t ts) = pieces t ++ all_pieces ts
+
+  pub first_pieces : Trees → List Piece
+  first_pieces none = []
+  first_pieces (more t ts) = pieces t
+
+-- the text of the pieces, however long it is
+abbrev pub whole_text : ℕ → OffsetDateTime → List Piece → List ℕ
+whole_text Y v [] = []
+whole_text Y v (verbatim text ∷ ps) = text ++ whole_text Y v ps
+whole_text Y v (part c ∷ ps) = or_nothing (component_text Y v c) ++ whole_text Y v ps
+
+-- Each component's text is followed by bytes that may follow it, so that it is parsed whole.
+abbrev pub AllStop : ℕ → OffsetDateTime → List Piece → Type 0
+AllStop Y v [] = Unit {0}
+AllStop Y v (verbatim text ∷ ps) = AllStop Y v ps
+AllStop Y v (part c ∷ ps) = Stops Y v c (whole_text Y v ps) × AllStop Y v ps
+
+-- the record with each component's value of the moment set in turn, or `None` if one is out of range
+abbrev pub put_values : ℕ → OffsetDateTime → List Piece → Record → Option Record
+put_values Y v [] r = Some r
+put_values Y v (verbatim text ∷ ps) r = put_values Y v ps r
+put_values Y v (part c ∷ ps) r = option_and_then (put_values Y v ps) (put_value Y c (value_of Y v c) r)
+
+-- The text of the moment by the tree determines it with the defaults: each component's text is parsed whole, and the
+-- values of the components make a record that resolves to that moment with the defaults.
+pub record DeterminesMoment (Y : ℕ) (tree : Tree) (defaults : Defaults) (v : OffsetDateTime) : Type 0 where
+  pub stops : AllStop Y v (pieces tree)
+  pub after : Record
+  pub puts : put_values Y v (pieces tree) empty ≡ Some after
+  pub is : IsCompleted Y defaults after (Ok v)
+
+-- no defaults
+abbrev pub no_defaults : Defaults
+no_defaults = record { year = None; offset = None; clocks = None; latest = None }
+
+-- The format has that tree, and parses all of the moment from its text by the tree.
+abbrev pub ReadsTree : ℕ → Reading → Defaults → Tree → OffsetDateTime → Type 0
+ReadsTree Y (reading.Described d) defaults tree v = (steps_shape d ≡ tree) × DeterminesMoment Y tree defaults v
+ReadsTree Y (reading.Complete d) defaults tree v = (steps_shape d ≡ tree) × DeterminesMoment Y tree no_defaults v
+ReadsTree Y (reading.Counted d) defaults tree v =
+    (steps_shape d ≡ tree) × DeterminesMoment Y tree defaults v
+    × (is_negative_fraction (whole_text Y v (pieces tree)) ≡ false)
+ReadsTree Y format defaults tree v = ⊥
+
+-- the record with the component's value of the moment, which is a number or a name of the date, the time or the offset;
+-- `None` for any other component
+abbrev pub with_value_of : ℕ → OffsetDateTime → Component → Record → Option Record
+with_value_of Y v (component.Day m) r = Some (record r { day = Some (Dates.day (offset_date v)) })
+with_value_of Y v (component.MonthShort m) r = Some (record r { month = Some (Dates.month (offset_date v)) })
+with_value_of Y v (component.MonthLong m) r = Some (record r { month = Some (Dates.month (offset_date v)) })
+with_value_of Y v (component.MonthNumerical m) r = Some (record r { month = Some (Dates.month (offset_date v)) })
+with_value_of Y v (component.Ordinal m) r = Some (record r { ordinal = Some (Dates.ordinal (offset_date v)) })
+with_value_of Y v (component.WeekdayShort m) r = Some (record r { weekday = Some (weekday_of Y v) })
+with_value_of Y v (component.WeekdayLong m) r = Some (record r { weekday = Some (weekday_of Y v) })
+with_value_of Y v (component.WeekdaySunday m) r = Some (record r { weekday = Some (weekday_of Y v) })
+with_value_of Y v (component.WeekdayMonday m) r = Some (record r { weekday = Some (weekday_of Y v) })
+with_value_of Y v (component.CalendarYearFullExtendedRange m) r =
+    Some (record r { year = Some (Dates.year (offset_date v)) })
+with_value_of Y v (component.CalendarYearFullStandardRange m) r =
+    Some (record r { year = Some (Dates.year (offset_date v)) })
+with_value_of Y v (component.Hour12 m) r = Some (record r { hour_12 = Some (hour_12 (Times.hour (offset_time v))) })
+with_value_of Y v (component.Hour24 m) r = Some (record r { hour_24 = Some (Times.hour (offset_time v)) })
+with_value_of Y v (component.Minute m) r = Some (record r { minute = Some (Times.minute (offset_time v)) })
+with_value_of Y v (component.Period m) r =
+    Some (record r { hour_12_is_pm = Some (is_pm (half_of (Times.hour (offset_time v)))) })
+with_value_of Y v (component.Second m) r = Some (record r { second = Some (Times.second (offset_time v)) })
+with_value_of Y v (component.Subsecond m) r =
+    let n = Times.nanosecond (offset_time v) in Some (record r { subsecond = Some (kept (count_of m.digits n) n) })
+with_value_of Y v (component.OffsetHour m) r =
+    let o = offset_of v in
+    Some (record r { offset_hour = Some (Offsets.hours o); offset_is_negative = is_behind o })
+with_value_of Y v (component.OffsetMinute m) r =
+    Some (record r { offset_minute = Some (pos (unsigned_abs (Offsets.minutes (offset_of v)))) })
+with_value_of Y v (component.OffsetSecond m) r =
+    Some (record r { offset_second = Some (pos (unsigned_abs (Offsets.seconds (offset_of v)))) })
+with_value_of Y v (component.End m) r = Some r
+with_value_of Y v _ r = None
+
+-- the record with the values of pieces in turn
+abbrev pub with_values_of : ℕ → OffsetDateTime → List Piece → Record → Option Record
+with_values_of Y v [] r = Some r
+with_values_of Y v (verbatim text ∷ ps) r = with_values_of Y v ps r
+with_values_of Y v (part c ∷ ps) r = option_and_then (with_values_of Y v ps) (with_value_of Y v c r)
+
+-- The record has the year of the date, and its day of the year or, if that is absent, its month and day.
+abbrev pub HasDate : Record → Date → Type 0
+HasDate r d =
+    (full_year r ≡ Some (Dates.year d))
+    × MatchOption r.ordinal ((r.month ≡ Some (Dates.month d)) × (r.day ≡ Some (Dates.day d))) (λ n. n ≡ Dates.ordinal d)
+
+-- the numbers of a time
+abbrev pub clock : Time → Clock
+clock t = record {
+  hour = Times.hour t;
+  minute = Times.minute t;
+  second = Times.second t;
+  nanosecond = Times.nanosecond t;
+}
+
+-- The record has the parts of the offset.
+abbrev pub HasOffsetParts : Record → UtcOffset → Type 0
+HasOffsetParts r o =
+    (r.offset_hour ≡ Some (Offsets.hours o))
+    × (offset_part r r.offset_minute ≡ Offsets.minutes o) × (offset_seconds_of r ≡ Offsets.seconds o)
+
+-- The record has the date, the time and the offset of the moment, and no count from 1970.
+pub record HasAll (r : Record) (v : OffsetDateTime) : Type 0 where
+  pub date : HasDate r (offset_date v)
+  pub time : clock_of r ≡ Some (clock (offset_time v))
+  pub offset : HasOffsetParts r (offset_of v)
+  pub no_count : r.unix_timestamp_nanos ≡ None
+
+-- The sign of an offset and the sizes of its parts determine it.
+abbrev pub SignDetermines : UtcOffset → Type 0
+SignDetermines o =
+    (signed_by (is_behind o) (pos (unsigned_abs (Offsets.minutes o))) ≡ Offsets.minutes o)
+    × (signed_by (is_behind o) (pos (unsigned_abs (Offsets.seconds o))) ≡ Offsets.seconds o)

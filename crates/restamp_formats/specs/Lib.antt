@@ -1,0 +1,9 @@
+pub mod Reason
+pub mod Zoned
+pub mod Reading
+pub mod Form
+pub mod Naming
+pub mod MissingField
+pub mod MissingFieldSteps
+pub mod ComponentValues
+pub mod Laws

@@ -1,0 +1,150 @@
+-- Formats by their names, and by descriptions.
+use Rattle.std.specs.Prelude.{◌≡◌, ◌==◌, Bool, ℕ, List, codes, Option, None, Some, MatchOption, if◌then◌else◌}
+use Rattle.std.specs.List.{list_any}
+use Rattle.std.specs.Str.{bytes_eq}
+use Rattle.time_components.specs.Tree.{Tree, steps_shape}
+use Rattle.time_descriptions.specs.Description.{IsRefused, shape, version_of}
+use Rattle.time_descriptions.specs.Grammar.{Describes}
+use Rattle.time_descriptions.specs.Refusal.{Refusal, refusal_of, refusal_text}
+use Rattle.time_descriptions.specs.Strftime.{DescribesStrftime, IsRefusedStrftime}
+use Rattle.time_descriptions.specs.declared.description.Description.{Description}
+use Rattle.restamp_formats.specs.declared.form.Unit.TheVariants.{Seconds, Milliseconds, Microseconds, Nanoseconds}
+use Rattle.restamp_formats.specs.declared.form.Named.{Named}
+use Rattle.restamp_formats.specs.declared.form.Named.TheVariants as named
+use Rattle.restamp_formats.specs.declared.form.Writing.{Writing}
+use Rattle.restamp_formats.specs.declared.form.Writing.TheVariants as writing
+use Rattle.restamp_formats.specs.declared.naming.FormatFault.{FormatFault}
+use Rattle.restamp_formats.specs.declared.naming.FormatFault.TheVariants as fault
+use Rattle.restamp_formats.specs.declared.naming.FormatName as declared
+use Rattle.restamp_formats.specs.declared.naming.FormatName.TheVariants as variant
+use Rattle.restamp_formats.specs.declared.reading.Reading.{Reading}
+use Rattle.restamp_formats.specs.declared.reading.Reading.TheVariants as reading
+use Rattle.restamp_formats.specs.declared.reading.TheConstants.{MOST_STEPS}
+
+-- how a text names a format: by one of three names, or by a description; a description of a number of seconds, one
+-- whose texts have all of a moment, one in brackets, or one as in strftime
+pub data FormatName : Type 0 where
+  rfc3339 : FormatName
+  rfc2822 : FormatName
+  iso8601 : FormatName
+  counted : List ℕ → FormatName
+  complete : List ℕ → FormatName
+  brackets : List ℕ → FormatName
+  strftime : List ℕ → FormatName
+  unknown : FormatName
+
+-- the name of a format without the addresses of its texts
+abbrev pub erased_format_name : declared.FormatName → FormatName
+erased_format_name variant.Rfc3339 = rfc3339
+erased_format_name variant.Rfc2822 = rfc2822
+erased_format_name variant.Iso8601 = iso8601
+erased_format_name (variant.Counted text) = counted text.now
+erased_format_name (variant.Complete text) = complete text.now
+erased_format_name (variant.Brackets text) = brackets text.now
+erased_format_name (variant.Strftime text) = strftime text.now
+erased_format_name variant.Unknown = unknown
+
+-- the byte is among the bytes
+abbrev pub has : ℕ → List ℕ → Bool
+has byte bytes = list_any (λ b. b == byte) bytes
+
+-- the description of a format
+abbrev pub description_name : List ℕ → FormatName
+description_name name = if has 91 name then brackets name else if has 37 name then strftime name else unknown
+
+-- the timestamps of access logs
+abbrev pub common_text : List ℕ
+common_text =
+    codes "[day]/[month repr:short]/[year]:[hour]:[minute]:[second] [offset_hour sign:mandatory][offset_minute]"
+
+-- the format of that name: all but three are descriptions
+abbrev pub format_name_of : List ℕ → FormatName
+format_name_of name =
+    if bytes_eq name (codes "rfc3339") then rfc3339 else
+    if bytes_eq name (codes "rfc2822") then rfc2822 else
+    if bytes_eq name (codes "iso8601") then iso8601 else
+    if bytes_eq name (codes "unix") then counted (codes "[unix_timestamp][optional [.[subsecond]]]") else
+    if bytes_eq name (codes "unix-ms") then brackets (codes "[unix_timestamp precision:millisecond]") else
+    if bytes_eq name (codes "unix-us") then brackets (codes "[unix_timestamp precision:microsecond]") else
+    if bytes_eq name (codes "unix-ns") then brackets (codes "[unix_timestamp precision:nanosecond]") else
+    if bytes_eq name (codes "common") then complete common_text else
+    if bytes_eq name (codes "syslog") then
+    brackets (codes "[month repr:short] [day padding:space] [hour]:[minute]:[second]") else description_name name
+
+-- the meaning of a format: a format without a description (RFC 9557 has no name here); the tree of a description; the
+-- tree of a description whose texts have all of a moment; or the tree of a number of seconds
+pub data Meaning : Type 0 where
+  as_rfc3339 : Meaning
+  as_rfc9557 : Meaning
+  as_rfc2822 : Meaning
+  as_iso8601 : Meaning
+  as_tree : Tree → Meaning
+  as_complete : Tree → Meaning
+  as_count : Tree → Meaning
+
+abbrev pub meaning_of : Reading → Meaning
+meaning_of reading.Rfc3339 = as_rfc3339
+meaning_of (reading.Zoned zones) = as_rfc9557
+meaning_of reading.Rfc2822 = as_rfc2822
+meaning_of reading.Iso8601 = as_iso8601
+meaning_of (reading.Described d) = as_tree (steps_shape d)
+meaning_of (reading.Complete d) = as_complete (steps_shape d)
+meaning_of (reading.Counted d) = as_count (steps_shape d)
+
+-- why a format has no meaning: the text is neither a name nor a description, or the description is invalid
+pub data Fault : Type 0 where
+  unnamed : Fault
+  faulty : Refusal → Fault
+
+abbrev pub fault_of : FormatFault → Fault
+fault_of fault.Unknown = unnamed
+fault_of (fault.Description e) = faulty (refusal_of e)
+
+-- the meaning of a format, by its name
+abbrev pub Means : FormatName → Meaning → Type 0
+Means rfc3339 meaning = meaning ≡ as_rfc3339
+Means rfc2822 meaning = meaning ≡ as_rfc2822
+Means iso8601 meaning = meaning ≡ as_iso8601
+Means (counted text) meaning = (tree : Tree) × Describes (version_of 2) text tree × (meaning ≡ as_count tree)
+Means (complete text) meaning = (tree : Tree) × Describes (version_of 2) text tree × (meaning ≡ as_complete tree)
+Means (brackets text) meaning = (tree : Tree) × Describes (version_of 2) text tree × (meaning ≡ as_tree tree)
+Means (strftime text) meaning = (tree : Tree) × DescribesStrftime text tree × (meaning ≡ as_tree tree)
+Means unknown meaning = ⊥
+
+-- the error of a format, by its name
+abbrev pub IsFault : FormatName → Fault → Type 0
+IsFault rfc3339 f = ⊥
+IsFault rfc2822 f = ⊥
+IsFault iso8601 f = ⊥
+IsFault (counted text) f = (r : Refusal) × IsRefused MOST_STEPS (version_of 2) text r × (f ≡ faulty r)
+IsFault (complete text) f = (r : Refusal) × IsRefused MOST_STEPS (version_of 2) text r × (f ≡ faulty r)
+IsFault (brackets text) f = (r : Refusal) × IsRefused MOST_STEPS (version_of 2) text r × (f ≡ faulty r)
+IsFault (strftime text) f = (r : Refusal) × IsRefusedStrftime MOST_STEPS text r × (f ≡ faulty r)
+IsFault unknown f = f ≡ unnamed
+
+-- the output format of that name
+abbrev pub writing_named : List ℕ → Option Named
+writing_named name =
+    if bytes_eq name (codes "rfc3339") then Some named.Rfc3339 else
+    if bytes_eq name (codes "rfc2822") then Some named.Rfc2822 else
+    if bytes_eq name (codes "iso8601") then Some named.Iso8601 else
+    if bytes_eq name (codes "unix") then Some (named.Count Seconds) else
+    if bytes_eq name (codes "unix-ms") then Some (named.Count Milliseconds) else
+    if bytes_eq name (codes "unix-us") then Some (named.Count Microseconds) else
+    if bytes_eq name (codes "unix-ns") then Some (named.Count Nanoseconds) else None
+
+-- The output format of a text: the one of that name, otherwise the one that it describes.
+abbrev pub MeansWriting : List ℕ → Writing → Type 0
+MeansWriting name result =
+    MatchOption (writing_named name)
+    ((d : Description MOST_STEPS) × Means (description_name name) (as_tree (shape d)) × (result ≡ writing.Described d))
+    (λ n. result ≡ writing.Named n)
+
+-- the error of a text that names no output format: it is neither such a name nor a valid description
+abbrev pub IsWritingFault : List ℕ → Fault → Type 0
+IsWritingFault name f = (writing_named name ≡ None) × IsFault (description_name name) f
+
+-- the text of an error; no text is specified for a word that a description doesn't have
+abbrev pub fault_text : Fault → Option (List ℕ)
+fault_text unnamed = Some (codes "no format has this name, and a description has a `[` or a `%`")
+fault_text (faulty refusal) = refusal_text refusal

@@ -1,0 +1,308 @@
+-- Parses a timestamp. `Y` is the greatest year.
+use Rattle.std.specs.Prelude.{◌≡◌, ℕ, zero, suc, ◌-◌, ℤ, pos, ◌+ℤ◌, ◌-ℤ◌, int_lt, Bool, true, false, not, MatchBool, ◌&&◌, ◌||◌, ◌==◌, List, [], ◌∷◌, length, take, drop, slice_index, if◌then◌else◌, Option, None, Some, MatchOption, is_some, unwrap_or, Result, Ok, Err, MatchResult}
+use Rattle.std.specs.Char.{is_ascii_whitespace}
+use Rattle.std.specs.List.{list_any, prefix_len, suffix_len}
+use Rattle.time_values.specs.Dates as Dates
+use Rattle.time_values.specs.Moments.{offset_date, offset_instant, offset_of}
+use Rattle.time_values.specs.Offsets as Offsets
+use Rattle.time_values.specs.Offsets.{IsUtc}
+use Rattle.time_values.specs.Refusal.{Refusal, refusal_of}
+use Rattle.time_values.specs.declared.error.Parse.{Parse}
+use Rattle.time_values.specs.declared.offset_date_time.OffsetDateTime.{OffsetDateTime}
+use Rattle.time_values.specs.declared.utc_offset.UtcOffset.{UtcOffset}
+use Rattle.time_readers.specs.Direct.{RefusesRfc3339, RefusesRfc2822}
+use Rattle.time_record.specs.Reading as Description
+use Rattle.time_record.specs.Record.{Record, empty, put, year_is}
+use Rattle.time_record.specs.Resolution.{IsMoment}
+use Rattle.time_parsing.specs.Outcome.{Refusing, Resolving, Path, over_record, direct, IsFront, IsOutcome, IsMomentOutcome}
+use Rattle.time_parsing.specs.Outcome as Outcome
+use Rattle.time_parsing.specs.Iso8601 as Iso8601
+use Rattle.time_parsing.specs.Rfc2822 as Rfc2822
+use Rattle.time_parsing.specs.Rfc3339 as Rfc3339
+use Rattle.time_components.specs.Tree.{steps_shape}
+use Rattle.time_zones.specs.declared.zones.Zones.{Zones}
+use Rattle.restamp_formats.specs.Zoned.{IsOffsetWhen, IsSuffixed}
+use Rattle.restamp_formats.specs.Reason.{Reason, unread, negative_fraction, is_local_time_error}
+use Rattle.restamp_formats.specs.declared.local.Clocks.{Clocks}
+use Rattle.restamp_formats.specs.declared.reading.Reading.{Reading}
+use Rattle.restamp_formats.specs.declared.reading.Reading.TheVariants as reading
+use Rattle.restamp_formats.specs.declared.reading.Match.{Match}
+use Rattle.restamp_formats.specs.declared.reading.Defaults.{Defaults}
+use Rattle.restamp_formats.specs.declared.dated.Undated as declared
+
+-- a match of the first n bytes of a text
+abbrev pub said : OffsetDateTime → ℕ → Match
+said v n = record { moment = v; start = 0; length = n }
+
+-- a result, with an error without the addresses of its texts
+abbrev pub erased_match : Result Match Parse → Result Match Refusal
+erased_match (Ok s) = Ok s
+erased_match (Err e) = Err (refusal_of e)
+
+-- the match of a whole text, by the outcome of its parse
+abbrev pub all_of : List ℕ → Result OffsetDateTime Refusal → Result Match Refusal
+all_of text (Ok v) = Ok (said v (length text))
+all_of text (Err e) = Err e
+
+-- the match of a prefix of a text, by the outcome of its parse, which includes the rest
+abbrev pub front_of : List ℕ → Result (OffsetDateTime × List ℕ) Refusal → Result Match Refusal
+front_of text (Ok x) = Ok (said x.0 (length text - length x.1))
+front_of text (Err e) = Err e
+
+-- the match of a text by a format: of a prefix if `is_prefix` is true, otherwise of the whole text
+abbrev pub IsReadBy : ℕ → Bool → Path → Outcome.Reading → Refusing → List ℕ → Result Match Refusal → Type 0
+IsReadBy Y true path reads refuses text result =
+    (outcome : Result (OffsetDateTime × List ℕ) Refusal)
+    × IsFront (IsMoment Y) reads refuses text empty outcome × (result ≡ front_of text outcome)
+IsReadBy Y false path reads refuses text result =
+    (outcome : Result OffsetDateTime Refusal)
+    × IsMomentOutcome Y path reads refuses text None outcome × (result ≡ all_of text outcome)
+
+-- the record has a part of a year
+abbrev pub has_year : Record → Bool
+has_year r =
+    is_some r.year || is_some r.year_century || is_some r.year_last_two
+    || is_some r.iso_year || is_some r.iso_year_century || is_some r.iso_year_last_two
+
+-- the record with that year, unless it has a part of one
+abbrev pub with_year : ℕ → Option ℤ → Record → Record
+with_year Y None r = r
+with_year Y (Some year) r = if has_year r then r else unwrap_or (put Y (year_is year) r) r
+
+-- the record with the parts of that offset, unless it has an hour of one
+abbrev pub with_offset : Option UtcOffset → Record → Record
+with_offset None r = r
+with_offset (Some o) r =
+    if is_some r.offset_hour then r else record r {
+      offset_hour = Some (Offsets.hours o);
+      offset_minute = Some (Offsets.minutes o);
+      offset_second = Some (Offsets.seconds o);
+      offset_is_negative = false;
+    }
+
+-- the record of a text, with defaults for what it omits
+abbrev pub completed : ℕ → Defaults → Record → Record
+completed Y defaults r = with_offset defaults.offset (with_year Y defaults.year r)
+
+-- The moment of a record with defaults.
+abbrev pub IsCompleted : ℕ → Defaults → Resolving OffsetDateTime
+IsCompleted Y defaults r = IsMoment Y (completed Y defaults r)
+
+-- the match of a text by a format, with defaults for what it omits
+abbrev pub IsReadWith : ℕ → Bool → Outcome.Reading → Refusing → List ℕ → Defaults → Result Match Refusal → Type 0
+IsReadWith Y true reads refuses text defaults result =
+    (outcome : Result (OffsetDateTime × List ℕ) Refusal)
+    × IsFront (IsCompleted Y defaults) reads refuses text empty outcome × (result ≡ front_of text outcome)
+IsReadWith Y false reads refuses text defaults result =
+    (outcome : Result OffsetDateTime Refusal)
+    × IsOutcome (IsCompleted Y defaults) reads refuses text empty outcome × (result ≡ all_of text outcome)
+
+-- how many bytes come before the white space at the end
+abbrev pub before_blanks : List ℕ → ℕ
+before_blanks text = length text - suffix_len is_ascii_whitespace text
+
+-- the match of a text as a moment, without white space at both ends
+abbrev pub bare_match : OffsetDateTime → List ℕ → Match
+bare_match v text = record {
+  moment = v;
+  start = prefix_len is_ascii_whitespace text;
+  length = before_blanks (drop (prefix_len is_ascii_whitespace text) text);
+}
+
+-- a match without white space at both ends of its bytes
+abbrev pub bare : List ℕ → Match → Match
+bare text s = bare_match s.moment (take s.length text)
+
+-- a result without white space around its match, if `is_prefix` is true
+abbrev pub bare_where : Bool → List ℕ → Result Match Refusal → Result Match Refusal
+bare_where true text (Ok s) = Ok (bare text s)
+bare_where true text (Err e) = Err e
+bare_where false text result = result
+
+-- The match of a mail date, RFC 2822, which may have white space around it. The match excludes the white space if
+-- `is_prefix` is true.
+abbrev pub IsReadMail : ℕ → Bool → List ℕ → Result Match Refusal → Type 0
+IsReadMail Y is_prefix text result =
+    (padded : Result Match Refusal)
+    × IsReadBy Y is_prefix (direct (RefusesRfc2822 Y)) (Rfc2822.Reads Y) (Rfc2822.Refuses Y) text padded
+    × (result ≡ bare_where is_prefix text padded)
+
+-- the match of a prefix of a text by RFC 3339
+abbrev pub IsReadInFront : ℕ → List ℕ → Result Match Refusal → Type 0
+IsReadInFront Y = IsReadBy Y true (direct (RefusesRfc3339 Y)) (Rfc3339.Reads Y) (Rfc3339.Refuses Y)
+
+-- The match by any of the formats; for RFC 9557, that of the text before the suffix. RFC 3339, RFC 2822 and a complete
+-- description give all of a moment, so defaults have no effect on them.
+abbrev pub IsRead : ℕ → Reading → Bool → List ℕ → Defaults → Result Match Refusal → Type 0
+IsRead Y reading.Rfc3339 is_prefix text defaults =
+    IsReadBy Y is_prefix (direct (RefusesRfc3339 Y)) (Rfc3339.Reads Y) (Rfc3339.Refuses Y) text
+IsRead Y (reading.Zoned zones) is_prefix text defaults = IsReadInFront Y text
+IsRead Y reading.Rfc2822 is_prefix text defaults = IsReadMail Y is_prefix text
+IsRead Y reading.Iso8601 is_prefix text defaults =
+    IsReadWith Y is_prefix (Iso8601.Reads Y) (Iso8601.Refuses Y) text defaults
+IsRead Y (reading.Described d) is_prefix text defaults =
+    IsReadWith Y is_prefix (Description.Reads Y (steps_shape d)) (Description.Refuses Y (steps_shape d)) text defaults
+IsRead Y (reading.Complete d) is_prefix text defaults =
+    IsReadBy Y is_prefix over_record (Description.Reads Y (steps_shape d)) (Description.Refuses Y (steps_shape d)) text
+IsRead Y (reading.Counted d) is_prefix text defaults =
+    IsReadWith Y is_prefix (Description.Reads Y (steps_shape d)) (Description.Refuses Y (steps_shape d)) text defaults
+
+-- a prefix of a text parses into a record, by a format without zones that may omit parts of a moment
+abbrev pub ReadsRecord : ℕ → Reading → Outcome.Reading
+ReadsRecord Y reading.Iso8601 text base rest r = Iso8601.Reads Y text base rest r
+ReadsRecord Y (reading.Described d) text base rest r = Description.Reads Y (steps_shape d) text base rest r
+ReadsRecord Y format text base rest r = ⊥
+
+-- the zones that a suffix may name
+abbrev pub zones_of : Reading → Option Zones
+zones_of (reading.Zoned zones) = Some zones
+zones_of reading.Rfc3339 = None
+zones_of reading.Rfc2822 = None
+zones_of reading.Iso8601 = None
+zones_of (reading.Described d) = None
+zones_of (reading.Complete d) = None
+zones_of (reading.Counted d) = None
+
+-- whether a fraction after a minus is rejected
+abbrev pub is_counted : Reading → Bool
+is_counted reading.Rfc3339 = false
+is_counted (reading.Zoned zones) = false
+is_counted reading.Rfc2822 = false
+is_counted reading.Iso8601 = false
+is_counted (reading.Described d) = false
+is_counted (reading.Complete d) = false
+is_counted (reading.Counted d) = true
+
+-- a number starts with a minus, and has a point
+abbrev pub is_negative_fraction : List ℕ → Bool
+is_negative_fraction number = slice_index number 0 == 45 && list_any (λ x. x == 46) number
+
+-- a match, unless a further rule of the format rejects it
+abbrev pub guarded : Reading → List ℕ → Match → Result Match Reason
+guarded format text s =
+    if is_counted format && is_negative_fraction (take s.length text) then Err negative_fraction else Ok s
+
+-- that result; for a format with zones, the match with the longest suffix after it, or an error
+abbrev pub IsGuarded : Reading → Bool → List ℕ → Match → Result Match Reason → Type 0
+IsGuarded format is_prefix text s result =
+    MatchOption (zones_of format) (result ≡ guarded format text s) (λ zones. IsSuffixed zones is_prefix text s result)
+
+-- the match of a text by RFC 3339 with a suffix, or an error
+abbrev pub ParsesZoned : ℕ → Zones → Bool → List ℕ → Result Match Reason → Type 0
+ParsesZoned Y zones is_prefix text result =
+    (front : Result Match Refusal) × IsReadInFront Y text front
+    × MatchResult front (λ s. IsSuffixed zones is_prefix text s result) (λ e. result ≡ Err (unread e))
+
+-- the match of a text by a format, or an error
+abbrev pub ParsesAs : ℕ → Reading → Bool → List ℕ → Defaults → Result Match Reason → Type 0
+ParsesAs Y format is_prefix text defaults result =
+    (outcome : Result Match Refusal) × IsRead Y format is_prefix text defaults outcome
+    × MatchResult outcome (λ s. IsGuarded format is_prefix text s result) (λ e. result ≡ Err (unread e))
+
+-- the defaults with that offset
+abbrev pub at_offset : UtcOffset → Defaults → Defaults
+at_offset o d = record { year = d.year; offset = Some o; clocks = None; latest = None }
+
+-- The match of a text as a local time in a zone: parsed at the offset that the zone has at the date and time of the
+-- text in UTC.
+abbrev pub ParsesInZone : ℕ → Clocks → Reading → Bool → List ℕ → Defaults → Result Match Reason → Type 0
+ParsesInZone Y clocks format is_prefix text defaults result =
+    (utc : UtcOffset) × IsUtc utc
+    × (shown : Result Match Reason) × ParsesAs Y format is_prefix text (at_offset utc defaults) shown
+    × MatchResult shown
+    (λ s. (offset : Result UtcOffset Reason) × IsOffsetWhen clocks s.moment offset
+    × MatchResult offset (λ o. ParsesAs Y format is_prefix text (at_offset o defaults) result)
+    (λ why. result ≡ Err why))
+    (λ why. result ≡ Err why)
+
+-- The match of a text by a format; if the format rejects it, as a local time in the zone of the defaults.
+abbrev pub ParsesLocally : ℕ → Reading → Bool → List ℕ → Defaults → Result Match Reason → Type 0
+ParsesLocally Y format is_prefix text defaults result =
+    (plain : Result Match Reason) × ParsesAs Y format is_prefix text defaults plain
+    × MatchResult plain (λ s. result ≡ Ok s)
+    (λ reason. MatchOption defaults.clocks (result ≡ Err reason)
+    (λ clocks. ParsesInZone Y clocks format is_prefix text defaults result))
+
+-- the first moment is after the second
+abbrev pub is_after : ℕ → OffsetDateTime → OffsetDateTime → Bool
+is_after Y v w = int_lt (offset_instant Y w) (offset_instant Y v)
+
+-- a text without a year, its format, the default offset or the zone for local times, and the latest moment that it may
+-- mean
+pub record Undated : Type 0 where
+  pub format : Reading
+  pub is_prefix : Bool
+  pub text : List ℕ
+  pub offset : Option UtcOffset
+  pub clocks : Option Clocks
+  pub latest : OffsetDateTime
+
+abbrev pub undated : Reading → Bool → List ℕ → Option UtcOffset → Option Clocks → OffsetDateTime → Undated
+undated format is_prefix text offset clocks latest =
+    record { format = format; is_prefix = is_prefix; text = text; offset = offset; clocks = clocks; latest = latest }
+
+-- the text and its format without their addresses
+abbrev pub erased_undated : declared.Undated → Undated
+erased_undated u = undated u.reading.now u.is_prefix u.text.now u.offset u.clocks u.latest
+
+-- the year after that of a moment at its own offset
+abbrev pub year_after : OffsetDateTime → ℤ
+year_after v = Dates.year (offset_date v) +ℤ pos 1
+
+-- the defaults with that year, and that offset or that zone
+abbrev pub in_year : ℤ → Option UtcOffset → Option Clocks → Defaults
+in_year year offset clocks = record { year = Some year; offset = offset; clocks = clocks; latest = None }
+
+-- the match of a text with that year
+abbrev pub IsReadInYear : ℕ → Undated → ℤ → Result Match Reason → Type 0
+IsReadInYear Y u year = ParsesLocally Y u.format u.is_prefix u.text (in_year year u.offset u.clocks)
+
+-- the result is a match that isn't too late, that is, not after the latest moment
+abbrev pub is_early : ℕ → OffsetDateTime → Result Match Reason → Bool
+is_early Y latest (Ok s) = not (is_after Y s.moment latest)
+is_early Y latest (Err why) = false
+
+-- Whether the text, with that year and at the offset of the latest moment, is a moment that isn't after it.
+abbrev pub IsEarly : ℕ → Undated → ℤ → Bool → Type 0
+IsEarly Y u year early =
+    (shown : Result Match Reason)
+    × ParsesAs Y u.format u.is_prefix u.text (at_offset (offset_of u.latest) (in_year year u.offset u.clocks)) shown
+    × (early ≡ is_early Y u.latest shown)
+
+-- Whether no earlier year is tried: the zone rejects a local time that isn't too late.
+abbrev pub IsFinal : ℕ → Undated → ℤ → Reason → Bool → Type 0
+IsFinal Y u year why final = MatchBool (is_local_time_error why) (IsEarly Y u year final) (final ≡ false)
+
+-- The result with the first of n years, from `year` down, that gives a moment that isn't too late, or a local time that
+-- isn't too late but that the zone rejects; otherwise the last reason.
+unfoldable pub AreYearsTried : ℕ → Undated → ℕ → ℤ → Reason → Result Match Reason → Type 0
+AreYearsTried Y u zero year reason result = result ≡ Err reason
+AreYearsTried Y u (suc n) year reason result =
+    (read : Result Match Reason) × IsReadInYear Y u year read
+    × MatchResult read
+    (λ s. MatchBool (is_after Y s.moment u.latest) (AreYearsTried Y u n (year -ℤ pos 1) reason result) (result ≡ Ok s))
+    (λ why. (final : Bool) × IsFinal Y u year why final
+    × MatchBool final (result ≡ Err why) (AreYearsTried Y u n (year -ℤ pos 1) why result))
+
+-- The match of a text by a format; a text that the format rejects may omit its year, and then means the latest moment
+-- that isn't after a given one.
+abbrev pub IsDated : ℕ → Reading → Bool → List ℕ → Defaults → Result Match Reason → Type 0
+IsDated Y format is_prefix text defaults result =
+    (plain : Result Match Reason) × ParsesLocally Y format is_prefix text defaults plain
+    × MatchResult plain (λ s. result ≡ Ok s)
+    (λ reason. MatchOption defaults.latest (result ≡ Err reason)
+    (λ latest. AreYearsTried Y (undated format is_prefix text defaults.offset defaults.clocks latest)
+    10 (year_after latest) reason result))
+
+-- the match of the first of these formats that has one, otherwise that reason
+abbrev pub AreTried : ℕ → List Reading → Bool → List ℕ → Defaults → Reason → Result Match Reason → Type 0
+AreTried Y [] is_prefix text defaults reason result = result ≡ Err reason
+AreTried Y (format ∷ formats) is_prefix text defaults reason result =
+    (first : Result Match Reason) × IsDated Y format is_prefix text defaults first
+    × MatchResult first (λ s. result ≡ Ok s) (λ _. AreTried Y formats is_prefix text defaults reason result)
+
+-- the match of the first of the formats that has one, otherwise the reason of the first format
+abbrev pub IsReadInTurn : ℕ → Reading → List Reading → Bool → List ℕ → Defaults → Result Match Reason → Type 0
+IsReadInTurn Y format formats is_prefix text defaults result =
+    (first : Result Match Reason) × IsDated Y format is_prefix text defaults first
+    × MatchResult first (λ s. result ≡ Ok s) (λ reason. AreTried Y formats is_prefix text defaults reason result)

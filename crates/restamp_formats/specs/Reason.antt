@@ -1,0 +1,112 @@
+-- Why a timestamp isn't rewritten.
+use Rattle.std.specs.Prelude.{List, codes, ℕ, ◌/◌, ◌%◌, ◌∷◌, ◌++◌, ℤ, pos, int_lt, unsigned_abs, if◌then◌else◌, Bool, true, false, Result, Ok, Err}
+use Rattle.time_formatting.specs.Texts.{unformattable_text}
+use Rattle.time_formatting.specs.declared.walk.Unformattable.{Unformattable}
+use Rattle.time_values.specs.Refusal.{Refusal, refusal_of, refusal_text}
+use Rattle.time_values.specs.Shown.{Items, fixed}
+use Rattle.time_writing.specs.Texts.{unwritable_text}
+use Rattle.time_writing.specs.declared.parts.Unwritable.{Unwritable}
+use Rattle.time_zones.specs.Zones.{suffix_fault_text}
+use Rattle.time_zones.specs.declared.checking.SuffixFault.{SuffixFault}
+use Rattle.restamp_formats.specs.declared.reading.Match.{Match}
+use Rattle.restamp_formats.specs.declared.reason.OffsetParts.{OffsetParts}
+use Rattle.restamp_formats.specs.declared.reason.TwoOffsets.{TwoOffsets}
+use Rattle.restamp_formats.specs.declared.reason.Reason as declared
+use Rattle.restamp_formats.specs.declared.reason.Reason.TheVariants as variant
+
+-- no format matches it; it has a fraction after a minus; the local time is nonexistent, or ambiguous with these
+-- offsets; it has no date at an offset; it is outside the range of time zones; its suffix rejects it; it has no text by
+-- a format or by a description; it ends too far behind; or the line has no timestamp
+pub data Reason : Type 0 where
+  unread : Refusal → Reason
+  negative_fraction : Reason
+  nonexistent : Reason
+  ambiguous_offsets : TwoOffsets → Reason
+  out_of_range : Reason
+  outside_zone_range : Reason
+  suffix : SuffixFault → Reason
+  unwritable : Unwritable → Reason
+  unformattable : Unformattable → Reason
+  too_far : Reason
+  missing : Reason
+
+-- the reason without the addresses of its texts
+abbrev pub seen : declared.Reason → Reason
+seen (variant.Unread e) = unread (refusal_of e)
+seen variant.NegativeFraction = negative_fraction
+seen variant.Nonexistent = nonexistent
+seen (variant.Ambiguous offsets) = ambiguous_offsets offsets
+seen variant.OutOfRange = out_of_range
+seen variant.OutsideZoneRange = outside_zone_range
+seen (variant.Suffix fault) = suffix fault
+seen (variant.Unwritable why) = unwritable why
+seen (variant.Unformattable why) = unformattable why
+seen variant.TooFar = too_far
+seen variant.Missing = missing
+
+-- the parts of an offset in seconds, which is negative behind UTC
+abbrev pub parts_of : ℤ → OffsetParts
+parts_of s = record { is_behind = int_lt s (pos 0); seconds = unsigned_abs s }
+
+-- the text of an offset, `+HH:MM:SS`
+abbrev pub offset_text : OffsetParts → List ℕ
+offset_text o =
+    (if o.is_behind then 45 else 43) ∷ fixed 2 (o.seconds / 3600) ++ codes ":"
+    ++ fixed 2 (o.seconds / 60 % 60) ++ codes ":" ++ fixed 2 (o.seconds % 60)
+
+-- the text of two offsets
+abbrev pub offsets_text : TwoOffsets → List ℕ
+offsets_text offsets = offset_text offsets.earlier ++ (codes " and " ++ offset_text offsets.later)
+
+-- the text of a reason, with the name of its zone
+abbrev pub text_with : List ℕ → Reason → List ℕ
+text_with zone (unread e) = refusal_text e
+text_with zone negative_fraction = codes "a fraction after a minus is read in two ways"
+text_with zone nonexistent = codes "the clocks of " ++ zone ++ codes " leave it out"
+text_with zone (ambiguous_offsets offsets) =
+    codes "the clocks of " ++ zone ++ codes " show it twice, at " ++ offsets_text offsets
+text_with zone out_of_range = codes "the time has no date at that offset"
+text_with zone outside_zone_range = codes "no time zone tells of that time"
+text_with zone (suffix fault) = suffix_fault_text fault
+text_with zone (unwritable why) = unwritable_text why
+text_with zone (unformattable why) = unformattable_text why
+text_with zone too_far = codes "the time goes on past byte 262144 of its line"
+text_with zone missing = codes "the line has no place for a time"
+
+-- what a report calls a zone without a name
+abbrev pub its_zone : List ℕ
+its_zone = codes "its zone"
+
+abbrev pub reason_text : Reason → List ℕ
+reason_text reason = text_with its_zone reason
+
+-- the local time is nonexistent or ambiguous in the time zone
+abbrev pub is_local_time_error : Reason → Bool
+is_local_time_error nonexistent = true
+is_local_time_error (ambiguous_offsets offsets) = true
+is_local_time_error reason = false
+
+-- The result satisfies a relation; its error is what a caller keeps of a reason.
+abbrev pub Gives : {V E : Type 0} → (Reason → E → Type 0) → (Result V Reason → Type 0) → Result V E → Type 0
+Gives IsOf P (Ok v) = P (Ok v)
+Gives IsOf P (Err e) = (reason : Reason) × IsOf reason e × P (Err reason)
+
+-- The result is an error: what a caller keeps of that reason.
+abbrev pub IsErrOf : {V E : Type 0} → (Reason → E → Type 0) → Reason → Result V E → Type 0
+IsErrOf IsOf reason (Ok v) = ⊥
+IsErrOf IsOf reason (Err e) = IsOf reason e
+
+-- The relation holds for the text that is stored beside a result, or for the reason that the result keeps.
+abbrev pub Stores : {U E : Type 0} → (Reason → E → Type 0) → (Result Items Reason → Type 0) → Result U E → Items
+    → Type 0
+Stores IsOf P (Ok u) text = P (Ok text)
+Stores IsOf P (Err e) text = (reason : Reason) × IsOf reason e × P (Err reason)
+
+-- results without the addresses of their errors
+abbrev pub erased_read : Result Match declared.Reason → Result Match Reason
+erased_read (Ok said) = Ok said
+erased_read (Err e) = Err (seen e)
+
+abbrev pub erased_written : Result Items declared.Reason → Result Items Reason
+erased_written (Ok text) = Ok text
+erased_written (Err e) = Err (seen e)

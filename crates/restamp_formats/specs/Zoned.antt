@@ -1,0 +1,136 @@
+-- The suffix that RFC 9557, section 4.1, adds to RFC 3339.
+use Rattle.std.specs.Prelude.{◌≡◌, ℕ, ◌+◌, ◌≤◌, nat_eq, nat_lt, Bool, not, ◌&&◌, ◌||◌, MatchBool, List, length, take, drop, codes, Option, Result, Ok, Err, Some, MatchOption}
+use Rattle.std.specs.List.{ends_with}
+use Rattle.jiff_core.specs.Timestamp.{IsTimestampNanos}
+use Rattle.jiff_tz.specs.Zone as Zone
+use Rattle.jiff_tz.specs.declared.timezone.TimeZone.{TimeZone}
+use Rattle.time_values.specs.Refusal.{trailing}
+use Rattle.time_values.specs.Moments.{shown_at, offset_instant, offset_of, offset_date, offset_time}
+use Rattle.time_values.specs.Instants.{IsInstant}
+use Rattle.time_values.specs.Offsets.{offset_seconds}
+use Rattle.time_values.specs.declared.offset_date_time.OffsetDateTime.{OffsetDateTime}
+use Rattle.time_values.specs.declared.utc_offset.UtcOffset.{UtcOffset}
+use Rattle.time_values.specs.declared.plain_date_time.PlainDateTime.{PlainDateTime}
+use Rattle.time_zones.specs.Suffix.{Checked, GoesWith, IsLongest, IsSuffix, Tag, ZoneTag, critical_key}
+use Rattle.time_zones.specs.declared.zones.Zones.{Zones}
+use Rattle.time_zones.specs.Zones.{IsAnswer}
+use Rattle.time_zones.specs.declared.clocks.NotOne.{NotOne}
+use Rattle.time_zones.specs.declared.clocks.NotOne.TheVariants as not_one
+use Rattle.restamp_formats.specs.Reason.{Reason, suffix, unread, out_of_range, outside_zone_range, nonexistent, ambiguous_offsets, parts_of, seen}
+use Rattle.restamp_formats.specs.declared.reading.Match.{Match}
+use Rattle.restamp_formats.specs.declared.clock.Clock.{Clock}
+use Rattle.restamp_formats.specs.declared.clock.Clock.TheVariants as clock
+use Rattle.restamp_formats.specs.declared.local.Clocks.{Clocks}
+use Rattle.restamp_formats.specs.declared.local.Fold.{Fold}
+use Rattle.restamp_formats.specs.declared.local.Fold.TheVariants as by
+use Rattle.restamp_formats.specs.declared.reason.TwoOffsets.{TwoOffsets}
+use Rattle.restamp_formats.specs.declared.reason.Reason as declared
+
+-- a suffix: its length in bytes, its zone and its tags
+pub record Suffix : Type 0 where
+  pub len : ℕ
+  pub zone : Option ZoneTag
+  pub tags : List Tag
+
+-- the longest suffix at the start of some bytes
+pub record IsLongestSuffix (bytes : List ℕ) (s : Suffix) : Type 0 where
+  pub within : s.len ≤ length bytes
+  pub is_suffix : IsSuffix (take s.len bytes) s.zone s.tags
+  pub longest : IsLongest bytes s.len
+
+-- A text of RFC 3339 has a known offset. Z and -00:00 leave the offset of a zone unknown.
+abbrev pub tells_offset : List ℕ → Bool
+tells_offset front =
+    not (ends_with nat_eq front (codes "Z") || ends_with nat_eq front (codes "z")
+    || ends_with nat_eq front (codes "-00:00"))
+
+-- a match that is extended by the bytes of a suffix
+abbrev pub extended : Match → ℕ → Match
+extended front len = record { moment = front.moment; start = 0; length = front.length + len }
+
+-- a match, or the error of its suffix
+abbrev pub checked : Match → Checked → Result Match Reason
+checked said (Ok u) = Ok said
+checked said (Err fault) = Err (suffix fault)
+
+-- the match of a prefix and the suffix after it
+abbrev pub IsChecked : Zones → List ℕ → Match → Suffix → Result Match Reason → Type 0
+IsChecked zones text front s result =
+    (answer : Checked)
+    × GoesWith zones (tells_offset (take front.length text)) front.moment s.zone (critical_key s.tags) answer
+    × (result ≡ checked (extended front s.len) answer)
+
+-- bytes that aren't allowed follow the timestamp
+abbrev pub has_tail : Bool → List ℕ → ℕ → Bool
+has_tail is_prefix text end = not is_prefix && nat_lt end (length text)
+
+-- The match of a prefix and the longest suffix after it. Unless `is_prefix` is true, further bytes are an error.
+abbrev pub IsSuffixed : Zones → Bool → List ℕ → Match → Result Match Reason → Type 0
+IsSuffixed zones is_prefix text front result =
+    (s : Suffix) × IsLongestSuffix (drop front.length text) s
+    × MatchBool (has_tail is_prefix text (front.length + s.len)) (result ≡ Err (unread trailing))
+    (IsChecked zones text front s result)
+
+-- ---- The clock that a moment is converted to. `Y` is the greatest year.
+
+-- The moment at the offset, if it has a date there.
+abbrev pub IsConvertedTo : ℕ → UtcOffset → OffsetDateTime → Option OffsetDateTime → Type 0
+IsConvertedTo Y offset v result =
+    MatchOption result (¬ IsInstant Y (shown_at (offset_instant Y v) offset))
+    (λ w. (offset_instant Y w ≡ offset_instant Y v) × (offset_of w ≡ offset))
+
+-- The moment at the offset that a zone has then, if it is in the range of time zones.
+abbrev pub IsConvertedIn : ℕ → TimeZone → OffsetDateTime → Option OffsetDateTime → Type 0
+IsConvertedIn Y zone v result =
+    MatchOption result (¬ IsTimestampNanos (offset_instant Y v))
+    (λ w. (offset_instant Y w ≡ offset_instant Y v) × IsTimestampNanos (offset_instant Y v)
+    × (offset_seconds (offset_of w) ≡ Zone.offset_at zone (offset_instant Y v)))
+
+-- The moment converted to a clock.
+abbrev pub IsConverted : ℕ → Clock → OffsetDateTime → Option OffsetDateTime → Type 0
+IsConverted Y clock.Own v result = result ≡ Some v
+IsConverted Y (clock.Fixed offset) v result = IsConvertedTo Y offset v result
+IsConverted Y (clock.Zone zone) v result = IsConvertedIn Y zone v result
+
+-- why a moment can't be converted to the clock
+abbrev pub conversion_error : Clock → Reason
+conversion_error clock.Own = out_of_range
+conversion_error (clock.Fixed offset) = out_of_range
+conversion_error (clock.Zone zone) = outside_zone_range
+
+-- ---- The offset that a zone has at a local date and time
+
+-- the local date and time of a moment at its own offset
+abbrev pub clock_of : OffsetDateTime → PlainDateTime
+clock_of v = record { date = offset_date v; time = offset_time v }
+
+-- the offsets of two moments, for reports
+abbrev pub offsets : OffsetDateTime → OffsetDateTime → TwoOffsets
+offsets earlier later = record {
+  earlier = parts_of (offset_seconds (offset_of earlier));
+  later = parts_of (offset_seconds (offset_of later));
+}
+
+-- the offset of the moment that an ambiguous local time means, or an error
+abbrev pub of_two : Fold → OffsetDateTime → OffsetDateTime → Result UtcOffset Reason
+of_two by.Refuse earlier later = Err (ambiguous_offsets (offsets earlier later))
+of_two by.Earlier earlier later = Ok (offset_of earlier)
+of_two by.Later earlier later = Ok (offset_of later)
+
+-- the offset, by the moments that a zone has for a local date and time
+abbrev pub offset_by : Fold → Result OffsetDateTime NotOne → Result UtcOffset Reason
+offset_by fold (Ok m) = Ok (offset_of m)
+offset_by fold (Err not_one.Gap) = Err nonexistent
+offset_by fold (Err (not_one.Fold earlier later)) = of_two fold earlier later
+offset_by fold (Err not_one.Untold) = Err outside_zone_range
+
+-- The offset of the zone at the local date and time of a moment, or why there isn't exactly one.
+abbrev pub IsOffsetWhen : Clocks → OffsetDateTime → Result UtcOffset Reason → Type 0
+IsOffsetWhen clocks v result =
+    (answer : Result OffsetDateTime NotOne) × IsAnswer clocks.zone (clock_of v) answer
+    × (result ≡ offset_by clocks.fold answer)
+
+-- a result with an error without the addresses of its texts
+abbrev pub erased_offset : Result UtcOffset declared.Reason → Result UtcOffset Reason
+erased_offset (Ok offset) = Ok offset
+erased_offset (Err e) = Err (seen e)

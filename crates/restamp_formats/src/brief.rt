@@ -1,0 +1,72 @@
+//! How much of the reason for a rejected timestamp a caller keeps.
+ghost use Rattle.std.specs.Prelude.{◌≡◌};
+ghost use Rattle.restamp_formats.specs.Reason.{Reason as Reason_, is_local_time_error, seen};
+
+use crate::reason::Reason;
+
+/// What a caller keeps of the reason for a rejected timestamp: the whole [`Reason`], or a [`Brief`].
+///
+/// The functions from a text to its match are generic over this type. A stream of lines uses [`Brief`], since a whole
+/// reason beside each match costs a line as much as the match does.
+pub trait FromReason: Copy {
+    ghost use Rattle.restamp_formats.specs.Reason.{Reason as Reason_, is_local_time_error};
+
+    // The value is what a caller keeps of that reason.
+    ghost is_of: { Reason_ → Self → Type 0 };
+
+    /// Builds the value from a reason.
+    fn from_reason(reason: Reason) -> Self
+        ensures { is_of (seen reason) result };
+
+    /// Whether the local time is nonexistent or ambiguous in the time zone.
+    fn is_local_time_error(self) -> bool
+        ensures { (reason : Reason_) → is_of reason self → result ≡ is_local_time_error reason };
+}
+
+// Whether the local time is nonexistent or ambiguous in the time zone.
+fn is_local_time_error(reason: Reason) -> bool
+    ensures { result ≡ is_local_time_error (seen reason) }
+{
+    matches!(reason, Reason::Nonexistent | Reason::Ambiguous(_))
+}
+
+impl FromReason for Reason {
+    ghost use Rattle.restamp_formats.specs.Reason.{seen};
+
+    ghost is_of = { λ reason kept. seen kept ≡ reason };
+
+    #[inline(always)]
+    fn from_reason(reason: Reason) -> Reason {
+        reason
+    }
+
+    #[inline(always)]
+    fn is_local_time_error(self) -> bool {
+        is_local_time_error(self)
+    }
+}
+
+/// The part of a reason that the choice of a year needs.
+#[derive(Clone, Copy, Debug, PartialEq, Eq)]
+pub struct Brief {
+    /// Whether the local time is nonexistent or ambiguous in the time zone.
+    pub is_local_time_error: bool,
+}
+
+impl FromReason for Brief {
+    ghost use Rattle.restamp_formats.specs.Reason.{is_local_time_error};
+
+    ghost is_of = { λ reason kept. kept.is_local_time_error ≡ is_local_time_error reason };
+
+    #[inline(always)]
+    fn from_reason(reason: Reason) -> Brief {
+        Brief {
+            is_local_time_error: is_local_time_error(reason),
+        }
+    }
+
+    #[inline(always)]
+    fn is_local_time_error(self) -> bool {
+        self.is_local_time_error
+    }
+}

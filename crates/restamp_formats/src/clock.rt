@@ -1,0 +1,132 @@
+//! The offset or zone that a moment is written in, and timestamps with a suffix of RFC 9557, section 4.1.
+ghost use Rattle.std.specs.Prelude.{◌≡◌, ◌≤◌, ◌+◌, length, IfOk};
+ghost use Rattle.time_values.specs.Calendar.{greatest_year};
+ghost use Rattle.restamp_formats.specs.Zoned as spec;
+ghost use Rattle.restamp_formats.specs.Reason.{Gives, seen};
+ghost use Rattle.restamp_formats.specs.declared.clock.Clock.TheVariants as clock;
+ghost use Rattle.restamp_formats.specs.Reading.{ParsesZoned};
+
+use crate::brief::FromReason;
+use crate::reading::{Match, read_front_3339};
+use crate::reason::Reason;
+use time_values::error::{Parse, ParseFromDescription};
+use time_values::{OffsetDateTime, UtcOffset};
+use time_zones::{TimeZone, Zones, check_suffix, checked_to_zone, read_suffix};
+
+/// The offset that a moment is converted to before it is written.
+#[derive(Clone, Copy)]
+pub enum Clock<'a> {
+    /// Its own offset.
+    Own,
+    /// This offset.
+    Fixed(UtcOffset),
+    /// The offset that a time zone has at the moment.
+    Zone(TimeZone<'a>),
+}
+
+// Converts the moment to the offset; `None` if it has no date there.
+#[inline(always)]
+fn shown_at(moment: OffsetDateTime, offset: UtcOffset) -> Option<OffsetDateTime>
+    ensures { spec.IsConverted greatest_year (clock.Fixed offset) moment result }
+{
+    if moment.offset() == offset {
+        return Some(moment);
+    }
+    moment.checked_to_offset(offset)
+}
+
+// Converts the moment to local time in the zone. Not inlined, so that it needs no stack for lines without a zone.
+#[inline(never)]
+fn converted_in(moment: OffsetDateTime, zone: &TimeZone<'_>) -> Option<OffsetDateTime>
+    ensures { spec.IsConverted greatest_year (clock.Zone zone.now) moment result }
+{
+    checked_to_zone(moment, zone)
+}
+
+impl Clock<'_> {
+    /// Converts the moment to this clock; `None` if it has no date at the offset, or the zone's range excludes it.
+    #[inline(always)]
+    pub(crate) fn show(&self, moment: OffsetDateTime) -> Option<OffsetDateTime>
+        ensures { spec.IsConverted greatest_year self.now moment result }
+    {
+        match self {
+            Clock::Own => Some(moment),
+            Clock::Fixed(offset) => shown_at(moment, *offset),
+            Clock::Zone(zone) => converted_in(moment, zone),
+        }
+    }
+
+    /// The reason why a moment can't be converted to this clock.
+    #[inline(always)]
+    pub(crate) fn conversion_error(&self) -> Reason
+        ensures { seen result ≡ spec.conversion_error self.now }
+    {
+        match self {
+            Clock::Own | Clock::Fixed(_) => Reason::OutOfRange,
+            Clock::Zone(_) => Reason::OutsideZoneRange,
+        }
+    }
+}
+
+// The error for bytes after a whole text.
+const TRAILING: Parse = Parse::ParseFromDescription(
+    ParseFromDescription::UnexpectedTrailingCharacters,
+);
+
+// Whether a text of RFC 3339 has a known offset. `Z` and `-00:00` leave the offset of a zone unknown.
+fn tells_offset(front: &[u8]) -> bool
+    ensures { result ≡ spec.tells_offset front.now }
+{
+    !(front.ends_with(b"Z") || front.ends_with(b"z") || front.ends_with(b"-00:00"))
+}
+
+// Whether bytes that aren't allowed follow a timestamp that ends at `end`.
+fn has_tail(is_prefix: bool, text: &[u8], end: usize) -> bool
+    ensures { result ≡ spec.has_tail is_prefix text.now end }
+{
+    !is_prefix && end < text.len()
+}
+
+// Extends the match of a prefix by the longest suffix after it. Returns an error if the zone or a critical tag of the
+// suffix rejects the moment, or if more bytes follow and `is_prefix` is false.
+fn with_suffix<E: FromReason>(
+    zones: &Zones,
+    is_prefix: bool,
+    text: &[u8],
+    front: Match,
+) -> Result<Match, E>
+    requires { front.length ≤ length text.now }
+    ensures said { Gives E.is_of (spec.IsSuffixed zones.now is_prefix text.now front) result }
+    ensures within { IfOk result (λ said. said.start + said.length ≤ length text.now) }
+{
+    let suffix = read_suffix(&text[front.length..]);
+    let end = front.length + suffix.len;
+    if has_tail(is_prefix, text, end) {
+        return Err(E::from_reason(Reason::Unread(TRAILING)));
+    }
+    let tells_offset = tells_offset(&text[..front.length]);
+    match check_suffix(&suffix, front.moment, tells_offset, zones) {
+        Ok(()) => Ok(Match {
+            moment: front.moment,
+            start: 0,
+            length: end,
+        }),
+        Err(fault) => Err(E::from_reason(Reason::Suffix(fault))),
+    }
+}
+
+/// Parses a text of RFC 3339 with a suffix. Not inlined, so that timestamps without one need no stack for it.
+#[inline(never)]
+pub(crate) fn read_zoned<E: FromReason>(
+    zones: &Zones,
+    is_prefix: bool,
+    text: &[u8],
+) -> Result<Match, E>
+    ensures said { Gives E.is_of (ParsesZoned greatest_year zones.now is_prefix text.now) result }
+    ensures within { IfOk result (λ said. said.start + said.length ≤ length text.now) }
+{
+    match read_front_3339(text) {
+        Ok(front) => with_suffix(zones, is_prefix, text, front),
+        Err(error) => Err(E::from_reason(Reason::Unread(error))),
+    }
+}

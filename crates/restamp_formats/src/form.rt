@@ -1,0 +1,323 @@
+//! How a moment is written.
+ghost use Rattle.std.specs.Prelude.{◌≡◌, ◌≤◌, length, MatchOption};
+ghost use Rattle.std.specs.Fmt.{signed_decimal};
+ghost use Rattle.time_values.specs.Calendar.{greatest_year};
+ghost use Rattle.restamp_formats.specs.Form as spec;
+ghost use Rattle.time_values.specs.Instants.{IsInstant, IsWhole};
+ghost use Rattle.time_values.specs.Moments.{nanoseconds, offset_instant};
+ghost use Rattle.restamp_formats.specs.declared.form.Unit.TheVariants.{Seconds, Milliseconds, Microseconds, Nanoseconds};
+ghost use Rattle.restamp_formats.specs.declared.form.Named.TheVariants.{Rfc2822, Iso8601};
+ghost use Rattle.restamp_formats.specs.declared.form.Writing.TheVariants as writing;
+ghost use Rattle.restamp_formats.specs.Reason.{Stores, erased_written};
+
+use crate::brief::FromReason;
+use crate::clock::Clock;
+use crate::reading::MOST_STEPS;
+use crate::reason::Reason;
+use time_descriptions::Description;
+use time_formatting::format;
+use time_values::{OffsetDateTime, Timestamp};
+use time_writing::{FractionDigits, Text, Unwritable, text_2822, text_3339, text_8601};
+
+// The first and the last second of all dates in UTC, counted from 1970-01-01T00:00:00Z.
+const FIRST_SECOND: i64 = -31_619_087_596_800;
+
+const LAST_SECOND: i64 = 31_494_784_780_799;
+
+/// The unit of a count from 1970-01-01T00:00:00Z.
+#[derive(Clone, Copy, Debug, PartialEq, Eq)]
+pub enum Unit {
+    /// Whole seconds, rounded down.
+    Seconds,
+    /// Whole milliseconds, rounded down.
+    Milliseconds,
+    /// Whole microseconds, rounded down.
+    Microseconds,
+    /// Nanoseconds.
+    Nanoseconds,
+}
+
+/// A format with a name.
+#[derive(Clone, Copy, Debug, PartialEq, Eq)]
+pub enum Named {
+    /// RFC 3339.
+    Rfc3339,
+    /// A mail date, RFC 2822, without a fraction.
+    Rfc2822,
+    /// ISO 8601 with nine digits of a fraction.
+    Iso8601,
+    /// A decimal number of units.
+    Count(Unit),
+}
+
+/// The format that a moment is written in.
+#[derive(Drop)]
+pub enum Writing {
+    /// A format with a name.
+    Named(Named),
+    /// A description.
+    Described(Description<MOST_STEPS>),
+}
+
+/// All that determines how a moment is written.
+#[derive(Clone, Copy)]
+pub struct Form<'a> {
+    /// The format.
+    pub writing: &'a Writing,
+    /// How many digits the fraction of RFC 3339 has.
+    pub digits: FractionDigits,
+    /// The offset or zone that the moment is converted to.
+    pub clock: Clock<'a>,
+}
+
+// Stores a text, or returns what is kept of the reason why the moment has no text.
+#[inline(always)]
+fn store<E: FromReason>(written: Result<Text, Unwritable>, text: &mut Text) -> Result<(), E>
+    ensures { Stores E.is_of (λ given. given ≡ spec.written written) result text.new }
+{
+    match written {
+        Ok(found) => {
+            *text = found;
+            Ok(())
+        }
+        Err(why) => Err(E::from_reason(Reason::Unwritable(why))),
+    }
+}
+
+// A number of at most 64 bits.
+#[inline(always)]
+fn number(count: i64) -> Text
+    ensures { result.items ≡ signed_decimal count }
+{
+    let mut buffer = itoa::Buffer::new();
+    let mut text = Text::new();
+    text.append(buffer.format(count).as_bytes());
+    text
+}
+
+// A number of at most 34 digits.
+fn wide_number(count: i128) -> Text
+    requires { length (signed_decimal count) ≤ 35 }
+    ensures { result.items ≡ signed_decimal count }
+{
+    let mut buffer = itoa::Buffer::new();
+    let mut text = Text::new();
+    text.append(buffer.format(count).as_bytes());
+    text
+}
+
+// The whole seconds of the moment since 1970; `None` if it has no date in UTC. They cost much less to compute than its
+// nanoseconds.
+#[inline(always)]
+fn seconds_of(moment: OffsetDateTime) -> Option<i64>
+    ensures { MatchOption result (¬ IsInstant greatest_year (offset_instant greatest_year moment))
+        (λ z. IsInstant greatest_year (offset_instant greatest_year moment)
+        × IsWhole 1_000_000_000 (offset_instant greatest_year moment) z) }
+{
+    let seconds = moment.unix_timestamp();
+    if seconds < FIRST_SECOND {
+        return None;
+    }
+    if LAST_SECOND < seconds {
+        return None;
+    }
+    Some(seconds)
+}
+
+// The nanoseconds of the moment since 1970; `None` if it has no date in UTC.
+fn stamp_of(moment: OffsetDateTime) -> Option<Timestamp>
+    ensures { MatchOption result (¬ IsInstant greatest_year (offset_instant greatest_year moment))
+        (λ stamp. IsInstant greatest_year (offset_instant greatest_year moment)
+        × (nanoseconds stamp ≡ offset_instant greatest_year moment)) }
+{
+    match moment.checked_to_utc() {
+        Some(utc) => Some(Timestamp::from(utc)),
+        None => None,
+    }
+}
+
+// The whole milliseconds of the moment since 1970, computed in 64 bits; `None` if it has no date in UTC.
+#[inline(always)]
+fn milliseconds_of(moment: OffsetDateTime) -> Option<i64>
+    ensures { MatchOption result (¬ IsInstant greatest_year (offset_instant greatest_year moment))
+        (λ z. IsInstant greatest_year (offset_instant greatest_year moment)
+        × IsWhole 1_000_000 (offset_instant greatest_year moment) z) }
+{
+    let seconds = seconds_of(moment)?;
+    Some(seconds * 1_000 + i64::from(moment.time().nanosecond() / 1_000_000))
+}
+
+// Stores the moment's milliseconds since 1970. This and the next two functions aren't inlined, so that their results
+// need no stack when seconds are written.
+#[inline(never)]
+fn write_milliseconds<E: FromReason>(moment: OffsetDateTime, text: &mut Text) -> Result<(), E>
+    ensures { Stores E.is_of (spec.IsCounted greatest_year Milliseconds moment) result text.new }
+{
+    let Some(milliseconds) = milliseconds_of(moment) else {
+        return Err(E::from_reason(Reason::OutOfRange));
+    };
+    *text = number(milliseconds);
+    Ok(())
+}
+
+// Stores the moment's microseconds since 1970.
+#[inline(never)]
+fn write_microseconds<E: FromReason>(moment: OffsetDateTime, text: &mut Text) -> Result<(), E>
+    ensures { Stores E.is_of (spec.IsCounted greatest_year Microseconds moment) result text.new }
+{
+    let Some(stamp) = stamp_of(moment) else {
+        return Err(E::from_reason(Reason::OutOfRange));
+    };
+    *text = wide_number(stamp.as_microseconds());
+    Ok(())
+}
+
+// Stores the moment's nanoseconds since 1970.
+#[inline(never)]
+fn write_nanoseconds<E: FromReason>(moment: OffsetDateTime, text: &mut Text) -> Result<(), E>
+    ensures { Stores E.is_of (spec.IsCounted greatest_year Nanoseconds moment) result text.new }
+{
+    let Some(stamp) = stamp_of(moment) else {
+        return Err(E::from_reason(Reason::OutOfRange));
+    };
+    *text = wide_number(stamp.nanoseconds());
+    Ok(())
+}
+
+// Stores the moment's whole seconds since 1970.
+#[inline(always)]
+fn write_seconds<E: FromReason>(moment: OffsetDateTime, text: &mut Text) -> Result<(), E>
+    ensures { Stores E.is_of (spec.IsCounted greatest_year Seconds moment) result text.new }
+{
+    let Some(seconds) = seconds_of(moment) else {
+        return Err(E::from_reason(Reason::OutOfRange));
+    };
+    *text = number(seconds);
+    Ok(())
+}
+
+// Stores the moment's count of a unit since 1970.
+#[inline(always)]
+fn write_count<E: FromReason>(moment: OffsetDateTime, unit: Unit, text: &mut Text) -> Result<(), E>
+    ensures { Stores E.is_of (spec.IsCounted greatest_year unit moment) result text.new }
+{
+    match unit {
+        Unit::Seconds => write_seconds(moment, text),
+        Unit::Milliseconds => write_milliseconds(moment, text),
+        Unit::Microseconds => write_microseconds(moment, text),
+        Unit::Nanoseconds => write_nanoseconds(moment, text),
+    }
+}
+
+// Stores a mail date. This and the next function aren't inlined, so that their texts need no stack when RFC 3339 is
+// written.
+#[inline(never)]
+fn write_mail<E: FromReason>(
+    moment: OffsetDateTime,
+    digits: FractionDigits,
+    text: &mut Text,
+) -> Result<(), E>
+    ensures { Stores E.is_of (spec.IsNamedText greatest_year Rfc2822 digits moment) result text.new }
+{
+    store(text_2822(moment), text)
+}
+
+// Stores a text of ISO 8601.
+#[inline(never)]
+fn write_8601<E: FromReason>(
+    moment: OffsetDateTime,
+    digits: FractionDigits,
+    text: &mut Text,
+) -> Result<(), E>
+    ensures { Stores E.is_of (spec.IsNamedText greatest_year Iso8601 digits moment) result text.new }
+{
+    store(text_8601(moment), text)
+}
+
+// Stores the text of the moment by a named format, or returns what is kept of the reason why it has no text.
+#[inline(always)]
+fn write_shown<E: FromReason>(
+    moment: OffsetDateTime,
+    named: Named,
+    digits: FractionDigits,
+    text: &mut Text,
+) -> Result<(), E>
+    ensures { Stores E.is_of (spec.IsNamedText greatest_year named digits moment) result text.new }
+{
+    match named {
+        Named::Rfc3339 => store(text_3339(moment, digits), text),
+        Named::Rfc2822 => write_mail(moment, digits, text),
+        Named::Iso8601 => write_8601(moment, digits, text),
+        Named::Count(unit) => write_count(moment, unit, text),
+    }
+}
+
+// Converts the moment to the clock, and stores its text by a named format.
+#[inline(always)]
+fn write_named<E: FromReason>(
+    moment: OffsetDateTime,
+    named: Named,
+    digits: FractionDigits,
+    clock: &Clock<'_>,
+    text: &mut Text,
+) -> Result<(), E>
+    ensures { Stores E.is_of (spec.IsWrittenOn greatest_year (writing.Named named) digits clock.now moment) result text.new }
+{
+    match clock.show(moment) {
+        Some(shown) => write_shown(shown, named, digits, text),
+        None => Err(E::from_reason(clock.conversion_error())),
+    }
+}
+
+// Converts the moment to the clock, and stores its text by a description. Not inlined, so that other formats need no
+// stack for its text.
+#[inline(never)]
+fn write_described<E: FromReason>(
+    moment: OffsetDateTime,
+    description: &Description<MOST_STEPS>,
+    digits: FractionDigits,
+    clock: &Clock<'_>,
+    text: &mut Text,
+) -> Result<(), E>
+    ensures { Stores E.is_of (spec.IsWrittenOn greatest_year (writing.Described description.now) digits clock.now moment) result
+        text.new }
+{
+    let Some(shown) = clock.show(moment) else {
+        return Err(E::from_reason(clock.conversion_error()));
+    };
+    match format(shown, description.steps()) {
+        Ok(found) => {
+            *text = found;
+            Ok(())
+        }
+        Err(why) => Err(E::from_reason(Reason::Unformattable(why))),
+    }
+}
+
+/// Stores the text of the moment, or returns what is kept of the reason why it has no text.
+#[inline(always)]
+pub fn write_to<E: FromReason>(
+    moment: OffsetDateTime,
+    form: &Form<'_>,
+    text: &mut Text,
+) -> Result<(), E>
+    ensures { Stores E.is_of (spec.IsWritten greatest_year form.now moment) result text.new }
+{
+    match form.writing {
+        Writing::Named(named) => write_named(moment, *named, form.digits, &form.clock, text),
+        Writing::Described(description) => {
+            write_described(moment, description, form.digits, &form.clock, text)
+        }
+    }
+}
+
+/// The text of the moment, or the reason why it has no text.
+pub fn write_moment(moment: OffsetDateTime, form: &Form<'_>) -> Result<Text, Reason>
+    ensures { spec.IsWritten greatest_year form.now moment (erased_written result) }
+{
+    let mut text = Text::new();
+    match write_to(moment, form, &mut text) {
+        Ok(()) => Ok(text),
+        Err(reason) => Err(reason),
+    }
+}

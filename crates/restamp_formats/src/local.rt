@@ -1,0 +1,149 @@
+//! Timestamps that omit their offset, parsed as local times in a zone.
+ghost use Rattle.std.specs.Prelude.{◌≡◌, ◌+◌, ◌≤◌, false, length, Err, IfOk, None};
+ghost use Rattle.time_values.specs.Calendar.{greatest_year};
+ghost use Rattle.restamp_formats.specs.Zoned as spec;
+ghost use Rattle.restamp_formats.specs.Reading.{ParsesAs, ParsesInZone, ParsesLocally, at_offset};
+ghost use Rattle.restamp_formats.specs.Reason.{Gives, Reason as Reason_};
+
+use crate::brief::FromReason;
+use crate::reading::{Defaults, Match, Reading, parse, parse_outlined};
+use crate::reason::{OffsetParts, Reason, TwoOffsets};
+use time_values::{OffsetDateTime, PlainDateTime, UtcOffset};
+use time_zones::{NotOne, TimeZone, assume_zone};
+
+/// Which moment an ambiguous local time means: the clocks of the zone moved back, and show it a second time.
+#[derive(Clone, Copy, Debug, PartialEq, Eq)]
+pub enum Fold {
+    /// None: it is rejected.
+    Refuse,
+    /// The earlier one.
+    Earlier,
+    /// The later one.
+    Later,
+}
+
+/// A zone for local times.
+#[derive(Clone, Copy)]
+pub struct Clocks<'a> {
+    /// The zone.
+    pub zone: TimeZone<'a>,
+    /// Which moment an ambiguous local time means.
+    pub fold: Fold,
+}
+
+// The local date and time of a moment at its own offset.
+pub(crate) fn clock_of(moment: OffsetDateTime) -> PlainDateTime
+    ensures { result ≡ spec.clock_of moment }
+{
+    PlainDateTime::new(moment.date(), moment.time())
+}
+
+impl Fold {
+    // The offset of the moment that an ambiguous local time means.
+    fn of_two(self, earlier: OffsetDateTime, later: OffsetDateTime) -> Result<UtcOffset, Reason>
+        ensures { spec.erased_offset result ≡ spec.of_two self earlier later }
+    {
+        match self {
+            Fold::Refuse => Err(Reason::Ambiguous(TwoOffsets {
+                earlier: OffsetParts::of(earlier.offset().whole_seconds()),
+                later: OffsetParts::of(later.offset().whole_seconds()),
+            })),
+            Fold::Earlier => Ok(earlier.offset()),
+            Fold::Later => Ok(later.offset()),
+        }
+    }
+}
+
+impl Clocks<'_> {
+    // The offset of the zone at the local date and time of a moment.
+    fn offset_when(&self, shown: OffsetDateTime) -> Result<UtcOffset, Reason>
+        ensures { spec.IsOffsetWhen self.now shown (spec.erased_offset result) }
+    {
+        match assume_zone(clock_of(shown), &self.zone) {
+            Ok(moment) => Ok(moment.offset()),
+            Err(NotOne::Gap) => Err(Reason::Nonexistent),
+            Err(NotOne::Fold { earlier, later }) => self.fold.of_two(earlier, later),
+            Err(NotOne::Untold) => Err(Reason::OutsideZoneRange),
+        }
+    }
+
+    // Parses a text as a local time in the zone. Not inlined, so that it needs no stack where a line needs no zone.
+    #[inline(never)]
+    fn read<E: FromReason>(
+        &self,
+        reading: &Reading,
+        is_prefix: bool,
+        text: &[u8],
+        defaults: &Defaults<'_>,
+    ) -> Result<Match, E>
+        ensures said { Gives E.is_of (ParsesInZone greatest_year self.now reading.now is_prefix text.now defaults.now) result }
+        ensures within { IfOk result (λ said. said.start + said.length ≤ length text.now) }
+    {
+        let shown = match parse_outlined(reading, is_prefix, text, &defaults.at(UtcOffset::UTC)) {
+            Ok(said) => said.moment,
+            Err(why) => return Err(why),
+        };
+        match self.offset_when(shown) {
+            Ok(offset) => parse_outlined(reading, is_prefix, text, &defaults.at(offset)),
+            Err(why) => Err(E::from_reason(why)),
+        }
+    }
+}
+
+impl Defaults<'_> {
+    /// Whether a text that a format rejects may still be a local time in a zone, or one without a year.
+    #[inline(always)]
+    pub fn tries_more(&self) -> bool
+        ensures { result ≡ false → (self.now.clocks ≡ None) × (self.now.latest ≡ None) }
+    {
+        self.clocks.is_some() || self.latest.is_some()
+    }
+
+    // The defaults with that offset.
+    pub(crate) fn at(&self, offset: UtcOffset) -> Defaults<'static>
+        ensures { result ≡ at_offset offset self.now }
+    {
+        Defaults {
+            year: self.year,
+            offset: Some(offset),
+            clocks: None,
+            latest: None,
+        }
+    }
+}
+
+/// Parses a text that the format rejects for that reason as a local time, if the defaults have a zone for these.
+#[inline(always)]
+pub(crate) fn read_unplaced<E: FromReason>(
+    reading: &Reading,
+    is_prefix: bool,
+    text: &[u8],
+    defaults: &Defaults<'_>,
+    reason: E,
+) -> Result<Match, E>
+    requires { (why : Reason_) × E.is_of why reason × ParsesAs greatest_year reading.now is_prefix text.now defaults.now (Err why) }
+    ensures said { Gives E.is_of (ParsesLocally greatest_year reading.now is_prefix text.now defaults.now) result }
+    ensures within { IfOk result (λ said. said.start + said.length ≤ length text.now) }
+{
+    match defaults.clocks {
+        Some(clocks) => clocks.read(reading, is_prefix, text, defaults),
+        None => Err(reason),
+    }
+}
+
+/// Parses a text by the format; if it omits its offset, as a local time in the zone of the defaults.
+#[inline(always)]
+pub(crate) fn read_local<E: FromReason>(
+    reading: &Reading,
+    is_prefix: bool,
+    text: &[u8],
+    defaults: &Defaults<'_>,
+) -> Result<Match, E>
+    ensures said { Gives E.is_of (ParsesLocally greatest_year reading.now is_prefix text.now defaults.now) result }
+    ensures within { IfOk result (λ said. said.start + said.length ≤ length text.now) }
+{
+    match parse(reading, is_prefix, text, defaults) {
+        Ok(said) => Ok(said),
+        Err(reason) => read_unplaced(reading, is_prefix, text, defaults, reason),
+    }
+}

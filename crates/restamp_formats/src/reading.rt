@@ -1,0 +1,362 @@
+//! Parses a timestamp by a format.
+ghost use Rattle.std.specs.Prelude.{◌≡◌, ◌+◌, ◌-◌, ◌≤◌, true, length, IfOk, MatchResult, Ok};
+ghost use Rattle.time_values.specs.Calendar.{greatest_year};
+ghost use Rattle.time_values.specs.Refusal.{refusal_of};
+ghost use Rattle.time_record.specs.Record.{empty};
+ghost use Rattle.time_readers.specs.Direct.{RefusesRfc3339};
+ghost use Rattle.time_components.specs.Tree.{steps_shape};
+ghost use Rattle.time_record.specs.Reading as description;
+ghost use Rattle.time_parsing.specs.Outcome.{direct, over_record, IsFront, IsOutcome, seen as seen_parse, seen_front};
+ghost use Rattle.time_parsing.specs.Iso8601 as iso8601;
+ghost use Rattle.time_parsing.specs.Rfc3339.{Reads, Refuses};
+ghost use Rattle.restamp_formats.specs.Reading as spec;
+ghost use Rattle.restamp_formats.specs.Reason.{Gives, IsErrOf, erased_read, unread};
+ghost use Rattle.restamp_formats.specs.declared.reading.Reading.TheVariants as reading;
+
+mod fast;
+
+use crate::brief::FromReason;
+use crate::clock::read_zoned;
+use crate::guard::without_negative_fraction;
+use crate::local::Clocks;
+use crate::reason::Reason;
+use std::convert::TryFrom;
+use time_parsing::{Iso8601, Parsable, Rfc2822, Rfc3339, value_before};
+use time_preparing::Prepared;
+use time_record::Parsed;
+use time_values::error::Parse;
+use time_values::{OffsetDateTime, UtcOffset};
+use time_zones::Zones;
+
+/// The most steps that a description may have. A description in brackets of at most this many bytes has no more.
+pub const MOST_STEPS: usize = 256;
+
+/// A format that timestamps are parsed by.
+#[derive(Drop)]
+pub enum Reading {
+    /// RFC 3339, section 5.6.
+    Rfc3339,
+    /// RFC 9557, section 4.1: RFC 3339 with a suffix, which names one of these zones.
+    Zoned(Zones),
+    /// Mail dates, RFC 2822, section 3.3.
+    Rfc2822,
+    /// ISO 8601.
+    Iso8601,
+    /// A description.
+    Described(Prepared<MOST_STEPS>),
+    /// A description whose texts have all of a moment, so that defaults don't count.
+    Complete(Prepared<MOST_STEPS>),
+    /// A description of a number of seconds, which may have a fraction unless a minus comes before it.
+    Counted(Prepared<MOST_STEPS>),
+}
+
+/// Defaults for the parts that a timestamp omits.
+#[derive(Clone, Copy)]
+pub struct Defaults<'a> {
+    /// The year, if the timestamp has no part of one.
+    pub year: Option<i32>,
+    /// The offset, if the timestamp has no hour of one.
+    pub offset: Option<UtcOffset>,
+    /// The zone of local times, if `offset` is `None`.
+    pub clocks: Option<Clocks<'a>>,
+    /// A timestamp without a year means the latest moment that isn't after this one, if `year` is `None`.
+    pub latest: Option<OffsetDateTime>,
+}
+
+/// The match of a text, or of a prefix of it.
+#[derive(Clone, Copy, Debug)]
+pub struct Match {
+    /// The moment.
+    pub moment: OffsetDateTime,
+    /// How many bytes of the text come before the match.
+    pub start: usize,
+    /// How many bytes the match has.
+    pub length: usize,
+}
+
+/// Whether the record has a part of a year.
+#[inline(always)]
+pub fn has_year(parsed: &Parsed) -> bool
+    ensures { result ≡ spec.has_year parsed.now }
+{
+    parsed.year().is_some()
+        || parsed.year_century().is_some()
+        || parsed.year_last_two().is_some()
+        || parsed.iso_year().is_some()
+        || parsed.iso_year_century().is_some()
+        || parsed.iso_year_last_two().is_some()
+}
+
+// Sets the year of a record that has no part of one.
+#[inline(always)]
+pub(crate) fn put_year(year: Option<i32>, parsed: &mut Parsed)
+    ensures { parsed.new ≡ spec.with_year greatest_year year parsed.old }
+{
+    let Some(year) = year else {
+        return;
+    };
+    if !has_year(parsed) {
+        let _ = parsed.set_year(year);
+    }
+}
+
+// Sets the parts of the offset of a record that has no hour of one.
+#[inline(always)]
+fn put_offset(offset: Option<UtcOffset>, parsed: &mut Parsed)
+    ensures { parsed.new ≡ spec.with_offset offset parsed.old }
+{
+    let Some(offset) = offset else {
+        return;
+    };
+    if parsed.offset_hour().is_some() {
+        return;
+    }
+    let (hours, minutes, seconds) = offset.as_hms();
+    let _ = parsed.set_offset_hour(hours);
+    let _ = parsed.set_offset_minute_signed(minutes);
+    let _ = parsed.set_offset_second_signed(seconds);
+    parsed.forget_offset_sign();
+}
+
+/// Sets the parts of a record that the text omits to the defaults.
+#[inline(always)]
+pub fn complete(defaults: &Defaults<'_>, parsed: &mut Parsed)
+    ensures { parsed.new ≡ spec.completed greatest_year defaults.now parsed.old }
+{
+    put_year(defaults.year, parsed);
+    put_offset(defaults.offset, parsed);
+}
+
+// The match of the text up to that rest.
+#[inline(always)]
+pub(crate) fn match_before(rest: &[u8], text: &[u8], moment: OffsetDateTime) -> Match
+    ensures said { result ≡ spec.said moment (length text.now - length rest.now) }
+    ensures within { result.start + result.length ≤ length text.now }
+{
+    Match {
+        moment,
+        start: 0,
+        length: text.len().saturating_sub(rest.len()),
+    }
+}
+
+/// Parses a prefix of the text by the format if `is_prefix` is true, otherwise the whole text.
+#[inline(always)]
+pub fn read_by<F: Parsable>(format: &F, is_prefix: bool, text: &[u8]) -> Result<Match, Parse>
+    ensures said { spec.IsReadBy greatest_year is_prefix (F.path format.now) (F.reads format.now) (F.refuses format.now) text.now
+        (spec.erased_match result) }
+    ensures within { IfOk result (λ said. said.start + said.length ≤ length text.now) }
+{
+    if is_prefix {
+        let (moment, rest) = format.parse_front(text, None)?;
+        return Ok(match_before(rest, text, moment));
+    }
+    let moment = format.parse_offset_date_time(text, None)?;
+    Ok(match_before(&[], text, moment))
+}
+
+// Parses a prefix of the text with defaults for what it omits. Returns the moment and the rest.
+#[inline(always)]
+fn front_with<'a, F: Parsable>(
+    format: &F,
+    text: &'a [u8],
+    defaults: &Defaults<'_>,
+) -> Result<(OffsetDateTime, &'a [u8]), Parse>
+    ensures { IsFront (spec.IsCompleted greatest_year defaults.now) (F.reads format.now) (F.refuses format.now) text.now
+        empty (seen_front result) }
+{
+    let mut parsed = Parsed::new();
+    let rest = format.parse_into(text, &mut parsed)?;
+    complete(defaults, &mut parsed);
+    let moment = OffsetDateTime::try_from(parsed)?;
+    Ok((moment, rest))
+}
+
+// Parses the whole text with defaults for what it omits.
+#[inline(always)]
+fn whole_with<F: Parsable>(
+    format: &F,
+    text: &[u8],
+    defaults: &Defaults<'_>,
+) -> Result<OffsetDateTime, Parse>
+    ensures { IsOutcome (spec.IsCompleted greatest_year defaults.now) (F.reads format.now) (F.refuses format.now) text.now
+        empty (seen_parse result) }
+{
+    let mut parsed = Parsed::new();
+    let rest = format.parse_into(text, &mut parsed)?;
+    complete(defaults, &mut parsed);
+    value_before::<OffsetDateTime>(rest, &parsed)
+}
+
+/// Parses a prefix of the text if `is_prefix` is true, otherwise the whole text, with defaults for what it omits.
+#[inline(always)]
+pub fn read_with<F: Parsable>(
+    format: &F,
+    is_prefix: bool,
+    text: &[u8],
+    defaults: &Defaults<'_>,
+) -> Result<Match, Parse>
+    ensures said { spec.IsReadWith greatest_year is_prefix (F.reads format.now) (F.refuses format.now) text.now
+        defaults.now (spec.erased_match result) }
+    ensures within { IfOk result (λ said. said.start + said.length ≤ length text.now) }
+{
+    if is_prefix {
+        let (moment, rest) = front_with(format, text, defaults)?;
+        return Ok(match_before(rest, text, moment));
+    }
+    let moment = whole_with(format, text, defaults)?;
+    Ok(match_before(&[], text, moment))
+}
+
+// The match without white space at both ends of its bytes.
+fn bare(said: Match, text: &[u8]) -> Match
+    requires { said.length ≤ length text.now }
+    ensures said { result ≡ spec.bare text.now said }
+    ensures within { result.start + result.length ≤ length text.now }
+{
+    let front = text[..said.length].trim_ascii_start();
+    Match {
+        moment: said.moment,
+        start: said.length.saturating_sub(front.len()),
+        length: front.trim_ascii_end().len(),
+    }
+}
+
+/// Parses a mail date, RFC 2822, which may have white space around it. If `is_prefix` is true the match leaves that out.
+/// Not inlined, so that the other formats are.
+#[inline(never)]
+pub fn read_mail(is_prefix: bool, text: &[u8]) -> Result<Match, Parse>
+    ensures said { spec.IsReadMail greatest_year is_prefix text.now (spec.erased_match result) }
+    ensures within { IfOk result (λ said. said.start + said.length ≤ length text.now) }
+{
+    let said = read_by(&Rfc2822, is_prefix, text)?;
+    if is_prefix {
+        return Ok(bare(said, text));
+    }
+    Ok(said)
+}
+
+/// Parses a prefix of the bytes by RFC 3339, without a record where possible. Not inlined, so that it needs no stack
+/// beside whole texts.
+#[inline(never)]
+pub fn read_front_3339(text: &[u8]) -> Result<Match, Parse>
+    ensures said { spec.IsReadBy greatest_year true (direct (RefusesRfc3339 greatest_year)) (Reads greatest_year)
+        (Refuses greatest_year) text.now (spec.erased_match result) }
+    ensures within { IfOk result (λ said. said.start + said.length ≤ length text.now) }
+{
+    if let Some(said) = fast::front_3339(text) {
+        return Ok(said);
+    }
+    read_by(&Rfc3339, true, text)
+}
+
+/// Parses a prefix of the text by RFC 3339 if `is_prefix` is true, otherwise the whole text.
+#[inline(always)]
+pub fn read_3339(is_prefix: bool, text: &[u8]) -> Result<Match, Parse>
+    ensures said { spec.IsReadBy greatest_year is_prefix (direct (RefusesRfc3339 greatest_year)) (Reads greatest_year)
+        (Refuses greatest_year) text.now (spec.erased_match result) }
+    ensures within { IfOk result (λ said. said.start + said.length ≤ length text.now) }
+{
+    if is_prefix {
+        return read_front_3339(text);
+    }
+    read_by(&Rfc3339, is_prefix, text)
+}
+
+/// Parses a text by ISO 8601 with defaults. Not inlined, so that it needs no stack beside other formats.
+#[inline(never)]
+pub fn read_8601(is_prefix: bool, text: &[u8], defaults: &Defaults<'_>) -> Result<Match, Parse>
+    ensures said { spec.IsReadWith greatest_year is_prefix (iso8601.Reads greatest_year) (iso8601.Refuses greatest_year) text.now
+        defaults.now (spec.erased_match result) }
+    ensures within { IfOk result (λ said. said.start + said.length ≤ length text.now) }
+{
+    read_with(&Iso8601, is_prefix, text, defaults)
+}
+
+// What is kept of a parse error. It is passed by reference to a function that isn't inlined, since a move of the error
+// would have the compiler copy each match byte by byte.
+#[inline(never)]
+fn keep_error<E: FromReason>(error: &Parse) -> E
+    ensures { E.is_of (unread (refusal_of error.now)) result }
+{
+    E::from_reason(Reason::Unread(*error))
+}
+
+// A match, or what is kept of the error.
+#[inline(always)]
+fn or_unread<E: FromReason>(parsed: Result<Match, Parse>) -> Result<Match, E>
+    ensures { MatchResult parsed (λ said. result ≡ Ok said) (λ error. IsErrOf E.is_of (unread (refusal_of error)) result) }
+{
+    match &parsed {
+        Ok(said) => Ok(*said),
+        Err(error) => Err(keep_error(error)),
+    }
+}
+
+// Parses a number of seconds by its description. It isn't inlined, since few logs count seconds.
+#[inline(never)]
+fn parse_counted<E: FromReason>(
+    described: &Prepared<MOST_STEPS>,
+    is_prefix: bool,
+    text: &[u8],
+    defaults: &Defaults<'_>,
+) -> Result<Match, E>
+    ensures said { Gives E.is_of (spec.ParsesAs greatest_year (reading.Counted described.now) is_prefix text.now defaults.now) result }
+    ensures within { IfOk result (λ said. said.start + said.length ≤ length text.now) }
+{
+    match read_with(described, is_prefix, text, defaults) {
+        Ok(said) => without_negative_fraction(text, said),
+        Err(error) => Err(keep_error(&error)),
+    }
+}
+
+/// Parses a text by the format, with defaults for what it omits: a prefix of it if `is_prefix` is true, otherwise the
+/// whole text. The error is what the caller keeps of the reason.
+#[inline(always)]
+pub(crate) fn parse<E: FromReason>(
+    reading: &Reading,
+    is_prefix: bool,
+    text: &[u8],
+    defaults: &Defaults<'_>,
+) -> Result<Match, E>
+    ensures said { Gives E.is_of (spec.ParsesAs greatest_year reading.now is_prefix text.now defaults.now) result }
+    ensures within { IfOk result (λ said. said.start + said.length ≤ length text.now) }
+{
+    match reading {
+        Reading::Rfc3339 => or_unread(read_3339(is_prefix, text)),
+        Reading::Rfc2822 => or_unread(read_mail(is_prefix, text)),
+        Reading::Iso8601 => or_unread(read_8601(is_prefix, text, defaults)),
+        Reading::Complete(described) => or_unread(read_by(described, is_prefix, text)),
+        Reading::Described(described) => or_unread(read_with(described, is_prefix, text, defaults)),
+        Reading::Counted(described) => parse_counted(described, is_prefix, text, defaults),
+        Reading::Zoned(zones) => read_zoned(zones, is_prefix, text),
+    }
+}
+
+/// [`parse`], not inlined, for texts that are parsed a second time.
+#[inline(never)]
+pub(crate) fn parse_outlined<E: FromReason>(
+    reading: &Reading,
+    is_prefix: bool,
+    text: &[u8],
+    defaults: &Defaults<'_>,
+) -> Result<Match, E>
+    ensures said { Gives E.is_of (spec.ParsesAs greatest_year reading.now is_prefix text.now defaults.now) result }
+    ensures within { IfOk result (λ said. said.start + said.length ≤ length text.now) }
+{
+    parse(reading, is_prefix, text, defaults)
+}
+
+/// Parses a text by the format, with defaults for what it omits: a prefix of it if `is_prefix` is true, otherwise the
+/// whole text. The defaults `clocks` and `latest` don't count.
+pub fn read(
+    reading: &Reading,
+    is_prefix: bool,
+    text: &[u8],
+    defaults: &Defaults<'_>,
+) -> Result<Match, Reason>
+    ensures said { spec.ParsesAs greatest_year reading.now is_prefix text.now defaults.now (erased_read result) }
+    ensures within { IfOk result (λ said. said.start + said.length ≤ length text.now) }
+{
+    parse_outlined(reading, is_prefix, text, defaults)
+}

@@ -1,0 +1,67 @@
+//! Parses a prefix by RFC 3339 without a record.
+ghost use Rattle.std.specs.Prelude.{◌≤◌, ◌+◌, length, true, IfSome, Ok};
+ghost use Rattle.time_values.specs.Calendar.{greatest_year};
+ghost use Rattle.time_readers.specs.Direct.{RefusesRfc3339};
+ghost use Rattle.time_parsing.specs.Outcome.{direct};
+ghost use Rattle.time_parsing.specs.Rfc3339.{Reads, Refuses};
+ghost use Rattle.restamp_formats.specs.Reading as spec;
+
+use crate::reading::Match;
+use time_parsing::{Parsable, Rfc3339};
+
+// How many bytes a moment has before its fraction.
+const SECOND: usize = 19;
+
+// The end of the run of digits that starts at `from`.
+#[inline(always)]
+fn digits_end(text: &[u8], from: usize) -> usize
+    requires { from ≤ length text.now }
+    ensures { result ≤ length text.now }
+{
+    for at in from..text.len() {
+        if !text[at].is_ascii_digit() {
+            return at;
+        }
+    }
+    text.len()
+}
+
+// The end of the moment that the bytes may start with.
+#[inline(always)]
+fn moment_end(text: &[u8]) -> Option<usize>
+    ensures { IfSome result (λ end. end ≤ length text.now) }
+{
+    if text.len() <= SECOND {
+        return None;
+    }
+    let offset = if text[SECOND] == b'.' {
+        digits_end(text, SECOND + 1)
+    } else {
+        SECOND
+    };
+    let rest = &text[offset..];
+    match rest {
+        [b'Z' | b'z', ..] => Some(offset + 1),
+        [b'+' | b'-', _, _, b':', _, _, ..] => Some(offset + 6),
+        _ => None,
+    }
+}
+
+/// Parses a prefix of the bytes.
+#[tactic(auto, using(crate::proofs::FrontLemmas::front_said))]
+#[inline(always)]
+pub(super) fn front_3339(text: &[u8]) -> Option<Match>
+    ensures said { IfSome result (λ said. spec.IsReadBy greatest_year true (direct (RefusesRfc3339 greatest_year))
+        (Reads greatest_year) (Refuses greatest_year) text.now (Ok said)) }
+    ensures within { IfSome result (λ said. said.start + said.length ≤ length text.now) }
+{
+    let end = moment_end(text)?;
+    let Ok(moment) = Rfc3339.parse_offset_date_time(&text[..end], None) else {
+        return None;
+    };
+    Some(Match {
+        moment,
+        start: 0,
+        length: end,
+    })
+}

@@ -1,0 +1,153 @@
+//! Why a timestamp isn't rewritten.
+ghost use Rattle.std.specs.Prelude.{◌≡◌, Some};
+ghost use Rattle.time_values.specs.Shown.{fixed};
+ghost use Rattle.restamp_formats.specs.Reason.{seen, offset_text, offsets_text, parts_of, reason_text, text_with};
+
+use std::{fmt, str};
+use time_formatting::Unformattable;
+use time_values::error::Parse;
+use time_writing::Unwritable;
+use time_zones::SuffixFault;
+
+/// The offsets of the two moments that an ambiguous local time may mean.
+#[derive(Clone, Copy, Debug, PartialEq, Eq)]
+pub struct TwoOffsets {
+    /// The offset of the earlier moment.
+    pub earlier: OffsetParts,
+    /// The offset of the later moment.
+    pub later: OffsetParts,
+}
+
+/// How far local time is ahead of UTC, or behind it. Each field has a word of memory, so that a [`Reason`] is copied by
+/// words.
+#[derive(Clone, Copy, Debug, PartialEq, Eq)]
+pub struct OffsetParts {
+    /// Whether local time is behind.
+    pub is_behind: bool,
+    /// By how many seconds.
+    pub seconds: u64,
+}
+
+/// Why a timestamp isn't rewritten.
+#[derive(Clone, Copy, Debug)]
+pub enum Reason {
+    /// No format matches it; the error of the first format.
+    Unread(Parse),
+    /// It is a number of seconds with a minus and a fraction. Programs disagree whether that fraction counts forwards.
+    NegativeFraction,
+    /// The local time is nonexistent in its zone: the clocks moved forward.
+    Nonexistent,
+    /// The local time is ambiguous in its zone: the clocks moved back.
+    Ambiguous(TwoOffsets),
+    /// It has no date at the output's offset, or no date in UTC for an output that counts from 1970.
+    OutOfRange,
+    /// It is outside the range of time zones: before the year -9999 or after 9999, or in their first or last day.
+    OutsideZoneRange,
+    /// Its suffix rejects it.
+    Suffix(SuffixFault),
+    /// The output format has no text for it.
+    Unwritable(Unwritable),
+    /// The output's description has no text for it.
+    Unformattable(Unformattable),
+    /// It ends after the part of its line in which a timestamp may be.
+    TooFar,
+    /// The line has no timestamp.
+    Missing,
+}
+
+// The last two digits of a number.
+fn pair(number: u64) -> [u8; 2]
+    ensures { result ≡ fixed 2 number }
+{
+    [b'0' + (number / 10 % 10) as u8, b'0' + (number % 10) as u8]
+}
+
+impl OffsetParts {
+    // The parts of an offset in seconds, which is negative behind UTC.
+    pub(crate) fn of(seconds: i32) -> OffsetParts
+        ensures { result ≡ parts_of seconds }
+    {
+        OffsetParts {
+            is_behind: seconds < 0,
+            seconds: u64::from(seconds.unsigned_abs()),
+        }
+    }
+
+    // The text of the offset, `+HH:MM:SS`.
+    fn text(self) -> [u8; 9]
+        ensures { result ≡ offset_text self }
+    {
+        let sign = if self.is_behind { b'-' } else { b'+' };
+        let [h1, h2] = pair(self.seconds / 3600);
+        let [m1, m2] = pair(self.seconds / 60 % 60);
+        let [s1, s2] = pair(self.seconds % 60);
+        [sign, h1, h2, b':', m1, m2, b':', s1, s2]
+    }
+}
+
+impl fmt::Display for OffsetParts {
+    ghost output = { λ offset. Some (offset_text offset) };
+
+    fn fmt<W: fmt::Write>(&self, f: &mut fmt::Formatter<W>) -> fmt::Result {
+        let text = self.text();
+        f.write_str(str::from_utf8(&text).map_err(|_| fmt::Error)?)
+    }
+}
+
+impl fmt::Display for TwoOffsets {
+    ghost output = { λ offsets. Some (offsets_text offsets) };
+
+    fn fmt<W: fmt::Write>(&self, f: &mut fmt::Formatter<W>) -> fmt::Result {
+        let (earlier, later) = (self.earlier, self.later);
+        write!(f, "{earlier} and {later}")
+    }
+}
+
+// What a report calls a zone without a name.
+const ITS_ZONE: &str = "its zone";
+
+/// Displays a reason with the name of the time zone that it may be about.
+#[derive(Clone, Copy)]
+pub struct ReasonDisplay<'a> {
+    /// The reason.
+    pub reason: Reason,
+    /// The name of the time zone.
+    pub zone: &'a str,
+}
+
+impl fmt::Display for ReasonDisplay<'_> {
+    ghost output = { λ told. Some (text_with told.zone.now (seen told.reason)) };
+
+    fn fmt<W: fmt::Write>(&self, f: &mut fmt::Formatter<W>) -> fmt::Result {
+        let zone = self.zone;
+        match self.reason {
+            Reason::Unread(error) => write!(f, "{error}"),
+            Reason::NegativeFraction => {
+                write!(f, "a fraction after a minus is read in two ways")
+            }
+            Reason::Nonexistent => write!(f, "the clocks of {zone} leave it out"),
+            Reason::Ambiguous(offsets) => {
+                write!(f, "the clocks of {zone} show it twice, at {offsets}")
+            }
+            Reason::OutOfRange => write!(f, "the time has no date at that offset"),
+            Reason::OutsideZoneRange => write!(f, "no time zone tells of that time"),
+            Reason::Suffix(fault) => write!(f, "{fault}"),
+            Reason::Unwritable(why) => write!(f, "{why}"),
+            Reason::Unformattable(why) => write!(f, "{why}"),
+            Reason::TooFar => write!(f, "the time goes on past byte 262144 of its line"),
+            Reason::Missing => write!(f, "the line has no place for a time"),
+        }
+    }
+}
+
+impl fmt::Display for Reason {
+    ghost output = { λ reason. Some (reason_text (seen reason)) };
+
+    fn fmt<W: fmt::Write>(&self, f: &mut fmt::Formatter<W>) -> fmt::Result {
+        let told = ReasonDisplay {
+            reason: *self,
+            zone: ITS_ZONE,
+        };
+        write!(f, "{told}")
+    }
+}

@@ -1,0 +1,26 @@
+use Rattle.std.proofs.Common.{◌≡◌, ◌≤◌, ◌+◌, ◌-◌, sym, ap, arith, ⊎_elim, ◌∙◌}
+use Rattle.std.proofs.lemmas.Bool.{cases_lt}
+use Rattle.restamp_lines.specs.Begins.{may_begin}
+use Rattle.restamp_lines.proofs.anywhere.fast.first_within.Goals as goal
+use Rattle.restamp_lines.proofs.anywhere.fast.first_within.Goals.{then-may_begin, else-may_begin, then-here-first, else-here-first}
+
+pub loop-k-preserved : goal.loop-k-preserved
+loop-k-preserved c =
+    let few : c.if-here-first.first ≤ c.loop-k.first =
+    elim c.if-here-first.branch [ then-here-first w ↦ omega arith | else-here-first w ↦ omega arith ] in
+    let low : c.if-here-first.first ≤ c.if-may_begin.here =
+    elim c.if-here-first.branch [ then-here-first w ↦ omega arith | else-here-first w ↦ omega arith ] in (
+      omega arith,
+      λ j below under. ⊎_elim (λ h. c.loop-k.invariant.1 j h (omega arith))
+          (λ h. let here : c.args.from + j ≡ c.args.from + c.loop-k.k = omega arith in
+          elim c.if-may_begin.branch [
+            | then-may_begin w ↦ absurd (omega arith)
+            | else-may_begin w ↦ ap (may_begin c.args.firsts c.args.line.now) here ∙ sym c.may_begin.ensures ∙ w.if-may_begin.false
+          ])
+          (cases_lt j c.loop-k.k),
+    )
+
+pub returns-clause-passed : goal.returns-clause-passed
+returns-clause-passed c k low below =
+    let there : k ≡ c.args.from + (k - c.args.from) = omega arith in
+    ap (may_begin c.args.firsts c.args.line.now) there ∙ c.loop-k.invariant.1 (k - c.args.from) (omega arith) (omega arith)

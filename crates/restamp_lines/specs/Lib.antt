@@ -1,0 +1,4 @@
+pub mod Job
+pub mod Begins
+pub mod Laws
+pub mod ErrorLocation

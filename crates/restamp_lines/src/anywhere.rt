@@ -1,0 +1,133 @@
+//! Timestamps at any place of a line.
+//!
+//! `fast` skips bytes that no timestamp starts with.
+ghost use Rattle.std.specs.Prelude.{◌≡◌, ◌≤◌, ◌<◌, ◌+◌, ◌∷◌, ℕ, length, false, None, IfSome};
+ghost use Rattle.time_values.specs.Calendar.{greatest_year};
+ghost use Rattle.restamp_lines.specs.Begins as begins;
+ghost use Rattle.restamp_lines.specs.Job as spec;
+
+mod fast;
+
+use crate::job::{Job, REACH, Verdict};
+use fast::Firsts;
+use restamp_formats::{Brief, FromReason, Match, Reading, parse_dated};
+use restamp_place::body_of;
+use time_values::text::Text;
+
+// Whether the bytes right before and right at a place of the line are both ASCII letters or digits.
+fn is_inside(line: &[u8], place: usize) -> bool
+    ensures { result ≡ spec.is_inside line.now place }
+{
+    0 < place
+        && place < line.len()
+        && line[place - 1].is_ascii_alphanumeric()
+        && line[place].is_ascii_alphanumeric()
+}
+
+impl Job<'_> {
+    // Parses a prefix of the line from a byte on by the format; `None` also where it ends inside a word or a number.
+    fn match_alone(&self, line: &[u8], start: usize, reading: &Reading) -> Option<Match>
+        requires { start ≤ length line.now }
+        ensures said { spec.MatchesAlone greatest_year self.now line.now start reading.now result }
+        ensures within { IfSome result (λ said. start + said.start + said.length ≤ length line.now) }
+    {
+        let rest = &line[start..];
+        let near = &rest[..REACH.min(rest.len())];
+        let Ok(said) = parse_dated::<Brief>(reading, true, near, &self.defaults) else {
+            return None;
+        };
+        if is_inside(line, start + said.start + said.length) {
+            return None;
+        }
+        Some(said)
+    }
+
+    // Like `match_alone`, without a parse where no text of the format starts with these bytes.
+    #[inline(always)]
+    fn try_alone(&self, line: &[u8], start: usize, reading: &Reading) -> Option<Match>
+        requires { start ≤ length line.now }
+        ensures said { spec.MatchesAlone greatest_year self.now line.now start reading.now result }
+        ensures within { IfSome result (λ said. start + said.start + said.length ≤ length line.now) }
+    {
+        match fast::matches_nothing(self, line, start, reading) {
+            Some(()) => None,
+            None => self.match_alone(line, start, reading),
+        }
+    }
+
+    // Parses a prefix of the line from a byte on by the first of the other formats that matches.
+    fn read_others(&self, line: &[u8], start: usize) -> Option<Match>
+        requires { start ≤ length line.now }
+        ensures said { spec.AreTriedAlone greatest_year self.now line.now start self.now.others.now result }
+        ensures within { IfSome result (λ said. start + said.start + said.length ≤ length line.now) }
+    {
+        for reading in self.others {
+            if let Some(said) = self.try_alone(line, start, reading) {
+                return Some(said);
+            }
+        }
+        None
+    }
+
+    // Parses a prefix of the line from a byte on that isn't inside a word or a number.
+    fn match_from(&self, line: &[u8], start: usize) -> Option<Match>
+        requires { start ≤ length line.now }
+        ensures said { spec.MatchesFrom greatest_year self.now line.now start result }
+        ensures within { IfSome result (λ said. start + said.start + said.length ≤ length line.now) }
+    {
+        if is_inside(line, start) {
+            return None;
+        }
+        match self.try_alone(line, start, self.first) {
+            Some(said) => Some(said),
+            None => self.read_others(line, start),
+        }
+    }
+
+    // The next place, from that one on, with a byte that a timestamp can start with; that place itself if unknown.
+    fn next_start(&self, firsts: Option<Firsts>, line: &[u8], from: usize) -> usize
+        requires from { from ≤ length line.now }
+        requires firsts { IfSome firsts (λ firsts. (x : ℕ) → begins.is_in firsts x ≡ false
+            → begins.IsInNone x (self.now.first.now ∷ self.now.others.now)) }
+        ensures low { from ≤ result }
+        ensures high { result ≤ length line.now }
+        ensures passed { (k : ℕ) → from ≤ k → k < result → spec.MatchesFrom greatest_year self.now line.now k None }
+    {
+        let Some(firsts) = firsts else {
+            return from;
+        };
+        match fast::next_start(firsts, line, from) {
+            Some(next) => next,
+            None => from,
+        }
+    }
+
+    // The first place of the line from which on it has a timestamp, and the match.
+    pub(crate) fn find_first(&self, line: &[u8]) -> Option<(usize, Match)>
+        ensures first { spec.IsFirst greatest_year self.now line.now result }
+        ensures within { IfSome result (λ found. found.0 + found.1.start + found.1.length ≤ length line.now) }
+    {
+        let firsts = fast::all_firsts(self.first, self.others);
+        let mut start = self.next_start(firsts, line, 0);
+        while start < line.len() {
+            if let Some(said) = self.match_from(line, start) {
+                return Some((start, said));
+            }
+            start = self.next_start(firsts, line, start + 1);
+        }
+        None
+    }
+
+    // The verdict on a line whose timestamp may be anywhere but in a CR at its end.
+    #[inline(never)]
+    pub(crate) fn judge_anywhere<E: FromReason>(&self, line: &[u8], text: &mut Text) -> Verdict<E>
+        ensures verdict { spec.GivesVerdict E.is_of (spec.IsJudgedAnywhere greatest_year self.now line.now) result text.new }
+        ensures within { spec.EndsWithin (length line.now) result }
+    {
+        let body = body_of(line);
+        match self.find_first(body) {
+            Some((start, said)) => self.put(start, said, text),
+            None => self.miss(),
+        }
+    }
+}

@@ -1,0 +1,12 @@
+//! What happens to a line: its timestamp is parsed by one format and written by another, or it is rejected for a reason.
+#![tactic(auto)]
+
+mod anywhere;
+mod error_location;
+mod job;
+pub mod laws;
+mod missing;
+
+pub use error_location::{ErrorLocation, law_one_error_location};
+pub use job::{Job, LIMIT, REACH, Verdict};
+pub use missing::{Why, law_one_missing_field};

@@ -1,9 +1,0 @@
-use Rattle.time_values.specs.Calendar.{greatest_year}
-use Rattle.restamp_verdict.specs.Reading.{IsReadInTurn}
-use Rattle.restamp_verdict.proofs.GivesLemmas.{of_reason}
-use Rattle.restamp_verdict.proofs.dated.read_in_turn.Goals as goal
-
-pub returns-clause-said : goal.returns-clause-said
-returns-clause-said c =
-    of_reason (IsReadInTurn greatest_year c.args.first.now c.args.others.now c.args.is_prefix c.args.text.now c.args.defaults.now) c.parse_in_turn.result
-    c.parse_in_turn.ensures.said

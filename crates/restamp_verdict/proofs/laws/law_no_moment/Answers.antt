@@ -1,6 +1,0 @@
-use Rattle.time_values.specs.Calendar.{greatest_year}
-use Rattle.restamp_verdict.proofs.MissingFieldMoments.{says_no_moment}
-use Rattle.restamp_verdict.proofs.laws.law_no_moment.Goals as goal
-
-pub returns : goal.returns
-returns c = says_no_moment greatest_year

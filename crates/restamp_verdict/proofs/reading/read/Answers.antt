@@ -1,9 +1,0 @@
-use Rattle.time_values.specs.Calendar.{greatest_year}
-use Rattle.restamp_verdict.specs.Reading.{ParsesAs}
-use Rattle.restamp_verdict.proofs.GivesLemmas.{of_reason}
-use Rattle.restamp_verdict.proofs.reading.read.Goals as goal
-
-pub returns-clause-said : goal.returns-clause-said
-returns-clause-said c =
-    of_reason (ParsesAs greatest_year c.args.reading.now c.args.is_prefix c.args.text.now c.args.defaults.now) c.parse_outlined.result
-    c.parse_outlined.ensures.said

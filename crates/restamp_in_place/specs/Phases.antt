@@ -47,12 +47,14 @@ pub record Kept (aim : Replacement) (done : List Event) : Type 0 where
   pub others : (other : List ℕ) → ¬ (other ≡ aim.temporary) → ¬ (other ≡ aim.name) → ¬ (aim.backup ≡ Some other)
       → leads done other ≡ leads aim.before other
 
+-- the new file is on the disk, with the new bytes
+abbrev pub IsWhole : Replacement → List Event → Type 0
+IsWhole aim done = (bytes : List ℕ) × (aim.new ≡ Some bytes) × (stored done aim.number ≡ Some bytes)
+
 -- The file is untouched, and the new one is on the disk.
 pub record Ready (aim : Replacement) (done : List Event) : Type 0 where
   pub kept : Kept aim done
-  pub bytes : List ℕ
-  pub new : aim.new ≡ Some bytes
-  pub whole : stored done aim.number ≡ Some bytes
+  pub whole : IsWhole aim done
 
 -- The file is untouched, the new one is on the disk, and the backup's name points to the old file.
 pub record Linked (aim : Replacement) (done : List Event) : Type 0 where
@@ -60,13 +62,13 @@ pub record Linked (aim : Replacement) (done : List Event) : Type 0 where
   pub second : List ℕ
   pub is : aim.backup ≡ Some second
   pub linked : leads done second ≡ leads aim.before aim.name
-  pub apart : ¬ (second ≡ aim.temporary)
-  pub beside : ¬ (second ≡ aim.name)
+  pub apart : ¬ (aim.temporary ≡ second)
+  pub beside : ¬ (aim.name ≡ second)
 
 -- the backup is on the disk
 pub record HasBackup (aim : Replacement) (done : List Event) (second : List ℕ) : Type 0 where
-  pub apart : ¬ (second ≡ aim.temporary)
-  pub beside : ¬ (second ≡ aim.name)
+  pub apart : ¬ (aim.temporary ≡ second)
+  pub beside : ¬ (aim.name ≡ second)
   pub backed : IsBackedUp aim.before done aim.name second
 
 -- The new file is on the disk, and so is the backup if one is requested.
@@ -89,9 +91,7 @@ pub record BackupRemovable (aim : Replacement) (done : List Event) : Type 0 wher
 pub record Put (aim : Replacement) (done : List Event) : Type 0 where
   pub reached : Reached aim done
   pub is : leads done aim.name ≡ Some aim.number
-  pub bytes : List ℕ
-  pub new : aim.new ≡ Some bytes
-  pub whole : stored done aim.number ≡ Some bytes
+  pub whole : IsWhole aim done
   pub backed : IfSome aim.backup (HasBackup aim done)
   pub others : (other : List ℕ) → ¬ (other ≡ aim.name) → ¬ (aim.backup ≡ Some other)
       → leads done other ≡ leads aim.before other

@@ -1,83 +1,60 @@
 -- The first place of a byte and of a text.
-use Rattle.std.proofs.Common.{◌≡◌, ℕ, zero, suc, ◌+◌, ◌-◌, ◌/◌, ◌%◌, ◌^◌, ◌<◌, ◌≤◌, Bool, true, false, not, ⊎_elim, List, [], ◌∷◌, length, map, get_or, replicate, drop, bit_and, refl, sym, ap, ap₂, subst, arith, add-one, get_or-drop, length-drop, ◌∙◌, None, Some}
+use Rattle.std.proofs.Common.{false, refl, take, ◌≡◌, ℕ, zero, suc, ◌+◌, ◌-◌, ◌/◌, ◌%◌, ◌^◌, ◌<◌, ◌≤◌, Bool, true, not, List, [], ◌∷◌, length, map, get_or, replicate, drop, bit_and, sym, ap, arith, add-one, get_or-drop, length-drop, ◌∙◌, None, Some}
 use lib.Count.{count_trailing_zeros}
 use lib.Lanes.{chunk, zip2, mask_l, top}
 use Rattle.std.specs.Prelude.{Option}
 use Rattle.std.specs.List.{position_or_len, prefix_len}
 use Rattle.std.specs.Option.{option_map}
-use Rattle.std.proofs.lemmas.Bool.{cases_lt, not-true, both_ways}
+use Rattle.std.proofs.lemmas.Bool.{not-true, both_ways, false_from_ne_true}
 use Rattle.std.proofs.lemmas.List.{length-map}
 use Rattle.std.proofs.lemmas.List.Sums.{position_or_len_is, prefix_len-le-length, prefix_len_passes}
 use Rattle.std.proofs.lemmas.Simd.{length-zip2, get_or-zip2, length-replicate, get_or-replicate, length-chunk, get_or-chunk, mask_l-mod, leading_from_mask_l, trailing_mask_l}
 use Rattle.std.proofs.lemmas.Bool.Decides.{nat_tests}
-use Rattle.memchr.specs.Find.{Nowhere, NoneBefore, IsFirst, Passes, IsFirstByte, is_byte, OccursAt, occurs_at, FindsNeedle}
+use Rattle.memchr.specs.Find.{Nowhere, IsFirst, Passes, IsFirstByte, is_byte, OccursAt, occurs_at, FindsNeedle}
 use Rattle.memchr.proofs.lemmas.MatchLemmas.{occurs_at-true, OccursAt-true}
+use Rattle.memchr.proofs.lemmas.FindLemmas.{Nowhere-wider, Nowhere-then}
 use Rattle.restamp_place.specs.Cuts.{place_of}
+use Rattle.restamp_place.proofs.WordLemmas.{tail_range}
 
-pub is_false : (b : Bool) → (b ≡ true → ⊥) → b ≡ false
-is_false true h = absurd (h refl)
-is_false false h = refl
+-- no byte passes a test
+pub position_or_len-none : (test : ℕ → Bool) (xs : List ℕ) → ((k : ℕ) → k < length xs → test (get_or xs k 0) ≡ false)
+    → position_or_len test xs ≡ length xs
+position_or_len-none test xs none = position_or_len_is test xs (length xs) 0 (omega arith) none (λ below. absurd (omega arith))
 
--- the result of a search for a byte
-pub first_byte-some : (test : ℕ → Bool) (xs : List ℕ) (n : ℕ)
-    → NoneBefore (Passes test xs) 0 (length xs) n → Passes test xs n → n ≡ position_or_len test xs
-first_byte-some test xs n first here =
-    let inside = first.high in
-    sym (position_or_len_is test xs n 0 (omega arith) (λ k below. is_false _ (λ h. first.before k (omega arith) below h)) (λ _. here))
-
-pub first_byte-none : (test : ℕ → Bool) (xs : List ℕ) → Nowhere (Passes test xs) 0 (length xs) → length xs ≡ position_or_len test xs
-first_byte-none test xs nowhere =
-    sym (position_or_len_is test xs (length xs) 0 (omega arith) (λ k below. is_false _ (λ h. nowhere k (omega arith) below h))
-    (λ below. absurd (omega arith)))
+-- where a loop over bytes ends
+pub ruleset first_places = (position_or_len_is, position_or_len-none)
 
 -- a text in the rest of the bytes is one byte further on in all of them
 OccursAt-tail : (x : ℕ) (bytes text : List ℕ) (n : ℕ) → OccursAt (x ∷ bytes) text (suc n) → OccursAt bytes text n
-OccursAt-tail x bytes text n h =
-    let fits = h.fits in
-    record {
-      fits = omega arith;
-      reads = λ j below. let e : suc n + j ≡ suc (n + j) = omega arith in
-          subst (λ (k : ℕ). get_or (x ∷ bytes) k 0 ≡ get_or text j 0) e (h.reads j below);
-    }
+OccursAt-tail x bytes text n h = grind arith
 
 OccursAt-onto : (x : ℕ) (bytes text : List ℕ) (n : ℕ) → OccursAt bytes text n → OccursAt (x ∷ bytes) text (suc n)
-OccursAt-onto x bytes text n h =
-    let fits = h.fits in
-    record {
-      fits = omega arith;
-      reads = λ j below. let e : suc (n + j) ≡ suc n + j = omega arith in
-          subst (λ (k : ℕ). get_or (x ∷ bytes) k 0 ≡ get_or text j 0) e (h.reads j below);
-    }
-
-place_of-here : (text bytes : List ℕ) → OccursAt bytes text 0 → place_of text bytes ≡ Some 0
-place_of-here text [] h = rw (occurs_at-true [] text 0 h) refl
-place_of-here text (x ∷ bytes) h = rw (occurs_at-true (x ∷ bytes) text 0 h) refl
+OccursAt-onto x bytes text n h = grind arith
 
 -- the bytes start with the text
 pub place_of-front : (text bytes : List ℕ) → occurs_at bytes text 0 ≡ true → place_of text bytes ≡ Some 0
-place_of-front text [] h = rw h refl
-place_of-front text (x ∷ bytes) h = rw h refl
+place_of-front text [] h = rw h
+place_of-front text (x ∷ bytes) h = rw h
 
 place_of-later : (x : ℕ) (text bytes : List ℕ) → (OccursAt (x ∷ bytes) text 0 → ⊥)
     → place_of text (x ∷ bytes) ≡ option_map (λ n. n + 1) (place_of text bytes)
 place_of-later x text bytes ne =
-    rw (is_false (occurs_at (x ∷ bytes) text 0) (λ h. ne (OccursAt-true (x ∷ bytes) text 0 h))) refl
+    rw (false_from_ne_true (occurs_at (x ∷ bytes) text 0) (λ h. ne (OccursAt-true (x ∷ bytes) text 0 h)))
 
 pub place_of-found : (text bytes : List ℕ) (n : ℕ)
     → OccursAt bytes text n → ((k : ℕ) → k < n → OccursAt bytes text k → ⊥) → place_of text bytes ≡ Some n
-place_of-found text bytes zero h before = place_of-here text bytes h
-place_of-found text [] (suc n) h before = let fits = h.fits in absurd (omega arith)
+place_of-found text bytes zero h before = place_of-front text bytes (occurs_at-true bytes text 0 h)
+place_of-found text [] (suc n) h before = absurd (omega (arith, h.fits))
 place_of-found text (x ∷ bytes) (suc n) h before =
     let later = place_of-found text bytes n (OccursAt-tail x bytes text n h)
     (λ k below is. before (suc k) (omega arith) (OccursAt-onto x bytes text k is)) in
-    place_of-later x text bytes (before 0 (omega arith)) ∙ ap (option_map (λ n. n + 1)) later ∙ ap Some (add-one n)
+    rw (place_of-later x text bytes (before 0 (omega arith)), later, add-one)
 
 pub place_of-nowhere : (text bytes : List ℕ) → ((k : ℕ) → k < length bytes + 1 → OccursAt bytes text k → ⊥) → place_of text bytes ≡ None
-place_of-nowhere text [] before = rw (is_false (occurs_at [] text 0) (λ h. before 0 (omega arith) (OccursAt-true [] text 0 h))) refl
+place_of-nowhere text [] before = rw (false_from_ne_true (occurs_at [] text 0) (λ h. before 0 (omega arith) (OccursAt-true [] text 0 h)))
 place_of-nowhere text (x ∷ bytes) before =
-    place_of-later x text bytes (before 0 (omega arith))
-    ∙ ap (option_map (λ n. n + 1))
-    (place_of-nowhere text bytes (λ k below is. before (suc k) (omega arith) (OccursAt-onto x bytes text k is)))
+    let later = place_of-nowhere text bytes (λ k below is. before (suc k) (omega arith) (OccursAt-onto x bytes text k is)) in
+    rw (place_of-later x text bytes (before 0 (omega arith)), later)
 
 -- the result of a search for a text
 pub place_of-is : (text bytes : List ℕ) (r : Option ℕ) → FindsNeedle bytes text 0 r → r ≡ place_of text bytes
@@ -85,28 +62,23 @@ place_of-is text bytes None nowhere = sym (place_of-nowhere text bytes (λ k bel
 place_of-is text bytes (Some n) first =
     sym (place_of-found text bytes n first.1 (λ k below is. first.0.before k (omega arith) below is))
 
--- the rest of the bytes starts with a text
-pub begins-stands : (text bytes : List ℕ) (n : ℕ) → n ≤ length bytes → occurs_at (drop n bytes) text 0 ≡ true → OccursAt bytes text n
-begins-stands text bytes n inside e =
-    let h = OccursAt-true (drop n bytes) text 0 e in
-    record {
-      fits = omega (arith, h.fits, length-drop n bytes);
-      reads = λ j below. let from : 0 + j ≡ j = omega arith in
-          sym (get_or-drop n bytes j 0) ∙ subst (λ (k : ℕ). get_or (drop n bytes) k 0 ≡ get_or text j 0) from (h.reads j below);
-    }
+-- the result of a test whether the rest of the bytes starts with a text
+pub begins-stands : (text bytes : List ℕ) (n : ℕ) (found : Bool) → found ≡ occurs_at (take (length bytes - n) (drop n bytes)) text 0
+    → n ≤ length bytes → found ≡ true → OccursAt bytes text n
+begins-stands text bytes n found is inside e =
+    let h = OccursAt-true (drop n bytes) text 0 (rw tail_range at (sym is ∙ e)) in
+    record { fits = omega (arith, h.fits, length-drop n bytes); reads = grind (arith, h.reads, get_or-drop {A = ℕ}) }
 
-pub stands-begins : (text bytes : List ℕ) (n : ℕ) → OccursAt bytes text n → occurs_at (drop n bytes) text 0 ≡ true
-stands-begins text bytes n h =
-    let fits = h.fits in
-    occurs_at-true (drop n bytes) text 0 (record {
-      fits = omega (arith, length-drop n bytes);
-      reads = λ j below. let from : j ≡ 0 + j = omega arith in
-          subst (λ (k : ℕ). get_or (drop n bytes) k 0 ≡ get_or text j 0) from (get_or-drop n bytes j 0 ∙ h.reads j below);
-    })
+pub stands-begins : (text bytes : List ℕ) (n : ℕ) (found : Bool) → found ≡ occurs_at (take (length bytes - n) (drop n bytes)) text 0
+    → OccursAt bytes text n → found ≡ true
+stands-begins text bytes n found is h =
+    let here : OccursAt (drop n bytes) text 0 =
+    record { fits = omega (arith, h.fits, length-drop n bytes); reads = grind (arith, h.reads, get_or-drop {A = ℕ}) } in
+    rw (is, tail_range) (occurs_at-true (drop n bytes) text 0 here)
 
 -- a byte of a text at its place
 byte_at : (text bytes : List ℕ) (n i j : ℕ) → OccursAt bytes text n → j < length text → n + j ≡ i → get_or bytes i 0 ≡ get_or text j 0
-byte_at text bytes n i j h below is = subst (λ (k : ℕ). get_or bytes k 0 ≡ get_or text j 0) is (h.reads j below)
+byte_at text bytes n i j h below is = grind arith
 
 -- the first byte of a text at its place
 pub stands-first : (text bytes : List ℕ) (n : ℕ) → OccursAt bytes text n → 0 < length text → get_or bytes n 0 ≡ get_or text 0 0
@@ -115,6 +87,14 @@ stands-first text bytes n h some = byte_at text bytes n n 0 h some (omega arith)
 half_below : (n : ℕ) → 0 < n → n / 2 < n
 half_below n some = omega arith
 
+-- sixteen bytes, joined with others by `&`
+length-both : (xs ys : List ℕ) → length xs ≡ 16 → length ys ≡ 16 → length (zip2 bit_and xs ys) ≡ 16
+length-both xs ys m n = rw (length-zip2 bit_and xs ys (rw (m, n)), m)
+
+both_set : (xs ys : List ℕ) (k : ℕ) → length xs ≡ 16 → length ys ≡ 16 → k < 16 → get_or xs k 0 ≡ 255 → get_or ys k 0 ≡ 255
+    → get_or (zip2 bit_and xs ys) k 0 ≡ 255
+both_set xs ys k m n below p q = rw (get_or-zip2 bit_and xs ys k 0 0 0 (omega arith) (omega arith), p, q)
+
 -- sixteen bytes compared with one, where equal bytes result in 255
 module _ (hit : ℕ → ℕ → ℕ) (same : (x : ℕ) → hit x x ≡ 255) (bytes : List ℕ) where
   abbrev lanes : ℕ → ℕ → List ℕ
@@ -122,13 +102,17 @@ module _ (hit : ℕ → ℕ → ℕ) (same : (x : ℕ) → hit x x ≡ 255) (byt
 
   length-lanes : (i x : ℕ) → i + 16 ≤ length bytes → length (lanes i x) ≡ 16
   length-lanes i x room =
-      let long = length-chunk i 16 bytes room in
-      length-zip2 hit (chunk i 16 bytes) (replicate 16 x) (long ∙ sym (length-replicate 16 x)) ∙ long
+      let long = length-chunk i 16 bytes room in rw (length-zip2 hit (chunk i 16 bytes) (replicate 16 x) (rw (long, length-replicate)), long)
 
   lane_at : (i x j : ℕ) → i + 16 ≤ length bytes → j < 16 → get_or bytes (i + j) 0 ≡ x → get_or (lanes i x) j 0 ≡ 255
   lane_at i x j room below is =
-      get_or-zip2 hit (chunk i 16 bytes) (replicate 16 x) j 0 0 0 (omega (arith, length-chunk i 16 bytes room)) (omega (arith, length-replicate 16 x))
-      ∙ ap₂ hit (get_or-chunk i 16 bytes j 0 below ∙ is) (get_or-replicate 16 j x 0 below) ∙ same x
+      rw (
+        get_or-zip2 hit (chunk i 16 bytes) (replicate 16 x) j 0 0 0 (omega (arith, length-chunk i 16 bytes room)) (omega (arith, length-replicate 16 x)),
+        get_or-chunk i 16 bytes j 0 below,
+        is,
+        get_or-replicate 16 j x 0 below,
+        same,
+      )
 
   -- the first byte of a text, one in its middle and its last at sixteen places
   module _ (text : List ℕ) (at : ℕ) (some : 0 < length text) (room : at + 15 + length text ≤ length bytes) where
@@ -154,29 +138,23 @@ module _ (hit : ℕ → ℕ → ℕ) (same : (x : ℕ) → hit x x ≡ 255) (byt
     length-last = length-of (length text - 1) (omega arith)
 
     length-two : length two ≡ 16
-    length-two = length-zip2 bit_and _ _ (length-first ∙ sym length-middle) ∙ length-first
+    length-two = length-both _ _ length-first length-middle
 
     length-three : length three ≡ 16
-    length-three = length-zip2 bit_and two _ (length-two ∙ sym length-last) ∙ length-two
+    length-three = length-both two _ length-two length-last
 
-    lane_set : (k j : ℕ) → at ≤ k → k < at + 16 → OccursAt bytes text k → j < length text → get_or (lanes_of j) (k - at) 0 ≡ 255
-    lane_set k j low below is inside =
-        lane_at (at + j) _ (k - at) (omega arith) (omega arith) (byte_at text bytes k (at + j + (k - at)) j is inside (omega arith))
-
-    first_set : (k : ℕ) → at ≤ k → k < at + 16 → OccursAt bytes text k → get_or (lanes at (get_or text 0 0)) (k - at) 0 ≡ 255
-    first_set k low below is =
-        lane_at at _ (k - at) (omega arith) (omega arith) (byte_at text bytes k (at + (k - at)) 0 is some (omega arith))
+    lane_set : (i k j : ℕ) → i ≡ at + j → at ≤ k → k < at + 16 → OccursAt bytes text k → j < length text
+        → get_or (lanes i (get_or text j 0)) (k - at) 0 ≡ 255
+    lane_set i k j there low below is inside =
+        lane_at i _ (k - at) (omega arith) (omega arith) (byte_at text bytes k (i + (k - at)) j is inside (omega arith))
 
     all_set : (k : ℕ) → at ≤ k → k < at + 16 → OccursAt bytes text k → top 7 (get_or three (k - at) 0) ≡ true
     all_set k low below is =
-        let middle = lane_set k (length text / 2) low below is (half_below (length text) some) in
-        let last = lane_set k (length text - 1) low below is (omega arith) in
-        let both =
-        get_or-zip2 bit_and _ _ (k - at) 0 0 0 (omega (arith, length-first)) (omega (arith, length-middle))
-        ∙ ap₂ bit_and (first_set k low below is) middle in
-        ap (top 7) (
-        get_or-zip2 bit_and two _ (k - at) 0 0 0 (omega (arith, length-two)) (omega (arith, length-last)) ∙ ap₂ bit_and both last
-        )
+        let first = lane_set at k 0 (omega arith) low below is some in
+        let middle = lane_set (at + length text / 2) k (length text / 2) refl low below is (half_below (length text) some) in
+        let last = lane_set (at + (length text - 1)) k (length text - 1) refl low below is (omega arith) in
+        let front = both_set _ _ (k - at) length-first length-middle (omega arith) first middle in
+        rw (both_set two _ (k - at) length-two length-last (omega arith) front last)
 
     abbrev mask : ℕ
     mask = mask_l (map (top 7) three) % 2 ^ 64
@@ -214,30 +192,17 @@ module _ (hit : ℕ → ℕ → ℕ) (same : (x : ℕ) → hit x x ≡ 255) (byt
 pub first_further : (text bytes : List ℕ) (i m j l : ℕ) (r : Option ℕ) → Nowhere (OccursAt bytes text) i m → IsFirst (OccursAt bytes text) m j r
     → i ≤ m → j ≤ l → length bytes < j + length text → IsFirst (OccursAt bytes text) i l r
 first_further text bytes i m j l None none nowhere low high room =
-    λ k from below is. let fits = is.fits in
-    ⊎_elim (λ h. none k from h is) (λ h. nowhere k h (omega arith) is) (cases_lt k m)
-first_further text bytes i m j l (Some n) none first low high room = (
-  record {
-    low = omega (arith, first.0.low);
-    high = omega (arith, first.0.high);
-    before = λ k from below is. ⊎_elim (λ h. none k from h is) (λ h. first.0.before k h below is) (cases_lt k m);
-  },
-  first.1,
-)
+    Nowhere-wider l (λ k is. omega (arith, is.fits, room)) (Nowhere-then none nowhere)
+first_further text bytes i m j l (Some n) none first low high room =
+    (record { low = omega (arith, first.0.low); high = omega (arith, first.0.high); before = Nowhere-then none first.0.before }, first.1)
 
 -- a text of one byte is where that byte is
 module _ (text bytes : List ℕ) (one : length text ≡ 1) where
   stands-byte : (n : ℕ) → n < length bytes → Passes (is_byte (get_or text 0 0)) bytes n → OccursAt bytes text n
-  stands-byte n below here = record {
-    fits = omega arith;
-    reads = λ j h. let first : j ≡ 0 = omega arith in let there : n + j ≡ n = omega arith in
-        let same : get_or bytes n 0 ≡ get_or text 0 0 = grind (arith, nat_tests) in rw (there, first) same;
-  }
+  stands-byte n below here = grind (arith, nat_tests)
 
   byte-stands : (n : ℕ) → OccursAt bytes text n → Passes (is_byte (get_or text 0 0)) bytes n
-  byte-stands n h =
-      let there : n + 0 ≡ n = omega arith in
-      let same : get_or bytes n 0 ≡ get_or text 0 0 = rw there at (h.reads 0 (omega arith)) in grind (arith, nat_tests)
+  byte-stands n h = grind (arith, nat_tests)
 
   -- the result of a search for that byte
   pub place_of-byte : (r : Option ℕ) → IsFirstByte (is_byte (get_or text 0 0)) bytes r → r ≡ place_of text bytes
@@ -249,3 +214,6 @@ module _ (text bytes : List ℕ) (one : length text ≡ 1) where
         record { low = omega arith; high = omega arith; before = λ k low below is. first.0.before k low below (byte-stands k is) },
         stands-byte n inside first.1,
       )
+
+-- where a search for a text ends
+pub ruleset text_places = (place_of-is, place_of-front, place_of-nowhere)

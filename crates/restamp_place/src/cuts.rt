@@ -114,6 +114,7 @@ pub fn find_span(place: Place<'_>, line: &[u8]) -> Option<Span>
 }
 
 // The line, cut at that part.
+#[tactic(auto, using(crate::proofs::WordLemmas::parts))]
 fn cut_span(line: &[u8], span: Span) -> Cut<'_>
     requires { IsPart (length line.now) span }
     ensures value { seen result ≡ cut_by line.now span }

@@ -17,6 +17,7 @@ const SHORT: usize = 32;
 
 /// How many bytes come before the first occurrence of `byte`, or before the end.
 #[inline]
+#[tactic(auto, using(crate::proofs::TextLemmas::first_places))]
 pub(crate) fn length_before(byte: u8, bytes: &[u8]) -> usize
     ensures value { result ≡ position_or_len (λ x. x == byte) bytes.now }
     ensures within { result ≤ length bytes.now }
@@ -58,6 +59,7 @@ fn word_in_block(bytes: &[u8], at: usize) -> usize
 
 // How many bytes come before the first space or TAB, or before the end, if the first `from` bytes have neither.
 #[inline(always)]
+#[tactic(auto, using(crate::proofs::TextLemmas::first_places))]
 fn word_from(bytes: &[u8], from: usize) -> usize
     requires within { from ≤ length bytes.now }
     requires before { (k : ℕ) → k < from → fields.is_blank (slice_index bytes.now k) ≡ false }
@@ -74,6 +76,7 @@ fn word_from(bytes: &[u8], from: usize) -> usize
 
 /// How many bytes come before the first space or TAB, or before the end.
 #[inline]
+#[tactic(auto, using(crate::proofs::TextLemmas::first_places))]
 pub(crate) fn word_length(bytes: &[u8]) -> usize
     ensures value { result ≡ position_or_len fields.is_blank bytes.now }
     ensures within { result ≤ length bytes.now }
@@ -98,6 +101,7 @@ pub(crate) fn is_blank(byte: u8) -> bool
 }
 
 /// How many spaces and TABs the bytes start with.
+#[tactic(auto, using(crate::proofs::TextLemmas::first_places))]
 pub(crate) fn blanks_length(bytes: &[u8]) -> usize
     ensures value { result ≡ position_or_len (λ x. not (fields.is_blank x)) bytes.now }
     ensures within { result ≤ length bytes.now }
@@ -111,6 +115,7 @@ pub(crate) fn blanks_length(bytes: &[u8]) -> usize
 }
 
 /// The place of the quote that closes the one just before these bytes.
+#[tactic(auto, using(crate::proofs::WordLemmas::quote_steps))]
 pub(crate) fn closing_quote(bytes: &[u8]) -> Option<usize>
     ensures value { result ≡ fields.closing_quote bytes.now }
     ensures within { IfSome result (λ n. n + 1 ≤ length bytes.now) }
@@ -213,6 +218,7 @@ fn find_short(text: &[u8], bytes: &[u8]) -> Option<usize>
 /// The first place of the text in the bytes. The search for a long text prepares it first, at a cost of some three
 /// hundred instructions.
 #[inline]
+#[tactic(auto, using(crate::proofs::TextLemmas::text_places))]
 pub(crate) fn find_text(text: &[u8], bytes: &[u8]) -> Option<usize>
     ensures value { result ≡ texts.place_of text.now bytes.now }
     ensures within { IfSome result (λ n. n + length text.now ≤ length bytes.now) }

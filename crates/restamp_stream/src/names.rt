@@ -49,6 +49,7 @@ fn plain_length(ascii: bool, name: &[u8]) -> usize
 }
 
 // Writes the name's bytes before the first escaped one, or that one if it comes first. Returns their number.
+#[tactic(auto, using(crate::proofs::LinesLemmas::log_writes))]
 fn write_part<L: Sink>(ascii: bool, name: &[u8], log: &mut L) -> Result<usize, Unwritten>
     requires { 0 < length name.now }
     ensures some { IfOk result (λ n. 0 < n) }

@@ -290,6 +290,7 @@ impl<W: Sink, L: Sink> Stream<W, L> {
 
     // Writes the report of a line that was counted, if it is rejected and the log names it.
     #[inline(always)]
+    #[tactic(auto, using(crate::proofs::LinesLemmas::log_writes))]
     fn report<T: Rewriting>(
         &mut self,
         rewriting: &T,

@@ -30,6 +30,7 @@ fn ends_within(line: &[u8], start: usize, block: usize) -> u8
 
 // Skips blocks of bytes, as long as fewer words end in them than have to be skipped.
 #[inline(always)]
+#[tactic(auto, using(crate::proofs::WordLemmas::word_steps))]
 fn pass_blocks(passed: Passed, line: &[u8], block: usize) -> Passed
     requires some { 0 < block }
     requires few { block ≤ 16 }
@@ -51,6 +52,7 @@ fn pass_blocks(passed: Passed, line: &[u8], block: usize) -> Passed
 
 // Skips single bytes, up to the end of the last word that has to be skipped.
 #[inline(always)]
+#[tactic(auto, using(crate::proofs::WordLemmas::word_steps))]
 fn pass_bytes(passed: Passed, line: &[u8]) -> Passed
     requires { passed.start ≤ length line.now }
     ensures passed { (n : ℕ) → IsPassed n line.now passed → IsPassed n line.now result }

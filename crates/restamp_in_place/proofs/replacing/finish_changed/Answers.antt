@@ -1,16 +1,16 @@
-use Rattle.restamp_in_place.specs.Phases.{IsMade, Kept, Installed, Reached}
-use Rattle.restamp_in_place.proofs.ReplaceLemmas.{is_made-kept}
-use Rattle.restamp_in_place.proofs.StepLemmas.{runs-from}
+use Rattle.restamp_in_place.specs.Phases.{Kept}
+use Rattle.restamp_in_place.proofs.ReplaceLemmas.{IsMade-kept}
+use Rattle.restamp_in_place.proofs.StepLemmas.{runs-weaker}
 use Rattle.restamp_in_place.proofs.replacing.finish_changed.Goals as goal
 
 pub returns-in-Ok-clause-ends : goal.returns-in-Ok-clause-ends
 returns-in-Ok-clause-ends g c aim plan written =
-    runs-from _ _ (IsMade aim) (Kept aim) (Installed aim) (is_made-kept aim) (c.in-Ok.ensures aim plan written)
+    runs-weaker _ _ (Kept aim) _ _ _ (IsMade-kept aim) (λ _ is. is) (c.in-Ok.ensures aim plan written)
 
 pub returns-in-Err-Changed-clause-ends : goal.returns-in-Err-Changed-clause-ends
 returns-in-Err-Changed-clause-ends g c aim plan written =
-    runs-from _ _ (IsMade aim) (Kept aim) (Reached aim) (is_made-kept aim) (c.in-Err-Changed.ensures aim plan written)
+    runs-weaker _ _ (Kept aim) _ _ _ (IsMade-kept aim) (λ _ is. is) (c.in-Err-Changed.ensures aim plan written)
 
 pub returns-in-Err-Failed-clause-ends : goal.returns-in-Err-Failed-clause-ends
 returns-in-Err-Failed-clause-ends g c aim plan written =
-    runs-from _ _ (IsMade aim) (Kept aim) (Reached aim) (is_made-kept aim) (c.in-Err-Failed.ensures aim plan written)
+    runs-weaker _ _ (Kept aim) _ _ _ (IsMade-kept aim) (λ _ is. is) (c.in-Err-Failed.ensures aim plan written)

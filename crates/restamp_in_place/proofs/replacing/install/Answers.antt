@@ -1,9 +1,8 @@
-use Rattle.std.proofs.Common.{sym}
-use Rattle.restamp_in_place.specs.Phases.{Kept, Ready, Backed, TempRemovable, BackupRemovable, Put}
-use Rattle.std.proofs.Common.{ap, ◌∙◌}
+use Rattle.std.proofs.Common.{sym, ap, ◌∙◌}
 use Rattle.std.specs.Option.{option_map}
+use Rattle.restamp_in_place.specs.Phases.{Ready, Backed, BackupRemovable, Put}
 use Rattle.restamp_in_place.proofs.PhaseLemmas.{backed-none}
-use Rattle.restamp_in_place.proofs.StepLemmas.{runs-into, goes-after, goes-into}
+use Rattle.restamp_in_place.proofs.StepLemmas.{runs-then, runs-weaker, goes-into}
 use Rattle.restamp_in_place.proofs.replacing.install.Goals as goal
 
 pub returns-in-Err : goal.returns-in-Err
@@ -11,12 +10,12 @@ returns-in-Err g c aim plan written = c.in-Err.ensures aim plan written
 
 pub returns-in-Some : goal.returns-in-Some
 returns-in-Some g c aim plan written =
-    goes-after _ _ _ _ (Kept aim) (Ready aim) (Put aim) (TempRemovable aim) (c.in-Ok.ensures aim plan written)
+    runs-then _ _ _ _ (Ready aim) _ (c.in-Ok.ensures aim plan written)
     (c.rename_backed.ensures aim plan (sym plan.backup ∙ ap (option_map (λ second. second.now)) c.in-Some.is))
 
 pub returns-in-None : goal.returns-in-None
 returns-in-None g c aim plan written =
-    goes-after _ _ _ _ (Kept aim) (Backed aim) (Put aim) (TempRemovable aim)
-    (runs-into _ _ (Kept aim) (Ready aim) (Backed aim) (c.in-Ok.ensures aim plan written)
-    (λ done r. backed-none aim done r (sym plan.backup ∙ ap (option_map (λ second. second.now)) c.in-None.is)))
-    (goes-into _ _ _ (Backed aim) (Put aim) (BackupRemovable aim) (TempRemovable aim) (c.rename.ensures aim plan) (λ done l. l.removable))
+    runs-then _ _ _ _ (Backed aim) _
+    (runs-weaker _ _ _ _ (Ready aim) _ (λ _ is. is)
+    (λ done r. backed-none aim r (sym plan.backup ∙ ap (option_map (λ second. second.now)) c.in-None.is)) (c.in-Ok.ensures aim plan written))
+    (goes-into _ _ c.rename.result _ (Put aim) (BackupRemovable aim) _ (λ done l. l.removable) (c.rename.ensures aim plan))

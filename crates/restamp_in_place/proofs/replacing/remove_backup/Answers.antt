@@ -1,12 +1,11 @@
-use Rattle.restamp_in_place.specs.Phases.{TempRemovable, BackupRemovable}
 use Rattle.restamp_in_place.proofs.StepLemmas.{remove-backup, known-there, runs-same}
 use Rattle.restamp_in_place.proofs.replacing.remove_backup.Goals as goal
 
 pub returns-in_default : goal.returns-in_default
-returns-in_default g c aim plan asked = runs-same _ (BackupRemovable aim) (TempRemovable aim) (λ done l. l.removable)
+returns-in_default g c aim plan asked = runs-same _ _ _ (λ done l. l.removable)
 
 pub returns-in_default-2 : goal.returns-in_default-2
-returns-in_default-2 g c aim plan asked = runs-same _ (BackupRemovable aim) (TempRemovable aim) (λ done l. l.removable)
+returns-in_default-2 g c aim plan asked = runs-same _ _ _ (λ done l. l.removable)
 
 pub returns : goal.returns
 returns g c aim plan asked =

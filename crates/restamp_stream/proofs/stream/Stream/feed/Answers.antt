@@ -1,15 +1,14 @@
-use Rattle.restamp_stream.proofs.AnsweredLemmas.{Continues-settled, held-none}
-use Rattle.restamp_stream.proofs.StoppedLemmas.{Stops-settled}
-use Rattle.restamp_stream.specs.Buffered.{job_at}
+use Rattle.restamp_stream.proofs.AnsweredLemmas.{Continues-settled, append_known-nil}
+use Rattle.std.proofs.lemmas.Result.{on_ok_weaker, IfErr-weaker}
+use Rattle.restamp_stream.proofs.StoppedLemmas.{StoppedBy-map, Stops-settled}
 use Rattle.restamp_stream.proofs.stream.Stream.feed.Goals as goal
 
 pub returns-clause-ok : goal.returns-clause-ok
 returns-clause-ok g c =
-    Continues-settled c.answer_block-answered.result (job_at _ _ c.args.file.now) _ _ _ _ _ _ _ _
-    (held-none _ _ _ _ c.requires)
-    c.answer_block-answered.ensures.ok c.in-Ok.ensures.written
+    on_ok_weaker c.answer_block-answered.result (Continues-settled c.in-Ok.ensures.written)
+    (rw (c.requires, append_known-nil) at c.answer_block-answered.ensures.ok)
 
 pub returns-clause-err : goal.returns-clause-err
 returns-clause-err g c =
-    Stops-settled c.answer_block-answered.result (job_at _ _ c.args.file.now) _ _ _ _ _ _ (held-none _ _ _ _ c.requires)
-    c.answer_block-answered.ensures.err c.in-Ok.ensures.written
+    IfErr-weaker c.answer_block-answered.result _ _ (λ stop. StoppedBy-map stop (Stops-settled c.in-Ok.ensures.written))
+    (rw (c.requires, append_known-nil) at c.answer_block-answered.ensures.err)

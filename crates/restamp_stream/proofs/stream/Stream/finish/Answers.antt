@@ -1,7 +1,7 @@
 use Rattle.std.proofs.Common.{refl}
 use Rattle.byte_streams.proofs.LinesLemmas.{lines_of-last}
-use Rattle.restamp_stream.proofs.AnsweredLemmas.{held-none}
-use Rattle.restamp_stream.proofs.StoppedLemmas.{finished, finished-none, Stopped-last_settled}
+use Rattle.restamp_stream.proofs.AnsweredLemmas.{append_known-nil}
+use Rattle.restamp_stream.proofs.StoppedLemmas.{finished, finished-none, StoppedBy-map, Stopped-last}
 use Rattle.restamp_stream.specs.Buffered.{job_at}
 use Rattle.restamp_stream.proofs.stream.Stream.finish.Goals as goal
 
@@ -11,13 +11,10 @@ returns-then-is_empty-clause-ok g c =
 
 pub returns-in-Ok-answered-clause-ok : goal.returns-in-Ok-answered-clause-ok
 returns-in-Ok-answered-clause-ok g c =
-    finished (job_at _ _ c.args.file.now) _ _ _ _ _ c.args.block.now.items _
-    (held-none _ _ _ _ c.requires.none) (c.if-is_empty.ensures.some refl)
-    c.requires.started c.as_slice.ensures.bytes c.in-Ok-answered.ensures.ok.2 c.in-Ok.ensures.written
+    finished (c.if-is_empty.ensures.some refl) c.requires.started c.as_slice.ensures.bytes c.in-Ok.ensures.written
+    (rw (c.requires.none, append_known-nil) at c.in-Ok-answered.ensures.ok.2)
 
 pub returns-in-Err-clause-err : goal.returns-in-Err-clause-err
 returns-in-Err-clause-err g c =
-    Stopped-last_settled c.in-Err.stop (job_at _ _ c.args.file.now) _ _ _ _ _
-    c.args.block.now.items (held-none _ _ _ _ c.requires.none)
-    (lines_of-last c.args.block.now.items (c.if-is_empty.ensures.some refl) c.requires.started) c.as_slice.ensures.bytes c.as_slice.ensures.most
-    c.in-Err.ensures.err c.in-Ok.ensures.written
+    StoppedBy-map c.in-Err.stop (Stopped-last (lines_of-last c.args.block.now.items (c.if-is_empty.ensures.some refl) c.requires.started)
+    c.as_slice.ensures.bytes c.as_slice.ensures.most c.in-Ok.ensures.written) (rw (c.requires.none, append_known-nil) at c.in-Err.ensures.err)

@@ -1,6 +1,6 @@
 -- A text that is a local time in a zone needs only one parse.
 use Rattle.std.proofs.Common.{◌≡◌, ◌-◌, ◌∙◌, ◌==◌, ◌∷◌, ℕ, ℤ, Bool, true, false, List, [], length, Option, None, Some, Result, Ok, Err, refl, sym, ap, subst, inl, inr, arith, is_some, if◌then◌else◌}
-use Rattle.std.specs.Prelude.{IsOkAnd, MatchOption}
+use Rattle.std.specs.Prelude.{MatchResult}
 use Rattle.std.proofs.lemmas.Bool.{false≢true}
 use Rattle.std.proofs.lemmas.Bool.Decides.{nat_tests}
 use Rattle.time_values.specs.Moments.{offset_date, offset_of, offset_time, plain_date, plain_time}
@@ -15,18 +15,20 @@ use Rattle.time_values.specs.declared.plain_date_time.PlainDateTime.{PlainDateTi
 use Rattle.time_components.specs.Tree.{steps_shape}
 use Rattle.time_record.specs.Reading as Description
 use Rattle.time_record.specs.Record.{Record, empty}
-use Rattle.time_record.specs.Resolution.{IsDated, IsMoment, IsPlain, IsStamped, IsMomentOfParts, IsOffset, IsTimed, is_leap_second, stand_in}
+use Rattle.time_record.specs.Resolution.{IsDated, IsMoment, IsPlain, IsMomentOfParts, IsOffset, IsTimed, is_leap_second}
 use Rattle.time_parsing.specs.Iso8601 as Iso8601
 use Rattle.time_parsing.specs.Outcome as Outcome
 use Rattle.time_parsing.specs.Outcome.{Refusing}
-use Rattle.restamp_formats.specs.Reading.{IsReadWith, ReadsRecord, ParsesAs, ParsesLocally, ParsesInZone, at_offset, completed, said, with_offset, with_year}
-use Rattle.restamp_formats.specs.Reason.{unread}
+use Rattle.restamp_formats.specs.Reading.{IsGuarded, IsReadWith, ReadsRecord, ParsesAs, ParsesLocally, ParsesInZone, at_offset, completed, said, with_offset, with_year}
+use Rattle.restamp_formats.specs.Reason.{Reason, unread}
 use Rattle.restamp_formats.specs.Zoned.{IsOffsetWhen}
 use Rattle.restamp_formats.specs.declared.local.Clocks.{Clocks}
+use Rattle.restamp_formats.specs.declared.reading.Match.{Match}
 use Rattle.restamp_formats.specs.declared.reading.Defaults.{Defaults}
 use Rattle.restamp_formats.specs.declared.reading.Reading.{Reading}
 use Rattle.restamp_formats.specs.declared.reading.Reading.TheVariants as reading
 use Rattle.restamp_formats.proofs.ComponentValueLemmas.{offset_made}
+use Rattle.restamp_formats.proofs.ParseLemmas.{on_none, on_some}
 
 -- the record with the parts of an offset
 abbrev placed : UtcOffset → Record → Record
@@ -40,49 +42,33 @@ placed o r = record r {
 -- the moment of a record without a timestamp, by its parts
 by_parts : (Y : ℕ) (r : Record) (result : Result OffsetDateTime Refusal) → r.unix_timestamp_nanos ≡ None → IsMomentOfParts Y r result → IsMoment Y r result
 unfolding IsMoment
-by_parts Y r result none parts =
-    subst (λ (n : Option ℤ). MatchOption n (IsMomentOfParts Y r result) (λ n. IsOkAnd result
-    (λ v. IsStamped Y n r.subsecond (offset_date v) (offset_time v) × IsUtc (offset_of v)))) (sym none) parts
+by_parts Y r result none parts = on_none r.unix_timestamp_nanos _ _ none parts
 
 module _ (Y : ℕ) (r : Record) (d : Date) (t : Time) (dated : IsDated Y r (Ok d)) (timed : IsTimed r (Ok t))
     (no_hour : r.offset_hour ≡ None) (no_stamp : r.unix_timestamp_nanos ≡ None) (no_leap : is_leap_second r ≡ false) where
-  no_offset : IsOffset r (Err insufficient)
-  unfolding IsOffset
-  no_offset = rw no_hour refl
-
-  stands : IsTimed (stand_in r) (Ok t)
-  stands = rw no_leap timed
-
   parts_without : IsMomentOfParts Y r (Err insufficient)
-  unfolding IsMomentOfParts
-  parts_without = inr (d, dated, inr (t, stands, inl (insufficient, no_offset, refl)))
+  unfolding IsMomentOfParts IsTimed IsOffset
+  parts_without = inr (d, dated, inr (t, rw no_leap timed, inl (insufficient, rw no_hour refl, refl)))
 
   without : IsMoment Y r (Err insufficient)
   without = by_parts Y r (Err insufficient) no_stamp parts_without
 
-  placed_dated : (o : UtcOffset) → IsDated Y (placed o r) (Ok d)
-  unfolding IsDated
-  placed_dated o = dated
-
-  placed_timed : (o : UtcOffset) → IsTimed (stand_in (placed o r)) (Ok t)
-  unfolding IsTimed
-  placed_timed o = rw no_leap timed
-
-  placed_offset : (v : OffsetDateTime) → IsOffset (placed (offset_of v) r) (Ok (offset_of v))
-  unfolding IsOffset
-  placed_offset v = offset_made v _ _ refl refl
-
   parts_placed : (v : OffsetDateTime) → offset_date v ≡ d → offset_time v ≡ t → IsMomentOfParts Y (placed (offset_of v) r) (Ok v)
-  unfolding IsMomentOfParts
-  parts_placed v date time = inr (
-    d,
-    placed_dated (offset_of v),
-    inr (
-      t,
-      placed_timed (offset_of v),
-      inr (offset_of v, placed_offset v, ((date, time, refl), λ is. absurd (false≢true (sym no_leap ∙ is)))),
-    ),
-  )
+  unfolding IsMomentOfParts IsDated IsTimed IsOffset
+  parts_placed v date time =
+      inr (
+        d,
+        dated,
+        inr (
+          t,
+          rw no_leap timed,
+          inr (
+            offset_of v,
+            offset_made v _ _ refl refl,
+            ((date, time, refl), λ is. absurd (false≢true (sym no_leap ∙ is))),
+          ),
+        ),
+      )
 
   at_placed : (v : OffsetDateTime) → offset_date v ≡ d → offset_time v ≡ t → IsMoment Y (placed (offset_of v) r) (Ok v)
   at_placed v date time = by_parts Y (placed (offset_of v) r) (Ok v) no_stamp (parts_placed v date time)
@@ -104,61 +90,50 @@ pub nothing_left : (rest : List ℕ) → true ≡ (length rest == 0) → rest �
 nothing_left [] e = refl
 nothing_left (x ∷ rest) e = absurd (grind (arith, nat_tests))
 
--- the result with defaults, by the record of the parse
-module _ (Y : ℕ) (reads : Outcome.Reading) (refuses : Refusing) (text rest : List ℕ) (r : Record) (read : reads text empty rest r) where
-  with_none : (is_prefix : Bool) (defaults : Defaults) → (is_prefix ≡ false → rest ≡ []) → IsMoment Y (completed Y defaults r) (Err insufficient)
-      → IsReadWith Y is_prefix reads refuses text defaults (Err insufficient)
-  with_none true defaults all moment = (Err insufficient, inr (rest, r, read, moment), refl)
-  with_none false defaults all moment =
-      (Err insufficient, inr (r, subst (λ (x : List ℕ). reads text empty x r) (all refl) read, moment), refl)
+-- the match of a moment before the rest of a text, or its error
+abbrev before : List ℕ → List ℕ → Result OffsetDateTime Refusal → Result Match Refusal
+before text rest (Ok v) = Ok (said v (length text - length rest))
+before text rest (Err e) = Err e
 
-  with_moment : (is_prefix : Bool) (defaults : Defaults) (v : OffsetDateTime) → (is_prefix ≡ false → rest ≡ []) → IsMoment Y (completed Y defaults r) (Ok v)
-      → IsReadWith Y is_prefix reads refuses text defaults (Ok (said v (length text - length rest)))
-  with_moment true defaults v all moment = (Ok (v, rest), (r, read, moment), refl)
-  with_moment false defaults v all moment =
-      let none = all refl in
-      let whole : length text ≡ length text - length rest = omega (arith, ap length none) in (
-        Ok v,
-        (r, subst (λ (x : List ℕ). reads text empty x r) none read, moment),
-        ap (λ (n : ℕ). Ok (said v n)) (sym whole),
-      )
+abbrev reasoned : Result Match Refusal → Result Match Reason
+reasoned (Ok s) = Ok s
+reasoned (Err e) = Err (unread e)
 
--- that result, by the format
+-- the result with defaults, by the record of the parse and by the format
 module _ (Y : ℕ) (text rest : List ℕ) (r : Record) where
-  says_none : (format : Reading) → ReadsRecord Y format text empty rest r → (is_prefix : Bool) (defaults : Defaults)
-      → (is_prefix ≡ false → rest ≡ []) → IsMoment Y (completed Y defaults r) (Err insufficient)
-      → ParsesAs Y format is_prefix text defaults (Err (unread insufficient))
-  says_none reading.Iso8601 read is_prefix defaults all moment =
-      (Err insufficient, with_none Y (Iso8601.Reads Y) (Iso8601.Refuses Y) text rest r read is_prefix defaults all moment, refl)
-  says_none (reading.Described e) read is_prefix defaults all moment = (
-    Err insufficient,
-    with_none Y (Description.Reads Y (steps_shape e)) (Description.Refuses Y (steps_shape e)) text rest r read is_prefix defaults all moment,
-    refl,
-  )
-  says_none reading.Rfc3339 read is_prefix defaults all moment = absurd read
-  says_none (reading.Zoned zones) read is_prefix defaults all moment = absurd read
-  says_none reading.Rfc2822 read is_prefix defaults all moment = absurd read
-  says_none (reading.Complete e) read is_prefix defaults all moment = absurd read
-  says_none (reading.Counted e) read is_prefix defaults all moment = absurd read
+  by_record : (reads : Outcome.Reading) (refuses : Refusing) → reads text empty rest r → (is_prefix : Bool) (defaults : Defaults)
+      → (is_prefix ≡ false → rest ≡ []) → (result : Result OffsetDateTime Refusal) → IsMoment Y (completed Y defaults r) result
+      → IsReadWith Y is_prefix reads refuses text defaults (before text rest result)
+  by_record reads refuses read true defaults all (Ok v) moment = (Ok (v, rest), (r, read, moment), refl)
+  by_record reads refuses read true defaults all (Err e) moment = (Err e, inr (rest, r, read, moment), refl)
+  by_record reads refuses read false defaults all (Ok v) moment =
+      let none = all refl in
+      let whole : length text ≡ length text - length rest = omega (arith, ap length none) in
+      (Ok v, (r, subst (λ (x : List ℕ). reads text empty x r) none read, moment), ap (λ (n : ℕ). Ok (said v n)) (sym whole))
+  by_record reads refuses read false defaults all (Err e) moment =
+      (Err e, inr (r, subst (λ (x : List ℕ). reads text empty x r) (all refl) read, moment), refl)
 
-  says_moment : (format : Reading) → ReadsRecord Y format text empty rest r → (is_prefix : Bool) (defaults : Defaults) (v : OffsetDateTime)
-      → (is_prefix ≡ false → rest ≡ []) → IsMoment Y (completed Y defaults r) (Ok v)
-      → ParsesAs Y format is_prefix text defaults (Ok (said v (length text - length rest)))
-  says_moment reading.Iso8601 read is_prefix defaults v all moment = (
-    Ok (said v (length text - length rest)),
-    with_moment Y (Iso8601.Reads Y) (Iso8601.Refuses Y) text rest r read is_prefix defaults v all moment,
-    refl,
+  no_rules : (format : Reading) → ReadsRecord Y format text empty rest r → (is_prefix : Bool) (result : Result Match Refusal)
+      → MatchResult result (λ s. IsGuarded format is_prefix text s (reasoned result)) (λ e. reasoned result ≡ Err (unread e))
+  no_rules reading.Iso8601 read is_prefix (Ok s) = refl
+  no_rules (reading.Described e) read is_prefix (Ok s) = refl
+  no_rules format read is_prefix (Err e) = refl
+  no_rules format read is_prefix (Ok s) = absurd read
+
+  says : (format : Reading) → ReadsRecord Y format text empty rest r → (is_prefix : Bool) (defaults : Defaults)
+      → (is_prefix ≡ false → rest ≡ []) → (result : Result OffsetDateTime Refusal) → IsMoment Y (completed Y defaults r) result
+      → ParsesAs Y format is_prefix text defaults (reasoned (before text rest result))
+  says reading.Iso8601 read is_prefix defaults all result moment = (
+    before text rest result,
+    by_record (Iso8601.Reads Y) (Iso8601.Refuses Y) read is_prefix defaults all result moment,
+    no_rules reading.Iso8601 read is_prefix (before text rest result),
   )
-  says_moment (reading.Described e) read is_prefix defaults v all moment = (
-    Ok (said v (length text - length rest)),
-    with_moment Y (Description.Reads Y (steps_shape e)) (Description.Refuses Y (steps_shape e)) text rest r read is_prefix defaults v all moment,
-    refl,
+  says (reading.Described e) read is_prefix defaults all result moment = (
+    before text rest result,
+    by_record (Description.Reads Y (steps_shape e)) (Description.Refuses Y (steps_shape e)) read is_prefix defaults all result moment,
+    no_rules (reading.Described e) read is_prefix (before text rest result),
   )
-  says_moment reading.Rfc3339 read is_prefix defaults v all moment = absurd read
-  says_moment (reading.Zoned zones) read is_prefix defaults v all moment = absurd read
-  says_moment reading.Rfc2822 read is_prefix defaults v all moment = absurd read
-  says_moment (reading.Complete e) read is_prefix defaults v all moment = absurd read
-  says_moment (reading.Counted e) read is_prefix defaults v all moment = absurd read
+  says format read is_prefix defaults all result moment = absurd read
 
   pub says_once : (format : Reading) → ReadsRecord Y format text empty rest r → (is_prefix : Bool) (defaults : Defaults) (clocks : Clocks)
       (utc v : OffsetDateTime) (d : Date) (t : Time)
@@ -179,11 +154,10 @@ module _ (Y : ℕ) (text rest : List ℕ) (r : Record) where
         offset_of utc,
         in_utc.2,
         Ok (said utc (length text - length rest)),
-        says_moment format read is_prefix (at_offset (offset_of utc) defaults) utc all shown,
-        (Ok (offset_of v), when, says_moment format read is_prefix (at_offset (offset_of v) defaults) v all last),
+        says format read is_prefix (at_offset (offset_of utc) defaults) all (Ok utc) shown,
+        (Ok (offset_of v), when, says format read is_prefix (at_offset (offset_of v) defaults) all (Ok v) last),
       ) in (
         Err (unread insufficient),
-        says_none format read is_prefix defaults all first,
-        subst (λ (c : Option Clocks). MatchOption c (Ok (said v (length text - length rest)) ≡ Err (unread insufficient))
-            (λ clocks. ParsesInZone Y clocks format is_prefix text defaults (Ok (said v (length text - length rest))))) (sym on) on_these,
+        says format read is_prefix defaults all (Err insufficient) first,
+        on_some defaults.clocks clocks _ _ on on_these,
       )

@@ -1,5 +1,5 @@
 -- The timestamps of access logs parse back.
-use Rattle.std.specs.Prelude.{Option, MatchOption, bytes_eq, if◌then◌else◌, unsigned_abs}
+use Rattle.std.specs.Prelude.{Option, MatchOption, bytes_eq, unsigned_abs}
 use Rattle.std.proofs.Common.{◌≡◌, ◌≢◌, ℕ, List, [], Bool, true, false, None, Some, Ok, Err, ap, sym, ◌∙◌, refl, subst, codes, Decides, pos, ◌∷◌, arith}
 use Rattle.std.proofs.lemmas.Slice.Eq.{bytes_eq-Decides}
 use Rattle.time_values.specs.Dates as Dates
@@ -27,10 +27,8 @@ use Rattle.time_formatting.specs.Components.{SignedStops, PaddedStops}
 use Rattle.time_formatting.specs.Numbers.{year_sign}
 use Rattle.time_record.specs.Record.{Record, empty}
 use Rattle.restamp_formats.specs.Laws.{OneTree, CommonReadsBack}
-use Rattle.restamp_formats.specs.Naming.{FormatName, rfc3339, rfc2822, iso8601, counted, complete, brackets, strftime, unknown, format_name_of, description_name, writing_named, meaning_of, as_tree, Means, common_text, as_complete}
+use Rattle.restamp_formats.specs.Naming.{FormatName, counted, complete, brackets, strftime, unknown, format_name_of, description_name, writing_named, meaning_of, as_tree, Means, common_text, as_complete}
 use Rattle.restamp_formats.specs.declared.form.Named.{Named}
-use Rattle.restamp_formats.specs.declared.form.Named.TheVariants.{Rfc3339, Rfc2822, Iso8601, Count}
-use Rattle.restamp_formats.specs.declared.form.Unit.TheVariants.{Seconds, Milliseconds, Microseconds, Nanoseconds}
 use Rattle.restamp_formats.specs.declared.form.Writing.TheVariants as writing
 use Rattle.restamp_formats.specs.declared.reading.Reading.{Reading}
 use Rattle.restamp_formats.specs.declared.reading.Reading.TheVariants as reading
@@ -58,22 +56,14 @@ abbrev ByTree : Reading → Tree → Type 0
 ByTree format tree = (e : List Step) × (format ≡ reading.Described e) × (steps_shape e ≡ tree)
 
 by_tree : (format : Reading) (tree : Tree) → meaning_of format ≡ as_tree tree → ByTree format tree
-by_tree reading.Rfc3339 tree e = absurd cc
-by_tree (reading.Zoned zones) tree e = absurd cc
-by_tree reading.Rfc2822 tree e = absurd cc
-by_tree reading.Iso8601 tree e = absurd cc
 by_tree (reading.Described d) tree e = let same : steps_shape d ≡ tree = cc in (d, refl, same)
-by_tree (reading.Complete d) tree e = absurd cc
-by_tree (reading.Counted d) tree e = absurd cc
+by_tree format tree e = absurd cc
 
 pub same_as_tree : (a b : Tree) → as_tree a ≡ as_tree b → a ≡ b
 same_as_tree a b e = cc
 
 -- the name of a format has one tree
 one_format_name : (way : FormatName) (format : Reading) (tree : Tree) → Means way (meaning_of format) → Means way (as_tree tree) → ByTree format tree
-one_format_name rfc3339 format tree means writes = absurd cc
-one_format_name rfc2822 format tree means writes = absurd cc
-one_format_name iso8601 format tree means writes = absurd cc
 one_format_name (counted text) format tree means writes = let e = writes.2 in absurd cc
 one_format_name (complete text) format tree means writes = let e = writes.2 in absurd cc
 one_format_name (brackets text) format tree (a, describes, is) (b, also, e) =
@@ -81,12 +71,7 @@ one_format_name (brackets text) format tree (a, describes, is) (b, also, e) =
 one_format_name (strftime text) format tree (a, describes, is) (b, also, e) =
     by_tree format tree (is ∙ ap as_tree (one_strftime text a b describes also ∙ sym (same_as_tree tree b e)))
 one_format_name unknown format tree means writes = absurd means
-
--- a failed test picks no name
-not_picked : (test : Bool) (x : Named) (others : Option Named) → (if test then Some x else others) ≡ None
-    → (test ≡ false) × (others ≡ None)
-not_picked true x others e = absurd cc
-not_picked false x others e = (refl, e)
+one_format_name way format tree means writes = absurd cc
 
 -- a text with a description isn't that name
 not_that : (text name : List ℕ) → description_name text ≢ unknown → description_name name ≡ unknown → bytes_eq text name ≡ false
@@ -99,16 +84,9 @@ not_that text name known none = by_test (bytes_eq text name) (bytes_eq-Decides t
 module _ (text : List ℕ) (known : description_name text ≢ unknown) (unnamed : writing_named text ≡ None) where
   same_way : format_name_of text ≡ description_name text
   same_way =
-      let is : List ℕ → Bool = bytes_eq text in
-      let a = not_picked (is (codes "rfc3339")) Rfc3339 _ unnamed in
-      let b = not_picked (is (codes "rfc2822")) Rfc2822 _ a.1 in
-      let c = not_picked (is (codes "iso8601")) Iso8601 _ b.1 in
-      let d = not_picked (is (codes "unix")) (Count Seconds) _ c.1 in
-      let e = not_picked (is (codes "unix-ms")) (Count Milliseconds) _ d.1 in
-      let f = not_picked (is (codes "unix-us")) (Count Microseconds) _ e.1 in
-      let g = not_picked (is (codes "unix-ns")) (Count Nanoseconds) None f.1 in
       let common = not_that text (codes "common") known refl in
-      let syslog = not_that text (codes "syslog") known refl in rw (a.0, b.0, c.0, d.0, e.0, f.0, g.0, common, syslog) refl
+      let syslog = not_that text (codes "syslog") known refl in
+      grind arith
 
 by_name : (text : List ℕ) (format : Reading) (d : Description MOST_STEPS) (name : Option Named) → writing_named text ≡ name
     → Means (format_name_of text) (meaning_of format)
@@ -192,13 +170,8 @@ module _ (v : OffsetDateTime) (none : Times.nanosecond (offset_time v) ≡ 0) (m
 -- the format of that name
 complete_tree : (format : Reading) (tree : Tree) → meaning_of format ≡ as_complete tree
     → (e : List Step) × (format ≡ reading.Complete e) × (steps_shape e ≡ tree)
-complete_tree reading.Rfc3339 tree e = absurd cc
-complete_tree (reading.Zoned zones) tree e = absurd cc
-complete_tree reading.Rfc2822 tree e = absurd cc
-complete_tree reading.Iso8601 tree e = absurd cc
-complete_tree (reading.Described d) tree e = absurd cc
 complete_tree (reading.Complete d) tree e = let same : steps_shape d ≡ tree = cc in (d, refl, same)
-complete_tree (reading.Counted d) tree e = absurd cc
+complete_tree format tree e = absurd cc
 
 pub common_reads_back : CommonReadsBack greatest_year
 common_reads_back v format defaults d (read_tree, reads, is) (e, (tree, writes, same), one) none minutes =

@@ -1,13 +1,13 @@
 -- A tree that determines a moment.
-use Rattle.std.proofs.Common.{◌≡◌, ◌≤◌, ◌<◌, ◌+◌, ◌-◌, ◌%◌, ◌^◌, ℕ, ℤ, pos, neg_ℤ, unsigned_abs, Bool, true, false, List, [], ◌∷◌, None, Some, Ok}
+use Rattle.std.proofs.Common.{◌≡◌, ◌≤◌, ◌<◌, ◌-◌, ◌^◌, ℕ, ℤ, pos, neg_ℤ, unsigned_abs, true, false, List, [], ◌∷◌, None, Some, Ok}
 use Rattle.std.proofs.Common.{Err, inr, refl, sym, ap, ◌∙◌, subst, arith}
-use Rattle.std.specs.Prelude.{◌==◌, ◌&&◌, if◌then◌else◌, Option, MatchOption, option_map, option_and_then, nat_le}
+use Rattle.std.specs.Prelude.{◌==◌, if◌then◌else◌, Option, MatchOption, option_and_then, nat_le}
 use Rattle.std.specs.Option.{option_map_or, option_or}
-use Rattle.std.proofs.lemmas.Bool.{le-leb, eqb-false, ne_eqb}
+use Rattle.std.proofs.lemmas.Bool.{le-leb}
 use Rattle.std.proofs.lemmas.Bool.Decides.{nat_tests}
 use Rattle.std.proofs.Math.Nat.{div-mul-le_self}
 use Rattle.std.proofs.lemmas.Option.{same_Some, none-some, option_and_then_some}
-use Rattle.time_values.specs.Calendar.{IsBetween, is_leap_year, month_length, year_length, greatest_year}
+use Rattle.time_values.specs.Calendar.{IsBetween, month_length, year_length, greatest_year}
 use Rattle.time_values.specs.Dates.{is_within}
 use Rattle.time_values.specs.Names.{month_number}
 use Rattle.time_values.specs.Refusal.{insufficient}
@@ -20,7 +20,6 @@ use Rattle.time_values.specs.Moments.{offset_date, offset_of, offset_time}
 use Rattle.time_values.specs.Offsets as Offsets
 use Rattle.time_values.specs.Offsets.{offset_refusal}
 use Rattle.time_values.specs.Times.{HasClock, time_refusal}
-use Rattle.time_values.specs.Shown.{is_behind}
 use Rattle.time_values.specs.declared.offset_date_time.OffsetDateTime.{OffsetDateTime}
 use Rattle.time_values.proofs.InstantLemmas.{ordinal_in}
 use Rattle.time_values.proofs.YearLemmas.{abs_within, year_length-leap_day}
@@ -28,9 +27,9 @@ use Rattle.time_writing.proofs.SameTexts.{signed-minutes, signed-seconds}
 use Rattle.time_components.specs.declared.format_description.Component.{Component}
 use Rattle.time_components.specs.declared.format_description.Component.TheVariants as component
 use Rattle.time_formatting.specs.Components.{count_of, hour_12, kept, value_of}
-use Rattle.time_record.specs.Components.{put_value, with_offset_sign}
+use Rattle.time_record.specs.Components.{put_value}
 use Rattle.time_record.specs.Record.{Record, empty}
-use Rattle.time_record.specs.Resolution.{Clock, IsMoment, IsMomentOfParts, IsDated, IsTimed, IsOffset, IsConstructed, clock_at, clock_of, hour_of}
+use Rattle.time_record.specs.Resolution.{IsMoment, IsMomentOfParts, IsDated, IsTimed, IsOffset, IsConstructed, clock_at, clock_of, hour_of}
 use Rattle.time_record.specs.Resolution.{is_leap_second, stand_in, Row, by_ordinal, by_month_and_day, row_of_two, row_of_three, full_year, IsRowDate}
 use Rattle.restamp_formats.specs.Laws.{AllValuesDetermine, SignsDetermine}
 use Rattle.restamp_formats.specs.Reading.{completed}
@@ -41,48 +40,24 @@ month_short : (y : ℤ) (m : ℕ) → month_length y m ≤ 31
 month_short y m = grind (arith, nat_tests)
 
 year_short : (y : ℤ) → year_length y ≤ 366
-year_short y = rw (year_length-leap_day y) (by_leap (is_leap_year y))
-  where
-    by_leap : (leap : Bool) → 365 + (if leap then 1 else 0) ≤ 366
-    by_leap true = omega arith
-    by_leap false = omega arith
+year_short y = rw (year_length-leap_day y) (grind arith)
 
 -- a component's value is in range
 day_fits : (d : Date) → is_within 1 31 (Dates.day d) ≡ true
-day_fits d =
-    let day = d.day_in in let short = month_short (Dates.year d) (month_number (Dates.month d)) in
-    rw (le-leb 1 d.day (omega (arith, day)), le-leb d.day 31 (omega (arith, day, short))) refl
+day_fits d = let day = d.day_in in let short = month_short (Dates.year d) (month_number (Dates.month d)) in grind (arith, nat_tests)
 
 ordinal_fits : (d : Date) → is_within 1 366 (Dates.ordinal d) ≡ true
-ordinal_fits d =
-    let in_year = ordinal_in d in let short = year_short (Dates.year d) in
-    rw (le-leb 1 (Dates.ordinal d) (omega (arith, in_year)), le-leb (Dates.ordinal d) 366 (omega (arith, in_year, short))) refl
+ordinal_fits d = let in_year = ordinal_in d in let short = year_short (Dates.year d) in grind (arith, nat_tests)
 
 size_fits : (n : ℕ) (z : ℤ) → IsBetween (neg_ℤ (pos n)) (pos n) z → nat_le (unsigned_abs z) n ≡ true
 size_fits n z h = le-leb (unsigned_abs z) n (abs_within n z h)
 
 half_fits : (h : ℕ) → is_within 1 12 (hour_12 h) ≡ true
-half_fits h = by_test (h % 12 == 0) refl
-  where
-    by_test : (test : Bool) → (h % 12 == 0) ≡ test → is_within 1 12 (if test then 12 else h % 12) ≡ true
-    by_test true is = refl
-    by_test false is =
-        let some = eqb-false (h % 12) 0 is in
-        rw (le-leb 1 (h % 12) (omega (arith, some)), le-leb (h % 12) 12 (omega arith)) refl
+half_fits h = grind (arith, nat_tests)
 
 kept_fits : (k n : ℕ) → n < 1_000_000_000 → nat_le (kept k n) 999_999_999 ≡ true
 kept_fits k n below =
     let less = div-mul-le_self n (10 ^ (9 - k)) in le-leb (kept k n) 999_999_999 (omega (arith, less, below))
-
-put_in : (fits : Bool) (r q : Record) → fits ≡ true → Some r ≡ Some q → (if fits then Some r else None) ≡ Some q
-put_in true r q e same = same
-put_in false r q e same = absurd cc
-
--- setting a value with the flag of an offset
-put_flagged : (minus fits : Bool) (r : Record) → fits ≡ true
-    → option_map (with_offset_sign minus) (if fits then Some r else None) ≡ Some (with_offset_sign minus r)
-put_flagged minus true r e = refl
-put_flagged minus false r e = absurd cc
 
 module _ (v : OffsetDateTime) where
   abbrev d : Date
@@ -100,33 +75,26 @@ module _ (v : OffsetDateTime) where
   -- setting a component's value gives the record with that value
   put_told : (c : Component) (r q : Record) → with_value_of greatest_year v c r ≡ Some q
       → put_value greatest_year c (value_of greatest_year v c) r ≡ Some q
-  put_told (component.Day m) r q e = put_in (is_within 1 31 d.day) _ q (day_fits d) e
+  put_told (component.Day m) r q e = rw (day_fits d) e
   put_told (component.MonthShort m) r q e = e
   put_told (component.MonthLong m) r q e = e
   put_told (component.MonthNumerical m) r q e = e
-  put_told (component.Ordinal m) r q e = put_in (is_within 1 366 (Dates.ordinal d)) _ q (ordinal_fits d) e
+  put_told (component.Ordinal m) r q e = rw (ordinal_fits d) e
   put_told (component.WeekdayShort m) r q e = e
   put_told (component.WeekdayLong m) r q e = e
   put_told (component.WeekdaySunday m) r q e = e
   put_told (component.WeekdayMonday m) r q e = e
-  put_told (component.CalendarYearFullExtendedRange m) r q e =
-      put_in (nat_le (unsigned_abs year) greatest_year) _ q (size_fits greatest_year year d.year_in) e
-  put_told (component.CalendarYearFullStandardRange m) r q e =
-      put_in (nat_le (unsigned_abs year) greatest_year) _ q (size_fits greatest_year year d.year_in) e
-  put_told (component.Hour12 m) r q e = put_in (is_within 1 12 (hour_12 t.hour)) _ q (half_fits t.hour) e
-  put_told (component.Hour24 m) r q e = put_in (nat_le t.hour 23) _ q (le-leb t.hour 23 (omega (arith, t.hour_in))) e
-  put_told (component.Minute m) r q e = put_in (nat_le t.minute 59) _ q (le-leb t.minute 59 (omega (arith, t.minute_in))) e
+  put_told (component.CalendarYearFullExtendedRange m) r q e = rw (size_fits greatest_year year d.year_in) e
+  put_told (component.CalendarYearFullStandardRange m) r q e = rw (size_fits greatest_year year d.year_in) e
+  put_told (component.Hour12 m) r q e = rw (half_fits t.hour) e
+  put_told (component.Hour24 m) r q e = rw (le-leb t.hour 23 (omega (arith, t.hour_in))) e
+  put_told (component.Minute m) r q e = rw (le-leb t.minute 59 (omega (arith, t.minute_in))) e
   put_told (component.Period m) r q e = e
-  put_told (component.Second m) r q e = put_in (nat_le t.second 60) _ q (le-leb t.second 60 (omega (arith, t.second_in))) e
-  put_told (component.Subsecond m) r q e =
-      let k = count_of m.digits t.nanosecond in
-      put_in (nat_le (kept k t.nanosecond) 999_999_999) _ q (kept_fits k t.nanosecond t.nanosecond_in) e
-  put_told (component.OffsetHour m) r q e =
-      put_flagged (is_behind o) (nat_le (unsigned_abs o.hours) 25) (record r { offset_hour = Some o.hours }) (size_fits 25 o.hours o.hours_in) ∙ e
-  put_told (component.OffsetMinute m) r q e =
-      put_in (nat_le (unsigned_abs o.minutes) 59) _ q (size_fits 59 o.minutes o.minutes_in) e
-  put_told (component.OffsetSecond m) r q e =
-      put_in (nat_le (unsigned_abs o.seconds) 59) _ q (size_fits 59 o.seconds o.seconds_in) e
+  put_told (component.Second m) r q e = rw (le-leb t.second 60 (omega (arith, t.second_in))) e
+  put_told (component.Subsecond m) r q e = rw (kept_fits (count_of m.digits t.nanosecond) t.nanosecond t.nanosecond_in) e
+  put_told (component.OffsetHour m) r q e = rw (size_fits 25 o.hours o.hours_in) e
+  put_told (component.OffsetMinute m) r q e = rw (size_fits 59 o.minutes o.minutes_in) e
+  put_told (component.OffsetSecond m) r q e = rw (size_fits 59 o.seconds o.seconds_in) e
   put_told (component.End m) r q e = e
   put_told c r q e = absurd (none-some q e)
 
@@ -155,43 +123,27 @@ module _ (v : OffsetDateTime) where
 
   clock_made : IsConstructed (time_refusal t.hour t.minute t.second t.nanosecond) (HasClock t.hour t.minute t.second t.nanosecond) (Ok t)
   clock_made =
-      let none : time_refusal t.hour t.minute t.second t.nanosecond ≡ None = rw (
+      rw (
         le-leb t.hour 23 (omega (arith, t.hour_in)),
         le-leb t.minute 59 (omega (arith, t.minute_in)),
         le-leb t.second 59 (omega (arith, t.second_in)),
         le-leb t.nanosecond 999_999_999 (omega (arith, t.nanosecond_in)),
-      ) refl in
-      subst (λ r. IsConstructed r (HasClock t.hour t.minute t.second t.nanosecond) (Ok t)) (sym none) (refl, refl, refl, refl)
+      ) (refl, refl, refl, refl)
 
   pub offset_made : (m s : ℤ) → m ≡ o.minutes → s ≡ o.seconds
       → IsConstructed (offset_refusal o.hours m s) (Offsets.HasOffset o.hours m s) (Ok o)
   offset_made m s minutes seconds =
-      subst (λ m. IsConstructed (offset_refusal o.hours m s) (Offsets.HasOffset o.hours m s) (Ok o)) (sym minutes)
-      (subst (λ s. IsConstructed (offset_refusal o.hours o.minutes s) (Offsets.HasOffset o.hours o.minutes s) (Ok o)) (sym seconds)
-      (subst (λ r. IsConstructed r (Offsets.HasOffset o.hours o.minutes o.seconds) (Ok o)) (sym none) (refl, o.one_sign.0, o.one_sign.1)))
-    where
-      none : offset_refusal o.hours o.minutes o.seconds ≡ None
-      none = rw (size_fits 25 o.hours o.hours_in, size_fits 59 o.minutes o.minutes_in, size_fits 59 o.seconds o.seconds_in) refl
+      rw (minutes, seconds, size_fits 25 o.hours o.hours_in, size_fits 59 o.minutes o.minutes_in, size_fits 59 o.seconds o.seconds_in)
+      (refl, o.one_sign.0, o.one_sign.1)
 
   -- its second is no leap second
   no_leap : (h m s n : Option ℕ) → option_and_then (λ hour. clock_at hour m s n) h ≡ Some (clock t)
       → option_map_or (λ second. second == 60) s false ≡ false
-  no_leap h m None n e = refl
-  no_leap None m (Some s) n e = absurd cc
-  no_leap (Some h) None (Some s) None e = absurd cc
-  no_leap (Some h) None (Some s) (Some n) e = absurd cc
-  no_leap (Some h) (Some m) (Some s) None e =
-      let same = ap Clock.second (same_Some _ _ e) in ne_eqb s 60 (λ sixty. absurd (omega (arith, same, sixty, t.second_in)))
-  no_leap (Some h) (Some m) (Some s) (Some n) e =
-      let same = ap Clock.second (same_Some _ _ e) in ne_eqb s 60 (λ sixty. absurd (omega (arith, same, sixty, t.second_in)))
+  no_leap h m s n e = let second = t.second_in in grind (arith, nat_tests)
 
   module _ (r : Record) (all : HasAll r v) where
     not_leap : is_leap_second r ≡ false
-    not_leap = by_flag r.leap_second_allowed (no_leap (hour_of r) r.minute r.second r.subsecond all.time)
-      where
-        by_flag : (allowed : Bool) {other : Bool} → other ≡ false → (allowed && other) ≡ false
-        by_flag true e = e
-        by_flag false e = refl
+    not_leap = let none = no_leap (hour_of r) r.minute r.second r.subsecond all.time in grind arith
 
     is_dated : IsDated greatest_year r (Ok d)
     unfolding IsDated

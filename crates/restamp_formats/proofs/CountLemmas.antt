@@ -2,7 +2,7 @@
 use Rattle.std.specs.Prelude.{neg_ℤ, ◌≤ℤ◌}
 use Rattle.std.specs.Fmt.{signed_decimal}
 use Rattle.std.specs.Int.{w128, cast_signed as to_z, cast_unsigned as of_z}
-use Rattle.std.proofs.Common.{◌≡◌, suc, ◌≤◌, ℤ, pos, negsuc, length, arith}
+use Rattle.std.proofs.Common.{suc, ◌≤◌, ℤ, pos, negsuc, length, arith}
 use Rattle.std.proofs.lemmas.Fmt.{length-decimal-le_wide}
 use Rattle.std.proofs.lemmas.Int.{ints, to_z-of_z}
 use Rattle.time_values.specs.Instants.{IsInstant, IsWhole}
@@ -29,10 +29,3 @@ nanoseconds_short n within =
 pub microseconds_short : (n z : ℤ) → IsInstant greatest_year n → IsWhole 1_000 n z → length (signed_decimal (to_z w128 (of_z w128 z))) ≤ 35
 microseconds_short n z within whole =
     passed z (omega (arith, ints, first_instant_is, last_instant_is)) (omega (arith, ints, first_instant_is, last_instant_is))
-
-pub nanoseconds_kept : (n : ℤ) → IsInstant greatest_year n → to_z w128 (of_z w128 n) ≡ n
-nanoseconds_kept n within = to_z-of_z w128 n (omega (arith, ints, first_instant_is, last_instant_is))
-
--- each number is the count of itself in units of 1
-pub whole_of_one : (n : ℤ) → IsWhole 1 n n
-whole_of_one n = (omega (arith, ints), omega (arith, ints))

@@ -1,9 +1,10 @@
 -- Formats whose tables of zones differ only in names that a text doesn't have parse it alike.
 use Rattle.std.proofs.Common.{◌≡◌, ℕ, zero, suc, ℤ, pos, Bool, true, false, List, [], ◌∷◌, ◌++◌, ◌+◌, ◌-◌, take, drop, sym, ap, subst, refl, ◌∙◌, None, Some, Ok, Err, append_assoc, append-nil, inl, inr}
 use Rattle.std.proofs.lemmas.List.{take-append-drop}
+use Rattle.std.proofs.lemmas.Result.{MatchResult-weaker}
 use Rattle.std.specs.Prelude.{Option, Result, ◌-ℤ◌, MatchOption, MatchResult, MatchBool, slice_range}
 use Rattle.time_values.specs.Moments.{offset_of}
-use Rattle.time_values.specs.Refusal.{Refusal, trailing}
+use Rattle.time_values.specs.Refusal.{Refusal}
 use Rattle.time_values.specs.declared.offset_date_time.OffsetDateTime.{OffsetDateTime}
 use Rattle.time_values.specs.declared.utc_offset.UtcOffset.{UtcOffset}
 use Rattle.time_zones.specs.Suffix.{Checked, GoesWith, GoesWithNamed, GoesWithZone, IsSuffix, Zone, ZoneTag, Tag, IsZoneText, at_offset as by_offset, bracketed, critical_key, named, tags_text, StandsIn, IsNameIn}
@@ -11,9 +12,9 @@ use Rattle.time_zones.specs.declared.checking.SuffixFault.TheVariants.{UnknownZo
 use Rattle.time_zones.specs.declared.finding.NamedZone.{NamedZone}
 use Rattle.time_zones.specs.Finding.{zone_named}
 use Rattle.time_zones.specs.declared.zones.Zones.{Zones}
-use Rattle.restamp_formats.specs.Zoned.{IsOffsetWhen, IsChecked, IsLongestSuffix, IsSuffixed, Suffix, has_tail, tells_offset}
+use Rattle.restamp_formats.specs.Zoned.{IsChecked, IsLongestSuffix, IsSuffixed, Suffix, has_tail, tells_offset}
 use Rattle.restamp_formats.specs.Laws.{SameZones, AreEquivalent, AllEquivalent}
-use Rattle.restamp_formats.specs.Reading.{IsReadInFront, ParsesAs, ParsesInZone, ParsesLocally, undated, at_offset, in_year, is_after, IsEarly, IsFinal, year_after, AreYearsTried, IsDated, AreTried, IsReadInTurn}
+use Rattle.restamp_formats.specs.Reading.{IsReadInFront, ParsesAs, ParsesInZone, ParsesLocally, undated, at_offset, in_year, is_after, year_after, AreYearsTried, IsDated, AreTried, IsReadInTurn}
 use Rattle.restamp_formats.specs.Reason.{Reason, unread, is_local_time_error}
 use Rattle.restamp_formats.specs.declared.local.Clocks.{Clocks}
 use Rattle.restamp_formats.specs.declared.reading.Defaults.{Defaults}
@@ -94,6 +95,15 @@ goes tag (Some key) zones other tells m a same p = p
 goes None None zones other tells m a same p = p
 goes (Some z) None zones other tells m a same p = goes_zone z.zone zones other tells m a (λ name e. same z name refl e) p
 
+-- what follows from each value, or from each truth value, follows from any
+option_weaker : {V : Type 0} (o : Option V) (P : Type 0) {Q R : V → Type 0} → MatchOption o P Q → ((v : V) → Q v → R v) → MatchOption o P R
+option_weaker None P h f = h
+option_weaker (Some v) P h f = f v h
+
+bool_weaker : (b : Bool) {P P' Q Q' : Type 0} → MatchBool b P Q → (P → P') → (Q → Q') → MatchBool b P' Q'
+bool_weaker true h f g = f h
+bool_weaker false h f g = g h
+
 module _ (zones other : Zones) (text : List ℕ) (same : SameZones text zones other) where
   checked_alike : (front : Match) (s : Suffix) (a : Result Match Reason) → EndsBefore text (drop front.length text)
       → IsLongestSuffix (drop front.length text) s → IsChecked zones text front s a → IsChecked other text front s a
@@ -107,18 +117,11 @@ module _ (zones other : Zones) (text : List ℕ) (same : SameZones text zones ot
         p.2,
       )
 
-  ended_alike : (tail : Bool) (front : Match) (s : Suffix) (a : Result Match Reason) → EndsBefore text (drop front.length text)
-      → IsLongestSuffix (drop front.length text) s
-      → MatchBool tail (a ≡ Err (unread trailing)) (IsChecked zones text front s a)
-      → MatchBool tail (a ≡ Err (unread trailing)) (IsChecked other text front s a)
-  ended_alike true front s a ends longest p = p
-  ended_alike false front s a ends longest p = checked_alike front s a ends longest p
-
   told_alike : (Y : ℕ) (is_prefix : Bool) (outcome : Result Match Refusal) (a : Result Match Reason) → IsReadInFront Y text outcome
       → MatchResult outcome (λ s. IsSuffixed zones is_prefix text s a) (λ e. a ≡ Err (unread e))
       → MatchResult outcome (λ s. IsSuffixed other is_prefix text s a) (λ e. a ≡ Err (unread e))
   told_alike Y is_prefix (Ok s) a front p =
-      (p.0, p.1, ended_alike (has_tail is_prefix text (s.length + p.0.len)) s p.0 a (front_ends Y text s front) p.1 p.2)
+      (p.0, p.1, bool_weaker (has_tail is_prefix text (s.length + p.0.len)) p.2 (λ q. q) (checked_alike s p.0 a (front_ends Y text s front) p.1))
   told_alike Y is_prefix (Err e) a front p = p
 
 -- each match of a text by one format is its match by the other
@@ -135,148 +138,70 @@ says_alike Y is_prefix text format other (inr (zones, same, e, f, h)) d a p =
 
 -- equal matches have equal results: in zones, with years, by several formats
 module _ (Y : ℕ) (is_prefix : Bool) (text : List ℕ) (format other : Reading) (says : Alike Y is_prefix text format other) where
-  at_clocks : (clocks : Clocks) (d : Defaults) (offset : Result UtcOffset Reason) (a : Result Match Reason)
-      → MatchResult offset (λ o. ParsesAs Y format is_prefix text (at_offset o d) a) (λ why. a ≡ Err why)
-      → MatchResult offset (λ o. ParsesAs Y other is_prefix text (at_offset o d) a) (λ why. a ≡ Err why)
-  at_clocks clocks d (Ok o) a p = says (at_offset o d) a p
-  at_clocks clocks d (Err why) a p = p
-
-  on_shown : (clocks : Clocks) (d : Defaults) (shown a : Result Match Reason)
-      → MatchResult shown
-      (λ s. (offset : Result UtcOffset Reason) × IsOffsetWhen clocks s.moment offset
-      × MatchResult offset (λ o. ParsesAs Y format is_prefix text (at_offset o d) a) (λ why. a ≡ Err why))
-      (λ why. a ≡ Err why)
-      → MatchResult shown
-      (λ s. (offset : Result UtcOffset Reason) × IsOffsetWhen clocks s.moment offset
-      × MatchResult offset (λ o. ParsesAs Y other is_prefix text (at_offset o d) a) (λ why. a ≡ Err why))
-      (λ why. a ≡ Err why)
-  on_shown clocks d (Ok s) a p = (p.0, p.1, at_clocks clocks d p.0 a p.2)
-  on_shown clocks d (Err why) a p = p
-
-  on_clocks : (clocks : Option Clocks) (d : Defaults) (reason : Reason) (a : Result Match Reason)
-      → MatchOption clocks (a ≡ Err reason) (λ c. ParsesInZone Y c format is_prefix text d a)
-      → MatchOption clocks (a ≡ Err reason) (λ c. ParsesInZone Y c other is_prefix text d a)
-  on_clocks None d reason a p = p
-  on_clocks (Some clocks) d reason a p =
-      (p.0, p.1, p.2, says (at_offset p.0 d) p.2 p.3, on_shown clocks d p.2 a p.4)
-
-  after_plain : (d : Defaults) (plain a : Result Match Reason)
-      → MatchResult plain (λ s. a ≡ Ok s)
-      (λ reason. MatchOption d.clocks (a ≡ Err reason) (λ c. ParsesInZone Y c format is_prefix text d a))
-      → MatchResult plain (λ s. a ≡ Ok s)
-      (λ reason. MatchOption d.clocks (a ≡ Err reason) (λ c. ParsesInZone Y c other is_prefix text d a))
-  after_plain d (Ok s) a p = p
-  after_plain d (Err reason) a p = on_clocks d.clocks d reason a p
+  on_clocks : (d : Defaults) (a : Result Match Reason) (clocks : Clocks)
+      → ParsesInZone Y clocks format is_prefix text d a → ParsesInZone Y clocks other is_prefix text d a
+  on_clocks d a clocks p = (
+    p.0,
+    p.1,
+    p.2,
+    says (at_offset p.0 d) p.2 p.3,
+    MatchResult-weaker p.2 p.4 (λ s q. (q.0, q.1, MatchResult-weaker q.0 q.2 (λ o. says (at_offset o d) a) (λ why e. e))) (λ why e. e),
+  )
 
   locally : (d : Defaults) (a : Result Match Reason) → ParsesLocally Y format is_prefix text d a → ParsesLocally Y other is_prefix text d a
-  locally d a p = (p.0, says d p.0 p.1, after_plain d p.0 a p.2)
+  locally d a p =
+      (p.0, says d p.0 p.1, MatchResult-weaker p.0 p.2 (λ s e. e) (λ reason q. option_weaker d.clocks _ q (on_clocks d a)))
 
-  -- the earlier years have one result
-  abbrev EarlierAlike : ℕ → Option UtcOffset → Option Clocks → OffsetDateTime → ℤ → Type 0
-  EarlierAlike n offset clocks latest year = (reason : Reason) (a : Result Match Reason)
-      → AreYearsTried Y (undated format is_prefix text offset clocks latest) n year reason a
-      → AreYearsTried Y (undated other is_prefix text offset clocks latest) n year reason a
-
-  late_alike : (late : Bool) (n : ℕ) (offset : Option UtcOffset) (clocks : Option Clocks) (latest : OffsetDateTime) (year : ℤ)
-      (reason : Reason) (s : Match) (a : Result Match Reason) → EarlierAlike n offset clocks latest year
-      → MatchBool late (AreYearsTried Y (undated format is_prefix text offset clocks latest) n year reason a) (a ≡ Ok s)
-      → MatchBool late (AreYearsTried Y (undated other is_prefix text offset clocks latest) n year reason a) (a ≡ Ok s)
-  late_alike true n offset clocks latest year reason s a before p = before reason a p
-  late_alike false n offset clocks latest year reason s a before p = p
-
-  final_alike : (of_clocks : Bool) (offset : Option UtcOffset) (clocks : Option Clocks) (latest : OffsetDateTime) (year : ℤ) (final : Bool)
-      → MatchBool of_clocks (IsEarly Y (undated format is_prefix text offset clocks latest) year final) (final ≡ false)
-      → MatchBool of_clocks (IsEarly Y (undated other is_prefix text offset clocks latest) year final) (final ≡ false)
-  final_alike true offset clocks latest year final p =
-      (p.0, says (at_offset (offset_of latest) (in_year year offset clocks)) p.0 p.1, p.2)
-  final_alike false offset clocks latest year final p = p
-
-  passed_alike : (final : Bool) (n : ℕ) (offset : Option UtcOffset) (clocks : Option Clocks) (latest : OffsetDateTime) (year : ℤ)
-      (why : Reason) (a : Result Match Reason) → EarlierAlike n offset clocks latest year
-      → MatchBool final (a ≡ Err why) (AreYearsTried Y (undated format is_prefix text offset clocks latest) n year why a)
-      → MatchBool final (a ≡ Err why) (AreYearsTried Y (undated other is_prefix text offset clocks latest) n year why a)
-  passed_alike true n offset clocks latest year why a before p = p
-  passed_alike false n offset clocks latest year why a before p = before why a p
-
-  abbrev Follows : Reading → ℕ → Option UtcOffset → Option Clocks → OffsetDateTime → ℤ → Reason → Result Match Reason → Result Match Reason → Type 0
-  Follows f n offset clocks latest year reason read a =
-      MatchResult read
-      (λ s. MatchBool (is_after Y s.moment latest)
-      (AreYearsTried Y (undated f is_prefix text offset clocks latest) n (year -ℤ pos 1) reason a) (a ≡ Ok s))
-      (λ why. (final : Bool) × IsFinal Y (undated f is_prefix text offset clocks latest) year why final
-      × MatchBool final (a ≡ Err why) (AreYearsTried Y (undated f is_prefix text offset clocks latest) n (year -ℤ pos 1) why a))
-
-  following : (n : ℕ) (offset : Option UtcOffset) (clocks : Option Clocks) (latest : OffsetDateTime) (year : ℤ) (reason : Reason)
-      (read a : Result Match Reason) → EarlierAlike n offset clocks latest (year -ℤ pos 1)
-      → Follows format n offset clocks latest year reason read a → Follows other n offset clocks latest year reason read a
-  following n offset clocks latest year reason (Ok s) a before p =
-      late_alike (is_after Y s.moment latest) n offset clocks latest (year -ℤ pos 1) reason s a before p
-  following n offset clocks latest year reason (Err why) a before p = (
-    p.0,
-    final_alike (is_local_time_error why) offset clocks latest year p.0 p.1,
-    passed_alike p.0 n offset clocks latest (year -ℤ pos 1) why a before p.2,
-  )
-
-  years : (n : ℕ) (offset : Option UtcOffset) (clocks : Option Clocks) (latest : OffsetDateTime) (year : ℤ) → EarlierAlike n offset clocks latest year
-  unfolding AreYearsTried
-  years zero offset clocks latest year reason a p = p
-  years (suc n) offset clocks latest year reason a p = (
-    p.0,
-    locally (in_year year offset clocks) p.0 p.1,
-    following n offset clocks latest year reason p.0 a (years n offset clocks latest (year -ℤ pos 1)) p.2,
-  )
-
-  latest_alike : (latest : Option OffsetDateTime) (offset : Option UtcOffset) (clocks : Option Clocks) (e : Reason) (a : Result Match Reason)
-      → MatchOption latest (a ≡ Err e) (λ v. AreYearsTried Y (undated format is_prefix text offset clocks v) 10 (year_after v) e a)
-      → MatchOption latest (a ≡ Err e) (λ v. AreYearsTried Y (undated other is_prefix text offset clocks v) 10 (year_after v) e a)
-  latest_alike None offset clocks e a p = p
-  latest_alike (Some v) offset clocks e a p = years 10 offset clocks v (year_after v) e a p
-
-  after_locally : (d : Defaults) (plain a : Result Match Reason)
-      → MatchResult plain (λ s. a ≡ Ok s) (λ reason. MatchOption d.latest (a ≡ Err reason)
-      (λ v. AreYearsTried Y (undated format is_prefix text d.offset d.clocks v) 10 (year_after v) reason a))
-      → MatchResult plain (λ s. a ≡ Ok s) (λ reason. MatchOption d.latest (a ≡ Err reason)
-      (λ v. AreYearsTried Y (undated other is_prefix text d.offset d.clocks v) 10 (year_after v) reason a))
-  after_locally d (Ok s) a p = p
-  after_locally d (Err e) a p = latest_alike d.latest d.offset d.clocks e a p
+  module _ (offset : Option UtcOffset) (clocks : Option Clocks) (latest : OffsetDateTime) where
+    years : (n : ℕ) (year : ℤ) (reason : Reason) (a : Result Match Reason)
+        → AreYearsTried Y (undated format is_prefix text offset clocks latest) n year reason a
+        → AreYearsTried Y (undated other is_prefix text offset clocks latest) n year reason a
+    unfolding AreYearsTried
+    years zero year reason a p = p
+    years (suc n) year reason a p = (
+      p.0,
+      locally (in_year year offset clocks) p.0 p.1,
+      MatchResult-weaker p.0 p.2
+          (λ s q. bool_weaker (is_after Y s.moment latest) q (years n (year -ℤ pos 1) reason a) (λ e. e))
+          (λ why q. (
+            q.0,
+            bool_weaker (is_local_time_error why) q.1
+                (λ early. (early.0, says (at_offset (offset_of latest) (in_year year offset clocks)) early.0 early.1, early.2)) (λ e. e),
+            bool_weaker q.0 q.2 (λ e. e) (years n (year -ℤ pos 1) why a),
+          )),
+    )
 
   dated : (d : Defaults) (a : Result Match Reason) → IsDated Y format is_prefix text d a → IsDated Y other is_prefix text d a
-  dated d a p = (p.0, locally d p.0 p.1, after_locally d p.0 a p.2)
+  dated d a p = (
+    p.0,
+    locally d p.0 p.1,
+    MatchResult-weaker p.0 p.2 (λ s e. e)
+        (λ reason q. option_weaker d.latest _ q (λ v. years d.offset d.clocks v 10 (year_after v) reason a)),
+  )
 
 module _ (Y : ℕ) (is_prefix : Bool) (text : List ℕ) where
   pub dated_alike : (format other : Reading) (d : Defaults) (a : Result Match Reason) → AreEquivalent text format other
       → IsDated Y format is_prefix text d a → IsDated Y other is_prefix text d a
   dated_alike format other d a alike p = dated Y is_prefix text format other (says_alike Y is_prefix text format other alike) d a p
 
-  next_alike : (formats others : List Reading) (d : Defaults) (reason : Reason) (first a : Result Match Reason)
-      → (AreTried Y formats is_prefix text d reason a → AreTried Y others is_prefix text d reason a)
-      → MatchResult first (λ s. a ≡ Ok s) (λ _. AreTried Y formats is_prefix text d reason a)
-      → MatchResult first (λ s. a ≡ Ok s) (λ _. AreTried Y others is_prefix text d reason a)
-  next_alike formats others d reason (Ok s) a next p = p
-  next_alike formats others d reason (Err e) a next p = next p
-
   tried_alike : (formats others : List Reading) (d : Defaults) (reason : Reason) (a : Result Match Reason) → AllEquivalent text formats others
       → AreTried Y formats is_prefix text d reason a → AreTried Y others is_prefix text d reason a
   tried_alike [] [] d reason a alike p = p
-  tried_alike [] (other ∷ others) d reason a alike p = absurd alike
-  tried_alike (format ∷ formats) [] d reason a alike p = absurd alike
   tried_alike (format ∷ formats) (other ∷ others) d reason a alike p = (
     p.0,
     dated_alike format other d p.0 alike.0 p.1,
-    next_alike formats others d reason p.0 a (λ q. tried_alike formats others d reason a alike.1 q) p.2,
+    MatchResult-weaker p.0 p.2 (λ s e. e) (λ why q. tried_alike formats others d reason a alike.1 q),
   )
-
-  after_first : (formats others : List Reading) (d : Defaults) (first a : Result Match Reason) → AllEquivalent text formats others
-      → MatchResult first (λ s. a ≡ Ok s) (λ reason. AreTried Y formats is_prefix text d reason a)
-      → MatchResult first (λ s. a ≡ Ok s) (λ reason. AreTried Y others is_prefix text d reason a)
-  after_first formats others d (Ok s) a alike p = p
-  after_first formats others d (Err e) a alike p = tried_alike formats others d e a alike p
+  tried_alike formats others d reason a alike p = absurd alike
 
   pub in_turn_alike : (format other : Reading) (formats others : List Reading) (d : Defaults) (a : Result Match Reason)
       → AreEquivalent text format other → AllEquivalent text formats others
       → IsReadInTurn Y format formats is_prefix text d a → IsReadInTurn Y other others is_prefix text d a
-  in_turn_alike format other formats others d a alike all p =
-      (p.0, dated_alike format other d p.0 alike p.1, after_first formats others d p.0 a all p.2)
+  in_turn_alike format other formats others d a alike all p = (
+    p.0,
+    dated_alike format other d p.0 alike p.1,
+    MatchResult-weaker p.0 p.2 (λ s e. e) (λ reason q. tried_alike formats others d reason a all q),
+  )
 
 -- formats that are equal for some bytes are equal for a part of them
 pub part_alike : (part bytes : List ℕ) (format other : Reading) → StandsIn part bytes → AreEquivalent bytes format other → AreEquivalent part format other
@@ -287,7 +212,6 @@ part_alike part bytes format other stands (inr (zones, same, e, f, h)) =
 pub parts_alike : (part bytes : List ℕ) (formats others : List Reading) → StandsIn part bytes → AllEquivalent bytes formats others
     → AllEquivalent part formats others
 parts_alike part bytes [] [] stands alike = alike
-parts_alike part bytes [] (other ∷ others) stands alike = absurd alike
-parts_alike part bytes (format ∷ formats) [] stands alike = absurd alike
 parts_alike part bytes (format ∷ formats) (other ∷ others) stands alike =
     (part_alike part bytes format other stands alike.0, parts_alike part bytes formats others stands alike.1)
+parts_alike part bytes formats others stands alike = absurd alike

@@ -1,8 +1,10 @@
 -- A moment of RFC 3339 that is all of some bytes is also a prefix of more.
 use Rattle.std.specs.Char.{to_ascii_lowercase}
-use Rattle.std.proofs.Common.{◌≡◌, ◌≢◌, ◌≤◌, ◌-◌, ◌∙◌, ℕ, Bool, IsTrue, true, false, List, [], ◌∷◌, ◌++◌, length, take, drop, length-drop, take-append-drop, ap, refl, subst, inl, inr, arith, append_assoc, Option, Some, None, Ok, ◌+◌, Err, sym, length-append, nat_lt}
+use Rattle.std.proofs.Common.{◌≡◌, ◌≤◌, ◌-◌, ◌∙◌, ℕ, Bool, IsTrue, true, false, List, [], ◌∷◌, ◌++◌, length, take, drop, length-drop, take-append-drop, ap, refl, subst, inl, inr, arith, append_assoc, Option, Some, None, Ok, ◌+◌, Err, sym, length-append, nat_lt}
 use Rattle.std.proofs.Math.Seq.{take-length, take-append_seam, drop-append_seam}
+use Rattle.std.proofs.lemmas.Bool.{and_parts}
 use Rattle.std.proofs.lemmas.Bool.Decides.{nat_tests}
+use Rattle.std.specs.Prelude.{◌&&◌}
 use Rattle.time_values.specs.Calendar.{greatest_year}
 use Rattle.time_values.specs.declared.offset_date_time.OffsetDateTime.{OffsetDateTime}
 use Rattle.time_zones.specs.Suffix.{GoesWith, IsSuffix, Tag, ZoneTag, critical_key, is_time_end}
@@ -28,33 +30,13 @@ use Rattle.restamp_formats.specs.declared.reading.Match.{Match}
 use Rattle.restamp_formats.proofs.OneReading.{one_has}
 
 -- places without a fraction
-abbrev Plain : List Place → Type 0
-Plain [] = Unit {0}
-Plain (p ∷ ps) = (p ≢ place.Subsecond) × Plain ps
+abbrev is_plain : Place → Bool
+is_plain place.Subsecond = false
+is_plain p = true
 
-to_second_plain : Plain to_second_places
-to_second_plain = (
-  λ is. absurd (cc),
-  (
-    λ is. absurd (cc),
-    (
-      λ is. absurd (cc),
-      (
-        λ is. absurd (cc),
-        (
-          λ is. absurd (cc),
-          (
-            λ is. absurd (cc),
-            (λ is. absurd (cc), (λ is. absurd (cc), (λ is. absurd (cc), (λ is. absurd (cc), (λ is. absurd (cc), tt))))),
-          ),
-        ),
-      ),
-    ),
-  ),
-)
-
-offset_plain : Plain offset_places
-offset_plain = (λ is. absurd (cc), (λ is. absurd (cc), (λ is. absurd (cc), tt)))
+abbrev are_plain : List Place → Bool
+are_plain [] = true
+are_plain (p ∷ ps) = is_plain p && are_plain ps
 
 module _ (tail : List ℕ) where
   no_digit : (xs : List ℕ) → 1 ≤ length xs → NoDigitFirst xs → NoDigitFirst (xs ++ tail)
@@ -86,18 +68,13 @@ module _ (tail : List ℕ) where
   offset_minute false n m text xs h = (h.0, (run 2 text xs h.0 h.1.0, h.1.1), h.2)
 
   -- a place keeps its syntax if more bytes follow
-  asked : (p : Place) (n m : Numbers) (text xs : List ℕ) → (p ≡ place.Subsecond → 1 ≤ length xs) → Asks true p n text xs m
+  asked : (p : Place) (n m : Numbers) (text xs : List ℕ) → (is_plain p ≡ false → 1 ≤ length xs) → Asks true p n text xs m
       → Asks true p n text (xs ++ tail) m
   asked place.Year n m text xs some h = (h.0, run 4 text xs h.0 h.1, h.2)
-  asked place.YearDash n m text xs some h = h
   asked place.Month n m text xs some h = (h.0, (run 2 text xs h.0 h.1.0, h.1.1), h.2, h.3)
-  asked place.MonthDash n m text xs some h = h
   asked place.Day n m text xs some h = (h.0, (run 2 text xs h.0 h.1.0, h.1.1), h.2)
-  asked place.Separator n m text xs some h = h
   asked place.Hour n m text xs some h = (h.0, (run 2 text xs h.0 h.1.0, h.1.1), h.2)
-  asked place.HourColon n m text xs some h = h
   asked place.Minute n m text xs some h = (h.0, (run 2 text xs h.0 h.1.0, h.1.1), h.2)
-  asked place.MinuteColon n m text xs some h = h
   asked place.Second n m text xs some h = (h.0, (run 2 text xs h.0 h.1.0, h.1.1), h.2)
   asked place.Subsecond n m text xs some h = (h.0, subsecond text xs h.0 (some refl) h.1, h.2)
   asked place.OffsetHour n m text xs some (inl utc) = inl utc
@@ -109,20 +86,21 @@ module _ (tail : List ℕ) where
     run = (run 2 signed.digits xs signed.hour signed.run.0, signed.run.1);
     says = signed.says;
   })
-  asked place.OffsetColon n m text xs some h = h
   asked place.OffsetMinute n m text xs some h = offset_minute n.is_utc n m text xs h
+  asked p n m text xs some h = h
 
-  cut : (p : Place) (n m : Numbers) (bytes xs : List ℕ) → (p ≡ place.Subsecond → 1 ≤ length xs) → Cut (Asks true p n) bytes xs m
+  cut : (p : Place) (n m : Numbers) (bytes xs : List ℕ) → (is_plain p ≡ false → 1 ≤ length xs) → Cut (Asks true p n) bytes xs m
       → Cut (Asks true p n) (bytes ++ tail) (xs ++ tail) m
   cut p n m bytes xs some h =
       (h.0, ap (λ x. x ++ tail) h.1 ∙ append_assoc h.0 xs tail, asked p n m h.0 xs some h.2)
 
-  stand : (ps : List Place) (n m : Numbers) (bytes rest : List ℕ) → Plain ps → Stand (Asks true) ps n bytes rest m
+  stand : (ps : List Place) (n m : Numbers) (bytes rest : List ℕ) → are_plain ps ≡ true → Stand (Asks true) ps n bytes rest m
       → Stand (Asks true) ps n (bytes ++ tail) (rest ++ tail) m
   unfolding Stand
   stand [] n m bytes rest plain s = (ap (λ x. x ++ tail) s.0, s.1)
   stand (p ∷ ps) n m bytes rest plain s =
-      (s.0 ++ tail, s.1, cut p n s.1 bytes s.0 (λ is. absurd (plain.0 is)) s.2, stand ps s.1 m s.0 rest plain.1 s.3)
+      let parts = and_parts (is_plain p) (are_plain ps) plain in
+      (s.0 ++ tail, s.1, cut p n s.1 bytes s.0 (λ is. absurd (let plain = parts.0 in cc)) s.2, stand ps s.1 m s.0 rest parts.1 s.3)
 
   -- an offset has at least one byte
   offset_long : (n m : Numbers) (bytes rest : List ℕ) → Cut (Asks true place.OffsetHour n) bytes rest m → 1 ≤ length bytes
@@ -140,8 +118,8 @@ module _ (tail : List ℕ) where
       let s = first.1.2 in
       let long = offset_long s.1 s.3.1 s.0 s.3.0 s.3.2 in
       Stand-append (Asks true) to_second_places (place.Subsecond ∷ offset_places) nothing_read k n (bytes ++ tail) (mid ++ tail) tail
-      (stand to_second_places nothing_read k bytes mid to_second_plain first.1.1)
-      (s.0 ++ tail, s.1, cut place.Subsecond k s.1 mid s.0 (λ is. long) s.2, stand offset_places s.1 n s.0 [] offset_plain s.3)
+      (stand to_second_places nothing_read k bytes mid refl first.1.1)
+      (s.0 ++ tail, s.1, cut place.Subsecond k s.1 mid s.0 (λ is. long) s.2, stand offset_places s.1 n s.0 [] refl s.3)
 
 -- The moment of all the bytes is that of a prefix of more.
 pub front-moment : (bytes tail : List ℕ) (v : OffsetDateTime)

@@ -1,8 +1,7 @@
 -- Results whose error is what a caller keeps of a reason.
 use Rattle.std.proofs.Common.{◌≡◌, Ok, Err, subst, sym}
 use Rattle.std.specs.Prelude.{Result}
-use Rattle.time_values.specs.Shown.{Items}
-use Rattle.restamp_formats.specs.Reason.{Gives, Reason, Stores, erased_read, seen}
+use Rattle.restamp_formats.specs.Reason.{Gives, Reason, erased_read, seen}
 use Rattle.restamp_formats.specs.declared.reading.Match.{Match}
 use Rattle.restamp_formats.specs.declared.reason.Reason.{Reason as Whole}
 
@@ -11,11 +10,6 @@ pub gives_so : {V E : Type 0} (IsOf : Reason → E → Type 0) {P Q : Result V R
     → ((given : Result V Reason) → P given → Q given) → Gives IsOf P result → Gives IsOf Q result
 gives_so IsOf (Ok v) f p = f (Ok v) p
 gives_so IsOf (Err e) f p = (p.0, p.1, f (Err p.0) p.2)
-
-pub stores_so : {U E : Type 0} (IsOf : Reason → E → Type 0) {P Q : Result Items Reason → Type 0} (result : Result U E) (text : Items)
-    → ((given : Result Items Reason) → P given → Q given) → Stores IsOf P result text → Stores IsOf Q result text
-stores_so IsOf (Ok u) text f p = f (Ok text) p
-stores_so IsOf (Err e) text f p = (p.0, p.1, f (Err p.0) p.2)
 
 -- If all of a reason is kept, the result with its reason erased satisfies the relation.
 pub of_reason : (P : Result Match Reason → Type 0) (result : Result Match Whole)

@@ -17,7 +17,6 @@ use Rattle.restamp_formats.specs.MissingField.{always, each_always, one_always, 
 use Rattle.restamp_formats.specs.MissingFieldSteps.{step_has}
 use Rattle.restamp_formats.specs.declared.missing_field.Kind.{Kind}
 use Rattle.restamp_formats.specs.declared.missing_field.Part.{Part}
-use Rattle.restamp_formats.specs.declared.missing_field.Kind.TheVariants as kind
 use Rattle.restamp_formats.proofs.MissingFieldRecords.{put_tells, said}
 
 -- ---- The parts of a row of steps, step by step
@@ -39,8 +38,7 @@ module _ (k : Kind) where
 
   in_two : (n : ℕ) (steps : List Step)
       → (list_any (step_has k) (take n steps) || list_any (step_has k) (drop n steps)) ≡ list_any (step_has k) steps
-  in_two n steps =
-      sym (list_any-append (step_has k) (take n steps) (drop n steps)) ∙ ap (list_any (step_has k)) (take-append-drop n steps)
+  in_two n steps = rw (← list_any-append (step_has k) (take n steps) (drop n steps), take-append-drop n steps)
 
   steps_say : (n : ℕ) (steps : List Step) → length steps ≤ n → one_has k (trees_in n steps) ≡ list_any (step_has k) steps
   unfolding trees_in
@@ -51,55 +49,38 @@ module _ (k : Kind) where
       steps_say n (drop (length (further steps)) steps) (omega (arith, length-drop (length (further steps)) steps)) ∙ further_silent steps
   steps_say (suc n) (step.More b ∷ steps) fits =
       steps_say n (drop (length (further steps)) steps) (omega (arith, length-drop (length (further steps)) steps)) ∙ further_silent steps
-  steps_say (suc n) (step.Component c ∷ steps) fits =
-      ap (λ (b : Bool). step_has k (step.Component c) || b) (steps_say n steps (omega arith))
+  steps_say (suc n) (step.Component c ∷ steps) fits = rw (steps_say n steps (omega arith))
   steps_say (suc n) (step.Group g len ∷ steps) fits =
-      ap (λ (b : Bool). b || one_has k (trees_in n (drop len steps)))
-      (group_says g (trees_in n (take len steps)) ∙ steps_say n (take len steps) (omega (arith, length-take len steps)))
-      ∙ ap (λ (b : Bool). list_any (step_has k) (take len steps) || b) (steps_say n (drop len steps) (omega (arith, length-drop len steps)))
-      ∙ in_two len steps
+      rw (
+        group_says g (trees_in n (take len steps)),
+        steps_say n (take len steps) (omega (arith, length-take len steps)),
+        steps_say n (drop len steps) (omega (arith, length-drop len steps)),
+      ) (in_two len steps)
 
   -- a row gives what one of its steps gives
   pub row_says : (steps : List Step) → one_has k (steps_trees steps) ≡ list_any (step_has k) steps
   row_says steps = steps_say (length steps) steps (omega arith)
 
+-- a row without steps, and the first step of another row
 module _ (p : Part) (steps : List Step) where
   pub one_always-end : length steps ≤ 0 → false ≡ one_always p (steps_trees steps)
-  one_always-end none = ap (one_always p) (sym (steps_trees-end steps none))
+  one_always-end none = rw (steps_trees-end steps none)
 
   pub each_always-end : length steps ≤ 0 → true ≡ each_always p (steps_trees steps)
-  each_always-end none = ap (each_always p) (sym (steps_trees-end steps none))
+  each_always-end none = rw (steps_trees-end steps none)
 
   module _ (x : Step) (some : 1 ≤ length steps) (is : x ≡ get_or steps 0 x) where
     abbrev lack_first : Bool
     lack_first = always p (tree_at steps_trees x (behind_first steps))
 
-    abbrev after_first : List Step
-    after_first = steps_after x (behind_first steps)
+    abbrev after_first : Trees
+    after_first = steps_trees (steps_after x (behind_first steps))
 
-    pub one_always-here : (here : Bool) → here ≡ true → here ≡ lack_first → here ≡ one_always p (steps_trees steps)
-    one_always-here true holds e =
-        ap (λ (b : Bool). b || one_always p (steps_trees after_first)) e ∙ sym (ap (one_always p) (first_item steps x some is))
-    one_always-here false holds e = absurd cc
+    pub one_always-step : one_always p (steps_trees steps) ≡ (lack_first || one_always p after_first)
+    one_always-step = rw (first_item steps x some is)
 
-    pub one_always-later : (here later : Bool) (after : List Step) → here ≡ false → here ≡ lack_first → after ≡ after_first
-        → later ≡ one_always p (steps_trees after) → later ≡ one_always p (steps_trees steps)
-    one_always-later true later after fails e f rest = absurd cc
-    one_always-later false later after fails e f rest =
-        rest ∙ ap (λ ys. one_always p (steps_trees ys)) f ∙ ap (λ (b : Bool). b || one_always p (steps_trees after_first)) e
-        ∙ sym (ap (one_always p) (first_item steps x some is))
-
-    pub each_always-later : (here later : Bool) (after : List Step) → here ≡ true → here ≡ lack_first → after ≡ after_first
-        → later ≡ each_always p (steps_trees after) → later ≡ each_always p (steps_trees steps)
-    each_always-later false later after holds e f rest = absurd cc
-    each_always-later true later after holds e f rest =
-        rest ∙ ap (λ ys. each_always p (steps_trees ys)) f ∙ ap (λ (b : Bool). b && each_always p (steps_trees after_first)) e
-        ∙ sym (ap (each_always p) (first_item steps x some is))
-
-    pub each_always-not : (here : Bool) → here ≡ false → here ≡ lack_first → here ≡ each_always p (steps_trees steps)
-    each_always-not true fails e = absurd cc
-    each_always-not false fails e =
-        ap (λ (b : Bool). b && each_always p (steps_trees after_first)) e ∙ sym (ap (each_always p) (first_item steps x some is))
+    pub each_always-step : each_always p (steps_trees steps) ≡ (lack_first && each_always p after_first)
+    each_always-step = rw (first_item steps x some is)
 
 -- a choice of items has a part if each item has it; an empty choice has no part
 pub choice_always-some : (p : Part) (steps : List Step) → 1 ≤ length steps
@@ -109,7 +90,7 @@ choice_always-some p [] some = absurd (omega arith)
 choice_always-some p (s ∷ steps) some = refl
 
 pub choice_always-none : (p : Part) (steps : List Step) → length steps ≤ 0 → false ≡ always p (first_of (steps_trees steps))
-choice_always-none p steps none = ap (λ ts. always p (first_of ts)) (sym (steps_trees-end steps none))
+choice_always-none p steps none = rw (steps_trees-end steps none)
 
 pub or_left : (a b : Bool) → a ≡ true → (a || b) ≡ true
 or_left a b e = ap (λ (x : Bool). x || b) e
@@ -122,15 +103,10 @@ pub either : {A B C : Type 0} → A ⊎ B → (A → C) → (B → C) → C
 either (inl a) f g = f a
 either (inr b) f g = g b
 
--- the first of two gives the part, or something else holds
-lack_here : (a b : Bool) {C : Type 0} → (a ≡ true) ⊎ C → ((a || b) ≡ true) ⊎ C
-lack_here a b (inl e) = inl (or_left a b e)
-lack_here a b (inr c) = inr c
-
--- the second gives the part, or, if something else holds, the first does
-there : (a b : Bool) {C D : Type 0} → (b ≡ true) ⊎ D → (D → (a ≡ true) ⊎ C) → ((a || b) ≡ true) ⊎ C
-there a b (inl e) f = inl (or_right a b e)
-there a b (inr d) f = lack_here a b (f d)
+-- the later trees give a part, or it was in the record after the first, which gives it or found it in the record before
+from_either : (first later between before : Bool) → (later || between) ≡ true → (between ≡ true → (first || before) ≡ true)
+    → ((first || later) || before) ≡ true
+from_either first later between before is then = grind arith
 
 module _ (Y : ℕ) (k : Kind) where
   mutual
@@ -138,27 +114,28 @@ module _ (Y : ℕ) (k : Kind) where
 
     -- a part of the record after a reading was in it before, or the tree gives it
     pub only : (t : Tree) (b : List ℕ) (r : Record) (rest : List ℕ) (q : Record) → Reads Y t b r rest q → said k q ≡ true
-        → (says k t ≡ true) ⊎ (said k r ≡ true)
-    only (tree_literal text) b r rest q h s = inr (ap (said k) (sym h.1) ∙ s)
-    only (component w c) b r rest q h s =
-        or_cases (same (kind_of c) k) (said k r) (sym (put_tells Y k c h.value r q h.puts) ∙ s)
+        → (says k t || said k r) ≡ true
+    only (tree_literal text) b r rest q h s = ap (said k) (sym h.1) ∙ s
+    only (component w c) b r rest q h s = sym (put_tells Y k c h.value r q h.puts) ∙ s
     only (sequence ts) b r rest q h s = only_all ts b r rest q h s
     only (optional t) b r rest q (inl h) s = only t b r rest q h s
-    only (optional t) b r rest q (inr h) s = inr (ap (said k) (sym h.2) ∙ s)
-    only (first_of tree_none) b r rest q h s = inr (ap (said k) (sym h.1) ∙ s)
+    only (optional t) b r rest q (inr h) s = or_right (says k t) (said k r) (ap (said k) (sym h.2) ∙ s)
+    only (first_of tree_none) b r rest q h s = ap (said k) (sym h.1) ∙ s
     only (first_of (more t ts)) b r rest q h s = only_some (more t ts) b r rest q h s
 
     only_all : (ts : Trees) (b : List ℕ) (r : Record) (rest : List ℕ) (q : Record) → ReadsAll Y ts b r rest q → said k q ≡ true
-        → (one_has k ts ≡ true) ⊎ (said k r ≡ true)
-    only_all tree_none b r rest q h s = inr (ap (said k) (sym h.1) ∙ s)
+        → (one_has k ts || said k r) ≡ true
+    only_all tree_none b r rest q h s = ap (said k) (sym h.1) ∙ s
     only_all (more t ts) b r rest q (mid, p, h, hs) s =
-        there (says k t) (one_has k ts) (only_all ts mid p rest q hs s) (λ e. only t b r mid p h e)
+        from_either (says k t) (one_has k ts) (said k p) (said k r) (only_all ts mid p rest q hs s) (only t b r mid p h)
 
     only_some : (ts : Trees) (b : List ℕ) (r : Record) (rest : List ℕ) (q : Record) → ReadsSome Y ts b r rest q → said k q ≡ true
-        → (one_has k ts ≡ true) ⊎ (said k r ≡ true)
+        → (one_has k ts || said k r) ≡ true
     only_some tree_none b r rest q h s = absurd h
-    only_some (more t ts) b r rest q (inl h) s = lack_here (says k t) (one_has k ts) (only t b r rest q h s)
-    only_some (more t ts) b r rest q (inr h) s = there (says k t) (one_has k ts) (only_some ts b r rest q h.1 s) inr
+    only_some (more t ts) b r rest q (inl h) s =
+        from_either (says k t) (one_has k ts) true (said k r) (or_right (one_has k ts) true refl) (λ e. only t b r rest q h s)
+    only_some (more t ts) b r rest q (inr h) s =
+        from_either (says k t) (one_has k ts) (said k r) (said k r) (only_some ts b r rest q h.1 s) (or_right (says k t) (said k r))
 
 -- the record has a value that gives the part
 pub record SaysPart (p : Part) (r : Record) : Type 0 where
@@ -167,25 +144,7 @@ pub record SaysPart (p : Part) (r : Record) : Type 0 where
   pub said : said of r ≡ true
 
 same-one : (k : Kind) → same k k ≡ true
-same-one kind.Year = refl
-same-one kind.YearCentury = refl
-same-one kind.YearLastTwo = refl
-same-one kind.IsoYear = refl
-same-one kind.IsoYearCentury = refl
-same-one kind.IsoYearLastTwo = refl
-same-one kind.Month = refl
-same-one kind.Day = refl
-same-one kind.Ordinal = refl
-same-one kind.Weekday = refl
-same-one kind.IsoWeek = refl
-same-one kind.SundayWeek = refl
-same-one kind.MondayWeek = refl
-same-one kind.Hour = refl
-same-one kind.HourOfHalf = refl
-same-one kind.Half = refl
-same-one kind.OffsetHour = refl
-same-one kind.Count = refl
-same-one kind.Other = refl
+same-one k = grind arith
 
 module _ (Y : ℕ) (p : Part) where
   mutual

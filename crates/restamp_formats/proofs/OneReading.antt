@@ -1,6 +1,6 @@
 -- A text has exactly one reading.
-use Rattle.std.proofs.Common.{◌≡◌, ℕ, zero, suc, ℤ, pos, Bool, true, false, List, [], ◌∷◌, sym, ap, subst, arith, ◌∙◌, None, Some, Ok, Err}
-use Rattle.std.specs.Prelude.{Option, Result, ◌-ℤ◌, MatchOption, MatchResult, MatchBool}
+use Rattle.std.proofs.Common.{◌≡◌, ℕ, zero, suc, ℤ, pos, Bool, true, false, List, [], ◌∷◌, sym, ap, subst, arith, ◌∙◌, None, Ok, Err}
+use Rattle.std.specs.Prelude.{Result, ◌-ℤ◌, MatchOption, MatchResult, MatchBool}
 use Rattle.std.proofs.lemmas.Int.{ints}
 use Rattle.time_values.specs.Moments.{offset_of}
 use Rattle.time_values.specs.Offsets.{IsUtc}
@@ -8,7 +8,6 @@ use Rattle.time_values.specs.Calendar.{greatest_year}
 use Rattle.time_values.specs.Refusal.{Refusal}
 use Rattle.time_values.specs.declared.offset_date_time.OffsetDateTime.{OffsetDateTime}
 use Rattle.time_values.specs.declared.utc_offset.UtcOffset.{UtcOffset}
-use Rattle.time_zones.specs.declared.zones.Zones.{Zones}
 use Rattle.time_zones.proofs.FolderLemmas.{one_answer, same_offset_by_seconds}
 use Rattle.time_record.specs.Reading as Description
 use Rattle.time_record.specs.Record.{Record, empty}
@@ -31,7 +30,7 @@ use Rattle.restamp_formats.specs.declared.reading.Defaults.{Defaults}
 use Rattle.restamp_formats.specs.declared.reading.Reading.{Reading}
 use Rattle.restamp_formats.specs.declared.reading.Reading.TheVariants as reading
 use Rattle.restamp_formats.specs.declared.reading.Match.{Match}
-use Rattle.restamp_formats.proofs.OneWriting.{one_suffixed}
+use Rattle.restamp_formats.proofs.OneWriting.{both_are, one_bool, one_option, one_suffixed}
 
 one_read_by : (is_prefix : Bool) (path : Path) (reads : Outcome.Reading) (refuses : Refusing)
     → IsExact reads refuses → IsExactPath greatest_year path reads refuses
@@ -91,16 +90,12 @@ one_read (reading.Counted d) is_prefix text defaults a b p q =
     (tree_exact greatest_year (steps_shape d)) text defaults a b p q
 
 -- the further rules of a format have one result
-one_guarded : (zones : Option Zones) (is_prefix : Bool) (text : List ℕ) (s : Match) (kept a b : Result Match Reason)
-    → MatchOption zones (a ≡ kept) (λ z. IsSuffixed z is_prefix text s a)
-    → MatchOption zones (b ≡ kept) (λ z. IsSuffixed z is_prefix text s b) → a ≡ b
-one_guarded None is_prefix text s kept a b p q = p ∙ sym q
-one_guarded (Some z) is_prefix text s kept a b p q = one_suffixed z text s is_prefix a b p q
-
 one_told : (format : Reading) (is_prefix : Bool) (text : List ℕ) (outcome : Result Match Refusal) (a b : Result Match Reason)
     → MatchResult outcome (λ s. IsGuarded format is_prefix text s a) (λ e. a ≡ Err (unread e))
     → MatchResult outcome (λ s. IsGuarded format is_prefix text s b) (λ e. b ≡ Err (unread e)) → a ≡ b
-one_told format is_prefix text (Ok s) a b p q = one_guarded (zones_of format) is_prefix text s (guarded format text s) a b p q
+one_told format is_prefix text (Ok s) a b p q =
+    one_option (zones_of format) (λ x. x ≡ guarded format text s) (λ z x. IsSuffixed z is_prefix text s x) a b both_are
+    (λ z. one_suffixed z text s is_prefix a b) p q
 one_told format is_prefix text (Err e) a b p q = p ∙ sym q
 
 pub one_has : (format : Reading) (is_prefix : Bool) (text : List ℕ) (defaults : Defaults) (a b : Result Match Reason)
@@ -144,20 +139,14 @@ one_on clocks format is_prefix text defaults a b p q =
     (λ o i j. one_has format is_prefix text (at_offset o defaults) a b i j) (λ why i j. i ∙ sym j) u.2 v.2)
     (λ why u v. u ∙ sym v) p.4 q.4
 
-one_unplaced : (clocks : Option Clocks) (format : Reading) (is_prefix : Bool) (text : List ℕ) (defaults : Defaults) (e : Reason)
-    (a b : Result Match Reason)
-    → MatchOption clocks (a ≡ Err e) (λ c. ParsesInZone greatest_year c format is_prefix text defaults a)
-    → MatchOption clocks (b ≡ Err e) (λ c. ParsesInZone greatest_year c format is_prefix text defaults b) → a ≡ b
-one_unplaced None format is_prefix text defaults e a b p q = p ∙ sym q
-one_unplaced (Some c) format is_prefix text defaults e a b p q = one_on c format is_prefix text defaults a b p q
-
 one_locally : (format : Reading) (is_prefix : Bool) (text : List ℕ) (defaults : Defaults) (a b : Result Match Reason)
     → ParsesLocally greatest_year format is_prefix text defaults a → ParsesLocally greatest_year format is_prefix text defaults b → a ≡ b
 one_locally format is_prefix text defaults a b p q =
     one_after p.0 q.0 (λ s x. x ≡ Ok s)
     (λ e x. MatchOption defaults.clocks (x ≡ Err e) (λ c. ParsesInZone greatest_year c format is_prefix text defaults x)) a b
-    (one_has format is_prefix text defaults p.0 q.0 p.1 q.1) (λ s u v. u ∙ sym v)
-    (λ e u v. one_unplaced defaults.clocks format is_prefix text defaults e a b u v) p.2 q.2
+    (one_has format is_prefix text defaults p.0 q.0 p.1 q.1) (λ s. both_are)
+    (λ e. one_option defaults.clocks (λ x. x ≡ Err e) (λ c x. ParsesInZone greatest_year c format is_prefix text defaults x) a b both_are
+    (λ c. one_on c format is_prefix text defaults a b)) p.2 q.2
 
 -- the consequence of a rejection in a year
 abbrev Passes : ℕ → Undated → ℤ → Reason → Result Match Reason → Type 0
@@ -165,71 +154,34 @@ Passes n u year why result =
     (final : Bool) × IsFinal greatest_year u year why final
     × MatchBool final (result ≡ Err why) (AreYearsTried greatest_year u n (year -ℤ pos 1) why result)
 
--- the consequence of a result in a year
-abbrev Follows : ℕ → Undated → ℤ → Reason → Result Match Reason → Result Match Reason → Type 0
-Follows n u year reason read result =
-    MatchResult read
-    (λ s. MatchBool (is_after greatest_year s.moment u.latest)
-    (AreYearsTried greatest_year u n (year -ℤ pos 1) reason result) (result ≡ Ok s))
-    (λ why. Passes n u year why result)
+one_final : (u : Undated) (year : ℤ) (why : Reason) (a b : Bool)
+    → IsFinal greatest_year u year why a → IsFinal greatest_year u year why b → a ≡ b
+one_final u year why a b p q =
+    one_bool (is_local_time_error why) (λ x. IsEarly greatest_year u year x) (λ x. x ≡ false) a b
+    (λ i j. i.2 ∙ ap (is_early greatest_year u.latest)
+    (one_has u.format u.is_prefix u.text (at_offset (offset_of u.latest) (in_year year u.offset u.clocks)) i.0 j.0 i.1 j.1) ∙ sym j.2)
+    both_are p q
 
--- the earlier years have one result
-abbrev OneBefore : ℕ → Undated → ℤ → Type 0
-OneBefore n u year = (why : Reason) (a b : Result Match Reason)
-    → AreYearsTried greatest_year u n (year -ℤ pos 1) why a → AreYearsTried greatest_year u n (year -ℤ pos 1) why b → a ≡ b
-
-one_late : (late : Bool) (n : ℕ) (u : Undated) (year : ℤ) (reason : Reason) (s : Match) (a b : Result Match Reason) → OneBefore n u year
-    → MatchBool late (AreYearsTried greatest_year u n (year -ℤ pos 1) reason a) (a ≡ Ok s)
-    → MatchBool late (AreYearsTried greatest_year u n (year -ℤ pos 1) reason b) (b ≡ Ok s) → a ≡ b
-one_late true n u year reason s a b before p q = before reason a b p q
-one_late false n u year reason s a b before p q = p ∙ sym q
-
-one_passed : (final : Bool) (n : ℕ) (u : Undated) (year : ℤ) (why : Reason) (a b : Result Match Reason) → OneBefore n u year
-    → MatchBool final (a ≡ Err why) (AreYearsTried greatest_year u n (year -ℤ pos 1) why a)
-    → MatchBool final (b ≡ Err why) (AreYearsTried greatest_year u n (year -ℤ pos 1) why b) → a ≡ b
-one_passed true n u year why a b before p q = p ∙ sym q
-one_passed false n u year why a b before p q = before why a b p q
-
-one_final_by : (of_clocks : Bool) (u : Undated) (year : ℤ) (a b : Bool)
-    → MatchBool of_clocks (IsEarly greatest_year u year a) (a ≡ false)
-    → MatchBool of_clocks (IsEarly greatest_year u year b) (b ≡ false) → a ≡ b
-one_final_by true u year a b p q =
-    p.2 ∙ ap (is_early greatest_year u.latest)
-    (one_has u.format u.is_prefix u.text (at_offset (offset_of u.latest) (in_year year u.offset u.clocks)) p.0 q.0 p.1 q.1) ∙ sym q.2
-one_final_by false u year a b p q = p ∙ sym q
-
-one_passing : (n : ℕ) (u : Undated) (year : ℤ) (why : Reason) (a b : Result Match Reason) → OneBefore n u year
+one_passing : (n : ℕ) (u : Undated) (year : ℤ) (why : Reason) (a b : Result Match Reason)
+    → (AreYearsTried greatest_year u n (year -ℤ pos 1) why a → AreYearsTried greatest_year u n (year -ℤ pos 1) why b → a ≡ b)
     → Passes n u year why a → Passes n u year why b → a ≡ b
 one_passing n u year why a b before p q =
-    one_passed q.0 n u year why a b before
+    one_bool q.0 (λ x. x ≡ Err why) (λ x. AreYearsTried greatest_year u n (year -ℤ pos 1) why x) a b both_are before
     (subst (λ (final : Bool). MatchBool final (a ≡ Err why) (AreYearsTried greatest_year u n (year -ℤ pos 1) why a))
-    (one_final_by (is_local_time_error why) u year p.0 q.0 p.1 q.1) p.2) q.2
-
-one_following : (n : ℕ) (u : Undated) (year : ℤ) (reason : Reason) (read a b : Result Match Reason)
-    → OneBefore n u year → Follows n u year reason read a → Follows n u year reason read b → a ≡ b
-one_following n u year reason (Ok s) a b before p q =
-    one_late (is_after greatest_year s.moment u.latest) n u year reason s a b before p q
-one_following n u year reason (Err why) a b before p q =
-    one_passing n u year why a b before p q
+    (one_final u year why p.0 q.0 p.1 q.1) p.2) q.2
 
 one_years : (n : ℕ) (u : Undated) (year : ℤ) (reason : Reason) (a b : Result Match Reason)
     → AreYearsTried greatest_year u n year reason a → AreYearsTried greatest_year u n year reason b → a ≡ b
 unfolding AreYearsTried
 one_years zero u year reason a b p q = p ∙ sym q
 one_years (suc n) u year reason a b p q =
-    one_following n u year reason q.0 a b (λ why x y. one_years n u (year -ℤ pos 1) why x y)
-    (subst (λ (read : Result Match Reason). Follows n u year reason read a)
-    (one_locally u.format u.is_prefix u.text (in_year year u.offset u.clocks) p.0 q.0 p.1 q.1) p.2) q.2
-
--- a text without a default year has one result
-one_latest : (latest : Option OffsetDateTime) (format : Reading) (is_prefix : Bool) (text : List ℕ) (offset : Option UtcOffset) (clocks : Option Clocks)
-    (e : Reason) (a b : Result Match Reason)
-    → MatchOption latest (a ≡ Err e) (λ v. AreYearsTried greatest_year (undated format is_prefix text offset clocks v) 10 (year_after v) e a)
-    → MatchOption latest (b ≡ Err e) (λ v. AreYearsTried greatest_year (undated format is_prefix text offset clocks v) 10 (year_after v) e b)
-    → a ≡ b
-one_latest None format is_prefix text offset clocks e a b p q = p ∙ sym q
-one_latest (Some v) format is_prefix text offset clocks e a b p q =
-    one_years 10 (undated format is_prefix text offset clocks v) (year_after v) e a b p q
+    one_after p.0 q.0
+    (λ s x. MatchBool (is_after greatest_year s.moment u.latest) (AreYearsTried greatest_year u n (year -ℤ pos 1) reason x) (x ≡ Ok s))
+    (λ why x. Passes n u year why x) a b
+    (one_locally u.format u.is_prefix u.text (in_year year u.offset u.clocks) p.0 q.0 p.1 q.1)
+    (λ s. one_bool (is_after greatest_year s.moment u.latest) (λ x. AreYearsTried greatest_year u n (year -ℤ pos 1) reason x) (λ x. x ≡ Ok s) a b
+    (one_years n u (year -ℤ pos 1) reason a b) both_are)
+    (λ why. one_passing n u year why a b (one_years n u (year -ℤ pos 1) why a b)) p.2 q.2
 
 pub one_dated : (format : Reading) (is_prefix : Bool) (text : List ℕ) (defaults : Defaults) (a b : Result Match Reason)
     → IsDated greatest_year format is_prefix text defaults a → IsDated greatest_year format is_prefix text defaults b → a ≡ b
@@ -237,8 +189,10 @@ one_dated format is_prefix text defaults a b p q =
     one_after p.0 q.0 (λ s x. x ≡ Ok s)
     (λ e x. MatchOption defaults.latest (x ≡ Err e)
     (λ v. AreYearsTried greatest_year (undated format is_prefix text defaults.offset defaults.clocks v) 10 (year_after v) e x)) a b
-    (one_locally format is_prefix text defaults p.0 q.0 p.1 q.1) (λ s u v. u ∙ sym v)
-    (λ e u v. one_latest defaults.latest format is_prefix text defaults.offset defaults.clocks e a b u v) p.2 q.2
+    (one_locally format is_prefix text defaults p.0 q.0 p.1 q.1) (λ s. both_are)
+    (λ e. one_option defaults.latest (λ x. x ≡ Err e)
+    (λ v x. AreYearsTried greatest_year (undated format is_prefix text defaults.offset defaults.clocks v) 10 (year_after v) e x) a b both_are
+    (λ v. one_years 10 (undated format is_prefix text defaults.offset defaults.clocks v) (year_after v) e a b)) p.2 q.2
 
 one_tried : (formats : List Reading) (is_prefix : Bool) (text : List ℕ) (defaults : Defaults) (reason : Reason)
     (a b : Result Match Reason)
@@ -247,8 +201,8 @@ one_tried : (formats : List Reading) (is_prefix : Bool) (text : List ℕ) (defau
 one_tried [] is_prefix text defaults reason a b p q = p ∙ sym q
 one_tried (format ∷ formats) is_prefix text defaults reason a b p q =
     one_after p.0 q.0 (λ s x. x ≡ Ok s) (λ _ x. AreTried greatest_year formats is_prefix text defaults reason x) a b
-    (one_dated format is_prefix text defaults p.0 q.0 p.1 q.1) (λ s u v. u ∙ sym v)
-    (λ e u v. one_tried formats is_prefix text defaults reason a b u v) p.2 q.2
+    (one_dated format is_prefix text defaults p.0 q.0 p.1 q.1) (λ s. both_are)
+    (λ e. one_tried formats is_prefix text defaults reason a b) p.2 q.2
 
 pub one_in_turn : (format : Reading) (formats : List Reading) (is_prefix : Bool) (text : List ℕ) (defaults : Defaults)
     (a b : Result Match Reason)
@@ -256,5 +210,5 @@ pub one_in_turn : (format : Reading) (formats : List Reading) (is_prefix : Bool)
     → IsReadInTurn greatest_year format formats is_prefix text defaults b → a ≡ b
 one_in_turn format formats is_prefix text defaults a b p q =
     one_after p.0 q.0 (λ s x. x ≡ Ok s) (λ e x. AreTried greatest_year formats is_prefix text defaults e x) a b
-    (one_dated format is_prefix text defaults p.0 q.0 p.1 q.1) (λ s u v. u ∙ sym v)
-    (λ e u v. one_tried formats is_prefix text defaults e a b u v) p.2 q.2
+    (one_dated format is_prefix text defaults p.0 q.0 p.1 q.1) (λ s. both_are)
+    (λ e. one_tried formats is_prefix text defaults e a b) p.2 q.2

@@ -18,7 +18,7 @@ use Rattle.time_zones.specs.declared.suffix.Suffixed.{Suffixed}
 use Rattle.time_zones.specs.declared.zones.Zones.{Zones}
 use Rattle.time_zones.proofs.FolderLemmas.{same_offset_by_seconds, one_check}
 use Rattle.time_zones.proofs.LongestLemmas.{suffix_once}
-use Rattle.time_writing.specs.Texts.{Writes, WritesSuch, IsMailText, mail_text}
+use Rattle.time_writing.specs.Texts.{WritesSuch, IsMailText, mail_text}
 use Rattle.time_writing.specs.declared.parts.FractionDigits.{FractionDigits}
 use Rattle.time_writing.specs.declared.parts.Unwritable.{Unwritable}
 use Rattle.restamp_formats.specs.Zoned.{IsConvertedTo, IsConvertedIn, IsConverted, conversion_error, IsChecked, IsLongestSuffix, IsSuffixed, Suffix, checked, extended, has_tail, tells_offset}
@@ -28,12 +28,26 @@ use Rattle.restamp_formats.specs.declared.clock.Clock.{Clock}
 use Rattle.restamp_formats.specs.declared.clock.Clock.TheVariants as clock
 use Rattle.restamp_formats.specs.declared.form.Form.{Form}
 use Rattle.restamp_formats.specs.declared.form.Unit.{Unit as Unit_}
-use Rattle.restamp_formats.specs.declared.form.Unit.TheVariants.{Seconds, Milliseconds, Microseconds, Nanoseconds}
 use Rattle.restamp_formats.specs.declared.form.Named.{Named as Named_}
 use Rattle.restamp_formats.specs.declared.form.Named.TheVariants.{Rfc3339, Rfc2822, Iso8601, Count}
 use Rattle.restamp_formats.specs.declared.form.Writing.{Writing}
 use Rattle.restamp_formats.specs.declared.form.Writing.TheVariants.{Named, Described}
 use Rattle.restamp_formats.specs.declared.reading.Match.{Match}
+
+-- Two things of which each is such a thing are equal, if such things are equal for each value, or for each truth value.
+pub both_are : {X : Type 0} {x y z : X} → x ≡ z → y ≡ z → x ≡ y
+both_are p q = p ∙ sym q
+
+pub one_option : {V X : Type 0} (o : Option V) (P : X → Type 0) (Q : V → X → Type 0) (x y : X)
+    → (P x → P y → x ≡ y) → ((v : V) → Q v x → Q v y → x ≡ y)
+    → MatchOption o (P x) (λ v. Q v x) → MatchOption o (P y) (λ v. Q v y) → x ≡ y
+one_option None P Q x y none some p q = none p q
+one_option (Some v) P Q x y none some p q = some v p q
+
+pub one_bool : {X : Type 0} (b : Bool) (P Q : X → Type 0) (x y : X)
+    → (P x → P y → x ≡ y) → (Q x → Q y → x ≡ y) → MatchBool b (P x) (Q x) → MatchBool b (P y) (Q y) → x ≡ y
+one_bool true P Q x y one other p q = one p q
+one_bool false P Q x y one other p q = other p q
 
 -- the local date and time of a moment
 clock_is : (v : OffsetDateTime)
@@ -81,28 +95,18 @@ one_shown (clock.Zone zone) v a b p q = one_shown_in zone v a b p q
 same_items : (s t : Items) → s.items ≡ t.items → s ≡ t
 same_items s t e = λ j. record { items = e j }
 
-one_text : (reason : Option Unwritable) (bytes : List ℕ) (a b : Result Items Unwritable)
-    → Writes reason bytes a → Writes reason bytes b → a ≡ b
-one_text (Some why) bytes a b p q = p ∙ sym q
-one_text None bytes (Ok s) (Ok t) p q = ap Ok (same_items s t (p ∙ sym q))
-one_text None bytes (Ok s) (Err e) p q = absurd q
-one_text None bytes (Err e) b p q = absurd p
+one_such : (reason : Option Unwritable) (such : List ℕ → Type 0) (a b : Result Items Unwritable)
+    → ((s t : List ℕ) → such s → such t → s ≡ t) → WritesSuch reason such a → WritesSuch reason such b → a ≡ b
+one_such (Some why) such a b one p q = p ∙ sym q
+one_such None such (Ok s) (Ok t) one p q = ap Ok (same_items s t (one s.items t.items p q))
+one_such None such (Ok s) (Err e) one p q = absurd q
+one_such None such (Err e) b one p q = absurd p
 
 one_mail_text : (v : OffsetDateTime) (s t : List ℕ) → IsMailText v s → IsMailText v t → s ≡ t
 one_mail_text v s t p q = p.2 ∙ ap (λ w. mail_text w v) (same_weekday p.0 q.0 (p.1 ∙ sym q.1)) ∙ sym q.2
 
-one_mail : (reason : Option Unwritable) (v : OffsetDateTime) (a b : Result Items Unwritable)
-    → WritesSuch reason (IsMailText v) a → WritesSuch reason (IsMailText v) b → a ≡ b
-one_mail (Some why) v a b p q = p ∙ sym q
-one_mail None v (Ok s) (Ok t) p q = ap Ok (same_items s t (one_mail_text v s.items t.items p q))
-one_mail None v (Ok s) (Err e) p q = absurd q
-one_mail None v (Err e) b p q = absurd p
-
 one_whole : (unit : Unit_) (n x y : ℤ) → IsWhole (unit_of unit) n x → IsWhole (unit_of unit) n y → x ≡ y
-one_whole Seconds n x y p q = omega (arith, ints)
-one_whole Milliseconds n x y p q = omega (arith, ints)
-one_whole Microseconds n x y p q = omega (arith, ints)
-one_whole Nanoseconds n x y p q = omega (arith, ints)
+one_whole unit n x y p q = grind (arith, ints)
 
 one_count : (unit : Unit_) (v : OffsetDateTime) (a b : Result Items Reason)
     → IsCounted greatest_year unit v a → IsCounted greatest_year unit v b → a ≡ b
@@ -114,9 +118,9 @@ one_count unit v (Err e) (Err f) p q = ap Err (p.0 ∙ sym q.0)
 
 one_named : (named : Named_) (digits : FractionDigits) (v : OffsetDateTime) (a b : Result Items Reason)
     → IsNamedText greatest_year named digits v a → IsNamedText greatest_year named digits v b → a ≡ b
-one_named Rfc3339 digits v a b p q = p.2 ∙ ap written (one_text _ _ p.0 q.0 p.1 q.1) ∙ sym q.2
-one_named Rfc2822 digits v a b p q = p.2 ∙ ap written (one_mail _ v p.0 q.0 p.1 q.1) ∙ sym q.2
-one_named Iso8601 digits v a b p q = p.2 ∙ ap written (one_text _ _ p.0 q.0 p.1 q.1) ∙ sym q.2
+one_named Rfc3339 digits v a b p q = p.2 ∙ ap written (one_such _ (λ t. t ≡ _) p.0 q.0 (λ s t. both_are) p.1 q.1) ∙ sym q.2
+one_named Rfc2822 digits v a b p q = p.2 ∙ ap written (one_such _ (IsMailText v) p.0 q.0 (one_mail_text v) p.1 q.1) ∙ sym q.2
+one_named Iso8601 digits v a b p q = p.2 ∙ ap written (one_such _ (λ t. t ≡ _) p.0 q.0 (λ s t. both_are) p.1 q.1) ∙ sym q.2
 one_named (Count unit) digits v a b p q = one_count unit v a b p q
 
 one_by : (writing : Writing) (digits : FractionDigits) (v : OffsetDateTime) (a b : Result Items Reason)
@@ -124,19 +128,13 @@ one_by : (writing : Writing) (digits : FractionDigits) (v : OffsetDateTime) (a b
 one_by (Named named) digits v a b p q = one_named named digits v a b p q
 one_by (Described d) digits v a b p q = p ∙ sym q
 
-one_at : (form : Form) (shown other : Option OffsetDateTime) (a b : Result Items Reason) → shown ≡ other
-    → MatchOption shown (a ≡ Err (conversion_error form.clock)) (λ w. IsWrittenBy greatest_year form.writing.now form.digits w a)
-    → MatchOption other (b ≡ Err (conversion_error form.clock)) (λ w. IsWrittenBy greatest_year form.writing.now form.digits w b) → a ≡ b
-one_at form None None a b e p q = p ∙ sym q
-one_at form None (Some w) a b e p q = absurd cc
-one_at form (Some v) None a b e p q = absurd cc
-one_at form (Some v) (Some w) a b e p q =
-    let same : v ≡ w = cc in
-    one_by form.writing.now form.digits w a b (subst (λ x. IsWrittenBy greatest_year form.writing.now form.digits x a) same p) q
-
 pub one_written : (form : Form) (v : OffsetDateTime) (a b : Result Items Reason)
     → IsWritten greatest_year form v a → IsWritten greatest_year form v b → a ≡ b
-one_written form v a b p q = one_at form p.0 q.0 a b (one_shown form.clock v p.0 q.0 p.1 q.1) p.2 q.2
+one_written form v a b p q =
+    one_option q.0 (λ x. x ≡ Err (conversion_error form.clock)) (λ w x. IsWrittenBy greatest_year form.writing.now form.digits w x) a b both_are
+    (λ w. one_by form.writing.now form.digits w a b)
+    (subst (λ (shown : Option OffsetDateTime). MatchOption shown (a ≡ Err (conversion_error form.clock))
+    (λ w. IsWrittenBy greatest_year form.writing.now form.digits w a)) (one_shown form.clock v p.0 q.0 p.1 q.1) p.2) q.2
 
 -- ---- A timestamp with a suffix: the longest suffix after it is unique, and so is the match of both
 
@@ -155,16 +153,11 @@ module _ (zones : Zones) (text : List ℕ) (front : Match) where
       p.2 ∙ ap (checked (extended front s.len))
       (one_check zones (tells_offset (take front.length text)) front.moment s.zone (critical_key s.tags) p.0 q.0 p.1 q.1) ∙ sym q.2
 
-  one_ended : (tail : Bool) (s : Suffix) (a b : Result Match Reason)
-      → MatchBool tail (a ≡ Err (unread trailing)) (IsChecked zones text front s a)
-      → MatchBool tail (b ≡ Err (unread trailing)) (IsChecked zones text front s b) → a ≡ b
-  one_ended true s a b p q = p ∙ sym q
-  one_ended false s a b p q = one_checked s a b p q
-
   pub one_suffixed : (is_prefix : Bool) (a b : Result Match Reason) → IsSuffixed zones is_prefix text front a
       → IsSuffixed zones is_prefix text front b → a ≡ b
   one_suffixed is_prefix a b p q =
-      one_ended (has_tail is_prefix text (front.length + q.0.len)) q.0 a b
+      one_bool (has_tail is_prefix text (front.length + q.0.len)) (λ x. x ≡ Err (unread trailing)) (λ x. IsChecked zones text front q.0 x) a b
+      both_are (one_checked q.0 a b)
       (subst (λ (s : Suffix). MatchBool (has_tail is_prefix text (front.length + s.len)) (a ≡ Err (unread trailing))
       (IsChecked zones text front s a)) (one_suffix (drop front.length text) p.0 q.0 p.1 q.1) p.2) q.2
 

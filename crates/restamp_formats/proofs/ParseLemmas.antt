@@ -52,7 +52,7 @@ on_true : (b : Bool) (P Q : Type 0) → b ≡ true → P → MatchBool b P Q
 on_true true P Q e p = p
 on_true false P Q e p = absurd cc
 
-pub on_false : (b : Bool) (P Q : Type 0) → b ≡ false → Q → MatchBool b P Q
+on_false : (b : Bool) (P Q : Type 0) → b ≡ false → Q → MatchBool b P Q
 on_false true P Q e q = absurd cc
 on_false false P Q e q = q
 
@@ -72,46 +72,38 @@ pub one_more : (y : ℤ) → FitsSigned w32 y → FitsSigned w32 (y +ℤ pos 1) 
 one_more y fits more = ap (λ (x : ℤ). to_z w32 (of_z w32 (x +ℤ pos 1))) (to_z-of_z w32 y fits) ∙ to_z-of_z w32 (y +ℤ pos 1) more
 
 -- a text without a year, in the years that are tried
-module _ (Y : ℕ) (u : Undated) (year : ℤ) (reason : Reason) (result : Result Match Reason) where
-  pub years-end : (n : ℕ) → n ≡ 0 → AreYearsTried Y u n year reason (Err reason)
+module _ (Y : ℕ) (u : Undated) (year : ℤ) (reason : Reason) where
+  -- the first of the years that are left
+  years-at : (n : ℕ) (result read : Result Match Reason) → 0 < n → IsReadInYear Y u year read
+      → MatchResult read
+      (λ s. MatchBool (is_after Y s.moment u.latest) (AreYearsTried Y u (n - 1) (year -ℤ pos 1) reason result) (result ≡ Ok s))
+      (λ why. (final : Bool) × IsFinal Y u year why final
+      × MatchBool final (result ≡ Err why) (AreYearsTried Y u (n - 1) (year -ℤ pos 1) why result))
+      → AreYearsTried Y u n year reason result
   unfolding AreYearsTried
-  years-end zero e = refl
-  years-end (suc n) e = absurd (omega arith)
+  years-at zero result read some in_year next = absurd (omega arith)
+  years-at (suc n) result read some in_year next = let k : suc n - 1 ≡ n = omega arith in (read, in_year, rw k at next)
 
-  pub years-late : (n : ℕ) (s : Match) → 0 < n → IsReadInYear Y u year (Ok s) → is_after Y s.moment u.latest ≡ true
-      → AreYearsTried Y u (n - 1) (year -ℤ pos 1) reason result → AreYearsTried Y u n year reason result
-  unfolding AreYearsTried
-  years-late zero s some read late later = absurd (omega arith)
-  years-late (suc n) s some read late later =
-      let k : suc n - 1 ≡ n = omega arith in (
-        Ok s,
-        read,
-        on_true (is_after Y s.moment u.latest) _ _ late
-            (subst (λ (m : ℕ). AreYearsTried Y u m (year -ℤ pos 1) reason result) k later),
-      )
+  module _ (result : Result Match Reason) where
+    pub years-end : (n : ℕ) → n ≡ 0 → AreYearsTried Y u n year reason (Err reason)
+    unfolding AreYearsTried
+    years-end n e = rw e refl
 
-  pub years-found : (n : ℕ) (s : Match) → 0 < n → IsReadInYear Y u year (Ok s) → is_after Y s.moment u.latest ≡ false
-      → AreYearsTried Y u n year reason (Ok s)
-  unfolding AreYearsTried
-  years-found zero s some read early = absurd (omega arith)
-  years-found (suc n) s some read early = (Ok s, read, on_false (is_after Y s.moment u.latest) _ _ early refl)
+    pub years-late : (n : ℕ) (s : Match) → 0 < n → IsReadInYear Y u year (Ok s) → is_after Y s.moment u.latest ≡ true
+        → AreYearsTried Y u (n - 1) (year -ℤ pos 1) reason result → AreYearsTried Y u n year reason result
+    years-late n s some read late later = years-at n result (Ok s) some read (on_true (is_after Y s.moment u.latest) _ _ late later)
 
-  pub years-final : (n : ℕ) (why : Reason) → 0 < n → IsReadInYear Y u year (Err why) → IsFinal Y u year why true
-      → AreYearsTried Y u n year reason (Err why)
-  unfolding AreYearsTried
-  years-final zero why some read final = absurd (omega arith)
-  years-final (suc n) why some read final = (Err why, read, (true, final, refl))
+    pub years-found : (n : ℕ) (s : Match) → 0 < n → IsReadInYear Y u year (Ok s) → is_after Y s.moment u.latest ≡ false
+        → AreYearsTried Y u n year reason (Ok s)
+    years-found n s some read early = years-at n (Ok s) (Ok s) some read (on_false (is_after Y s.moment u.latest) _ _ early refl)
 
-  pub years-refused : (n : ℕ) (why : Reason) → 0 < n → IsReadInYear Y u year (Err why) → IsFinal Y u year why false
-      → AreYearsTried Y u (n - 1) (year -ℤ pos 1) why result → AreYearsTried Y u n year reason result
-  unfolding AreYearsTried
-  years-refused zero why some read passed later = absurd (omega arith)
-  years-refused (suc n) why some read passed later =
-      let k : suc n - 1 ≡ n = omega arith in (
-        Err why,
-        read,
-        (false, passed, subst (λ (m : ℕ). AreYearsTried Y u m (year -ℤ pos 1) why result) k later),
-      )
+    pub years-final : (n : ℕ) (why : Reason) → 0 < n → IsReadInYear Y u year (Err why) → IsFinal Y u year why true
+        → AreYearsTried Y u n year reason (Err why)
+    years-final n why some read final = years-at n (Err why) (Err why) some read (true, final, refl)
+
+    pub years-refused : (n : ℕ) (why : Reason) → 0 < n → IsReadInYear Y u year (Err why) → IsFinal Y u year why false
+        → AreYearsTried Y u (n - 1) (year -ℤ pos 1) why result → AreYearsTried Y u n year reason result
+    years-refused n why some read passed later = years-at n result (Err why) some read (false, passed, later)
 
 -- the match of a text by the first of several formats
 pub in_turn-first : (Y : ℕ) (format : Reading) (formats : List Reading) (is_prefix : Bool) (text : List ℕ) (defaults : Defaults) (s : Match)
@@ -131,40 +123,25 @@ module _ (Y : ℕ) (format : Reading) (is_prefix : Bool) (text : List ℕ) (defa
       → ParsesLocally Y format is_prefix text defaults (Err e) → year ≡ year_after v
       → AreYearsTried Y (undated format is_prefix text defaults.offset defaults.clocks v) 10 year e result
       → IsDated Y format is_prefix text defaults result
-  dated-years v year result some says after tried = (
-    Err e,
-    says,
-    on_some defaults.latest v _ _ some
-        (subst (λ (y : ℤ). AreYearsTried Y (undated format is_prefix text defaults.offset defaults.clocks v) 10 y e result) after tried),
-  )
+  dated-years v year result some says after tried = (Err e, says, on_some defaults.latest v _ _ some (rw (← after) tried))
 
 -- ---- The match of a text as a local time in a zone
 
 module _ (Y : ℕ) (format : Reading) (is_prefix : Bool) (text : List ℕ) (defaults : Defaults) where
-  -- the match with equal defaults
-  with_same : (d e : Defaults) (r : Result Match Reason) → d ≡ e → ParsesAs Y format is_prefix text d r → ParsesAs Y format is_prefix text e r
-  with_same d e r same says = subst (λ (i : Defaults). ParsesAs Y format is_prefix text i r) same says
-
   -- the match in a zone: none in UTC, none by the zone, or the match at the zone's offset
   module _ (clocks : Clocks) (utc : UtcOffset) (d : Defaults) (same : d ≡ at_offset utc defaults) (is : IsUtc utc) where
     pub on-unread : (e : Reason) → ParsesAs Y format is_prefix text d (Err e) → ParsesInZone Y clocks format is_prefix text defaults (Err e)
-    on-unread e says = (utc, is, Err e, with_same d (at_offset utc defaults) (Err e) same says, refl)
+    on-unread e says = (utc, is, Err e, rw (← same) says, refl)
 
     pub on-refused : (s : Match) (why : Reason) → ParsesAs Y format is_prefix text d (Ok s) → IsOffsetWhen clocks s.moment (Err why)
         → ParsesInZone Y clocks format is_prefix text defaults (Err why)
     on-refused s why says when =
-        (utc, is, Ok s, with_same d (at_offset utc defaults) (Ok s) same says, (Err why, when, refl))
+        (utc, is, Ok s, rw (← same) says, (Err why, when, refl))
 
     pub on-shown : (s : Match) (o : UtcOffset) (e : Defaults) (r : Result Match Reason) → ParsesAs Y format is_prefix text d (Ok s)
         → IsOffsetWhen clocks s.moment (Ok o) → e ≡ at_offset o defaults → ParsesAs Y format is_prefix text e r
         → ParsesInZone Y clocks format is_prefix text defaults r
-    on-shown s o e r says when there later = (
-      utc,
-      is,
-      Ok s,
-      with_same d (at_offset utc defaults) (Ok s) same says,
-      (Ok o, when, with_same e (at_offset o defaults) r there later),
-    )
+    on-shown s o e r says when there later = (utc, is, Ok s, rw (← same) says, (Ok o, when, rw (← there) later))
 
   -- the match of a text that the format rejects without a zone
   pub locally-none : (e : Reason) → defaults.clocks ≡ None → ParsesAs Y format is_prefix text defaults (Err e)
@@ -192,7 +169,7 @@ pub says_plain : {E : Type 0} (IsOf : Reason → E → Type 0) (Y : ℕ) (format
     → MatchResult parsed (λ s. result ≡ Ok s) (λ e. IsErrOf IsOf (unread (refusal_of e)) result)
     → Gives IsOf (ParsesAs Y format is_prefix text defaults) result
 says_plain IsOf Y format is_prefix text defaults (Ok s) result zones counted is same =
-    subst (Gives IsOf (ParsesAs Y format is_prefix text defaults)) (sym same) (Ok s, is, on_none (zones_of format) _ _ zones (rw counted refl))
+    rw same (Ok s, is, on_none (zones_of format) _ _ zones (rw counted refl))
 says_plain IsOf Y format is_prefix text defaults (Err e) (Ok s) zones counted is kept = absurd kept
 says_plain IsOf Y format is_prefix text defaults (Err e) (Err why) zones counted is kept =
     (unread (refusal_of e), kept, (Err (refusal_of e), is, refl))
@@ -203,4 +180,4 @@ pub says_plain-some : (Y : ℕ) (format : Reading) (is_prefix : Bool) (text : Li
     → IfSome found (λ s. parsed ≡ Ok s) → IfSome found (λ s. ParsesAs Y format is_prefix text defaults (Ok s))
 says_plain-some Y format is_prefix text defaults parsed None zones counted is same = tt
 says_plain-some Y format is_prefix text defaults parsed (Some s) zones counted is same =
-    (Ok s, subst (λ p. IsRead Y format is_prefix text defaults (erased_match p)) same is, on_none (zones_of format) _ _ zones (rw counted refl))
+    (Ok s, rw same at is, on_none (zones_of format) _ _ zones (rw counted refl))

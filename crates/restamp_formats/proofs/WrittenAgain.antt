@@ -15,10 +15,8 @@ use Rattle.time_writing.specs.declared.parts.FractionDigits.TheVariants.{Exactly
 use Rattle.time_writing.specs.declared.parts.Unwritable.{Unwritable}
 use Rattle.time_record.specs.Record.{empty}
 use Rattle.time_record.specs.Resolution.{IsMoment}
-use Rattle.time_readers.specs.Direct.{RefusesRfc3339}
-use Rattle.time_parsing.specs.Outcome.{IsMomentOutcome, IsOutcome, direct}
+use Rattle.time_parsing.specs.Outcome.{IsOutcome}
 use Rattle.time_parsing.specs.Iso8601 as Iso8601
-use Rattle.time_parsing.specs.Rfc3339 as Rfc3339
 use Rattle.time_parsing.specs.Written.{IsCut}
 use Rattle.time_parsing.proofs.IsoBack.{iso_read_back}
 use Rattle.time_parsing.proofs.MailForm.{mail_read_back}
@@ -48,8 +46,7 @@ text_is : (reason : Option Unwritable) (such : List ℕ → Type 0) (text : Item
 text_is None such text (Ok t) p e =
     let same : text ≡ t = cc in (refl, subst (λ (u : Items). such u.items) (sym same) p)
 text_is None such text (Err why) p e = absurd p
-text_is (Some why) such text (Ok t) p e = absurd cc
-text_is (Some why) such text (Err other) p e = absurd cc
+text_is (Some why) such text result p e = absurd cc
 
 -- a moment whose fraction loses no digits
 abbrev nanosecond_of : OffsetDateTime → ℕ
@@ -65,27 +62,17 @@ named_back Rfc3339 digits v text format defaults all p =
     let k = count_of digits (nanosecond_of v) in
     let is = text_is (unwritable_3339 v) (λ b. b ≡ moment_text k v) text p.0 p.1 p.2 in
     let back = read_back digits v v is.0 (whole k v all.1) in
-    subst (λ (f : Reading). SaysAll f defaults v text.items) (sym all.0) (
-      Ok (said v (length text.items)),
-      (
-        Ok v,
-        subst (λ b. IsMomentOutcome greatest_year (direct (RefusesRfc3339 greatest_year)) (Rfc3339.Reads greatest_year)
-            (Rfc3339.Refuses greatest_year) b None (Ok v)) (sym is.1) back.0,
-        refl,
-      ),
-      refl,
-    )
+    rw all.0 (Ok (said v (length text.items)), (Ok v, rw is.1 back.0, refl), refl)
 named_back Rfc2822 digits v text format defaults all p =
     let is = text_is (unwritable_2822 v) (IsMailText v) text p.0 p.1 p.2 in
     let back = mail_read_back v v text.items is.0 (whole 0 v all.1) is.1 in
-    subst (λ (f : Reading). SaysAll f defaults v text.items) (sym all.0)
-    (Ok (said v (length text.items)), (Ok (said v (length text.items)), (Ok v, back.0, refl), refl), refl)
+    rw all.0 (Ok (said v (length text.items)), (Ok (said v (length text.items)), (Ok v, back.0, refl), refl), refl)
 named_back Iso8601 digits v text format defaults all p =
     let is = text_is (unwritable_3339 v) (λ b. b ≡ moment_text 9 v) text p.0 p.1 p.2 in
     let back = iso_read_back (Exactly 9) v v is.0 (whole 9 v (nine-keeps (nanosecond_of v) (offset_time v).nanosecond_in)) in
     let outcome = subst (λ b. IsOutcome (IsMoment greatest_year) (Iso8601.Reads greatest_year) (Iso8601.Refuses greatest_year) b
     empty (Ok v)) (sym is.1) back.0 in
-    subst (λ (f : Reading). SaysAll f defaults v text.items) (sym all) (
+    rw all (
       Ok (said v (length text.items)),
       (Ok v, (outcome.0, outcome.1, keeps_moment greatest_year defaults outcome.0 v outcome.2), refl),
       refl,

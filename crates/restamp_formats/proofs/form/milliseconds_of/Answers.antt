@@ -29,82 +29,79 @@ millis n k z ns q r is low split small whole =
     let same : z ≡ k = omega (arith, ints) in
     rw same (omega (arith, ints), omega (arith, ints))
 
--- 64 bits keep the number
-seconds_kept : (n z : ℤ) → IsInstant greatest_year n → IsWhole 1_000_000_000 n z → to_z w64 (of_z w64 z) ≡ z
-seconds_kept n z within whole =
-    to_z-of_z w64 z (omega (arith, ints, seconds_near n z within whole))
-
 module _ (v : OffsetDateTime) (z : ℤ) (within : IsInstant greatest_year (offset_instant greatest_year v))
     (whole : IsWhole 1_000_000_000 (offset_instant greatest_year v) z) where
   abbrev ns : ℕ
   ns = nanosecond (offset_time v)
 
-  abbrev q : ℕ
-  q = ns / 1_000_000
+  abbrev part : ℕ
+  part = ns / 1_000_000
 
-  split : q * 1_000_000 + ns % 1_000_000 ≡ ns
-  split = div-add-mod' ns 1_000_000
+  near : (neg_ℤ (pos 40_000_000_000_000) ≤ℤ z) × (z ≤ℤ pos 40_000_000_000_000)
+  near = seconds_near (offset_instant greatest_year v) z within whole
 
-  rest_small : ns % 1_000_000 < 1_000_000
-  rest_small = omega (arith)
+  -- 64 bits keep each number
+  pub seconds_kept : to_z w64 (of_z w64 z) ≡ z
+  seconds_kept = to_z-of_z w64 z (omega (arith, ints, near))
 
   pub product_fits : FitsSigned w64 (z *ℤ pos 1_000)
-  product_fits = omega (arith, ints, seconds_near (offset_instant greatest_year v) z within whole)
+  product_fits = omega (arith, ints, near)
 
   pub product_kept : to_z w64 (of_z w64 (z *ℤ pos 1_000)) ≡ z *ℤ pos 1_000
   product_kept = to_z-of_z w64 (z *ℤ pos 1_000) product_fits
 
-  pub sum_fits : FitsSigned w64 (z *ℤ pos 1_000 +ℤ pos (nanosecond (offset_time v) / 1_000_000))
-  sum_fits = omega (arith, ints, seconds_near (offset_instant greatest_year v) z within whole, split, v.time.nanosecond_in)
+  pub part_kept : to_z w64 (of_z w64 (pos part)) ≡ pos part
+  part_kept = to_z-of_z w64 (pos part) (omega (arith, ints, div-add-mod' ns 1_000_000, v.time.nanosecond_in))
 
-  pub sum_whole : IsWhole 1_000_000 (offset_instant greatest_year v) (z *ℤ pos 1_000 +ℤ pos (nanosecond (offset_time v) / 1_000_000))
+  pub sum_fits : FitsSigned w64 (z *ℤ pos 1_000 +ℤ pos part)
+  sum_fits = omega (arith, ints, near, div-add-mod' ns 1_000_000, v.time.nanosecond_in)
+
+  pub sum_kept : to_z w64 (of_z w64 (z *ℤ pos 1_000 +ℤ pos part)) ≡ z *ℤ pos 1_000 +ℤ pos part
+  sum_kept = to_z-of_z w64 (z *ℤ pos 1_000 +ℤ pos part) sum_fits
+
+  pub sum_whole : IsWhole 1_000_000 (offset_instant greatest_year v) (z *ℤ pos 1_000 +ℤ pos part)
   sum_whole =
       millis (offset_instant greatest_year v)
       ((pos (day_number greatest_year (offset_date v)) -ℤ pos 365_961_662) *ℤ pos 86_400
       +ℤ pos (Times.hour (offset_time v) * 3600 + Times.minute (offset_time v) * 60 + Times.second (offset_time v))
       -ℤ offset_seconds (offset_of v))
-      z ns q (ns % 1_000_000)
+      z ns part (ns % 1_000_000)
       (omega (arith, ints, instant_is (offset_date v) (offset_time v) (offset_of v), clock_nanos_is (offset_date v) (offset_time v)))
-      (omega (arith, v.time.nanosecond_in)) (omega (arith, split)) rest_small whole
-
-  pub sum_kept : to_z w64 (of_z w64 (z *ℤ pos 1_000 +ℤ pos (nanosecond (offset_time v) / 1_000_000)))
-      ≡ z *ℤ pos 1_000 +ℤ pos (nanosecond (offset_time v) / 1_000_000)
-  sum_kept = to_z-of_z w64 (z *ℤ pos 1_000 +ℤ pos (nanosecond (offset_time v) / 1_000_000)) sum_fits
-
-part_kept : (v : OffsetDateTime)
-    → to_z w64 (of_z w64 (pos (nanosecond (offset_time v) / 1_000_000))) ≡ pos (nanosecond (offset_time v) / 1_000_000)
-part_kept v =
-    to_z-of_z w64 (pos (nanosecond (offset_time v) / 1_000_000))
-    (omega (arith, ints, div-add-mod' (nanosecond (offset_time v)) 1_000_000, v.time.nanosecond_in))
+      (omega (arith, v.time.nanosecond_in)) (omega (arith, div-add-mod' ns 1_000_000)) (omega arith) whole
 
 pub overflow_mul-result : goal.overflow_mul-result
 overflow_mul-result c =
-    let seconds = c.in_ok-seconds.ensures in
-    rw (seconds_kept _ c.in_ok-seconds.seconds seconds.0 seconds.1) (product_fits c.args.moment c.in_ok-seconds.seconds seconds.0 seconds.1)
+    let z = c.in_ok-seconds.seconds in
+    let is = c.in_ok-seconds.ensures in
+    rw (seconds_kept c.args.moment z is.0 is.1) (product_fits c.args.moment z is.0 is.1)
 
 pub overflow_add-result : goal.overflow_add-result
 overflow_add-result c =
-    let seconds = c.in_ok-seconds.ensures in
+    let v = c.args.moment in
+    let z = c.in_ok-seconds.seconds in
+    let is = c.in_ok-seconds.ensures in
     rw (
-      seconds_kept _ c.in_ok-seconds.seconds seconds.0 seconds.1,
-      product_kept c.args.moment c.in_ok-seconds.seconds seconds.0 seconds.1,
+      seconds_kept v z is.0 is.1,
+      product_kept v z is.0 is.1,
       c.from.ensures,
       c.nanosecond.ensures,
       c.time.ensures,
-      part_kept c.args.moment,
-    ) (sum_fits c.args.moment c.in_ok-seconds.seconds seconds.0 seconds.1)
+      part_kept v z is.0 is.1,
+    ) (sum_fits v z is.0 is.1)
 
 pub returns : goal.returns
 returns c =
-    let seconds = c.in_ok-seconds.ensures in (
-      seconds.0,
+    let v = c.args.moment in
+    let z = c.in_ok-seconds.seconds in
+    let is = c.in_ok-seconds.ensures in (
+      is.0,
       rw (
-        seconds_kept _ c.in_ok-seconds.seconds seconds.0 seconds.1,
-        product_kept c.args.moment c.in_ok-seconds.seconds seconds.0 seconds.1,
+        seconds_kept v z is.0 is.1,
+        product_kept v z is.0 is.1,
         c.from.ensures,
         c.nanosecond.ensures,
         c.time.ensures,
-        part_kept c.args.moment,
-        sum_kept c.args.moment c.in_ok-seconds.seconds seconds.0 seconds.1,
-      ) (sum_whole c.args.moment c.in_ok-seconds.seconds seconds.0 seconds.1),
+        part_kept v z is.0 is.1,
+        sum_kept v z is.0 is.1,
+      ) (sum_whole v z is.0 is.1),
     )

@@ -45,18 +45,16 @@ outside_zone_range (Some z) m zone r e h = e
 -- a moment that is converted to a zone's clock fits the zone
 goes : (zones : Zones) (tells : Bool) (on : Clock) (v w : OffsetDateTime) (z : Told)
     → IsConverted greatest_year on v (Some w) → IsZoneOfClock zones on z → GoesWithZone zones tells w z (Ok tt)
-goes zones tells clock.Own v w z shown its = absurd its
 goes zones true (clock.Fixed o) v w (at_offset p) shown its =
     same_offset (offset_seconds (offset_of w)) (offset_seconds p) (ap offset_seconds (shown.1 ∙ sym its))
 goes zones false (clock.Fixed o) v w (at_offset p) shown its = refl
-goes zones tells (clock.Fixed o) v w (named name) shown its = absurd its
-goes zones tells (clock.Zone zone) v w (at_offset p) shown its = absurd its
 goes zones true (clock.Zone zone) v w (named name) shown its =
     goes_with_found (zone_named zones name) w zone (Ok tt) its (inr (
       subst IsTimestampNanos (sym shown.0) shown.1,
       same_offset (offset_seconds (offset_of w)) _ (shown.2 ∙ ap (Zone.offset_at zone) (sym shown.0)),
     ))
 goes zones false (clock.Zone zone) v w (named name) shown its = outside_zone_range (zone_named zones name) w zone (Ok tt) refl its
+goes zones tells on v w z shown its = absurd its
 
 -- such a text with its suffix has exactly one match
 module _ (zones : Zones) (defaults : Defaults) (form : Form) (v : OffsetDateTime) (text name : List ℕ)

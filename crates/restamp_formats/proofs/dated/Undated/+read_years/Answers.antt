@@ -2,7 +2,7 @@ use Rattle.std.proofs.Common.{◌-◌, ℤ, sym, subst, arith, ◌∙◌, Ok, Er
 use Rattle.std.specs.Int.{w32}
 use Rattle.std.proofs.lemmas.Int.{ints, to_z-of_z}
 use Rattle.time_values.specs.Calendar.{greatest_year}
-use Rattle.restamp_formats.specs.Reading.{erased_undated, IsFinal, IsReadInYear, AreYearsTried}
+use Rattle.restamp_formats.specs.Reading.{erased_undated, AreYearsTried}
 use Rattle.restamp_formats.proofs.GivesLemmas.{gives_so}
 use Rattle.restamp_formats.proofs.ParseLemmas.{one_less, years-end, years-late, years-found, years-final, years-refused}
 use Rattle.restamp_formats.proofs.dated.Undated.+read_years.Goals as goal
@@ -17,8 +17,7 @@ returns-then-count-eq0-clause-said g t c = λ reason of. (
 pub returns-then-is_after-clause-said : goal.returns-then-is_after-clause-said
 returns-then-is_after-clause-said g t c = λ reason of.
     let u = erased_undated c.args.self.now in
-    let read = subst (λ (y : ℤ). IsReadInYear greatest_year u y (Ok c.in-Ok.said)) (to_z-of_z w32 c.args.year c.ranges.year)
-    (c.in-Ok.ensures.said) in
+    let read = rw (to_z-of_z w32 c.args.year c.ranges.year) at c.in-Ok.ensures.said in
     gives_so g.E.FromReason.is_of c.read_years.result
     (λ given later. years-late greatest_year u c.args.year reason given c.args.count c.in-Ok.said
     (omega arith) read (sym c.is_after.ensures ∙ c.if-is_after.true)
@@ -29,8 +28,7 @@ returns-then-is_after-clause-said g t c = λ reason of.
 pub returns-else-is_after-clause-said : goal.returns-else-is_after-clause-said
 returns-else-is_after-clause-said g t c = λ reason of.
     let u = erased_undated c.args.self.now in
-    let read = subst (λ (y : ℤ). IsReadInYear greatest_year u y (Ok c.in-Ok.said)) (to_z-of_z w32 c.args.year c.ranges.year)
-    (c.in-Ok.ensures.said) in
+    let read = rw (to_z-of_z w32 c.args.year c.ranges.year) at c.in-Ok.ensures.said in
     years-found greatest_year u c.args.year reason (Ok c.in-Ok.said) c.args.count c.in-Ok.said
     (omega arith) read (sym c.is_after.ensures ∙ c.if-is_after.false)
 
@@ -38,25 +36,23 @@ pub returns-then-is_final-clause-said : goal.returns-then-is_final-clause-said
 returns-then-is_final-clause-said g t c = λ reason of.
     let u = erased_undated c.args.self.now in
     let why = c.in-Err.ensures.said in
-    let read = subst (λ (y : ℤ). IsReadInYear greatest_year u y (Err why.0)) (to_z-of_z w32 c.args.year c.ranges.year) why.2 in
-    let final = subst (λ (y : ℤ). IsFinal greatest_year u y why.0 c.is_final.result)
-    (to_z-of_z w32 c.args.year c.ranges.year) (c.is_final.ensures why.0 why.1) in (
+    let read = rw (to_z-of_z w32 c.args.year c.ranges.year) at why.2 in
+    let final = rw (to_z-of_z w32 c.args.year c.ranges.year, c.if-is_final.true) at (c.is_final.ensures why.0 why.1) in (
       why.0,
       why.1,
       years-final greatest_year u c.args.year reason (Err why.0) c.args.count why.0
-          (omega arith) read (subst (IsFinal greatest_year u c.args.year why.0) c.if-is_final.true final),
+          (omega arith) read final,
     )
 
 pub returns-else-is_final-clause-said : goal.returns-else-is_final-clause-said
 returns-else-is_final-clause-said g t c = λ reason of.
     let u = erased_undated c.args.self.now in
     let why = c.in-Err.ensures.said in
-    let read = subst (λ (y : ℤ). IsReadInYear greatest_year u y (Err why.0)) (to_z-of_z w32 c.args.year c.ranges.year) why.2 in
-    let final = subst (λ (y : ℤ). IsFinal greatest_year u y why.0 c.is_final.result)
-    (to_z-of_z w32 c.args.year c.ranges.year) (c.is_final.ensures why.0 why.1) in
+    let read = rw (to_z-of_z w32 c.args.year c.ranges.year) at why.2 in
+    let final = rw (to_z-of_z w32 c.args.year c.ranges.year, c.if-is_final.false) at (c.is_final.ensures why.0 why.1) in
     gives_so g.E.FromReason.is_of c.read_years-in-Err.result
     (λ given later. years-refused greatest_year u c.args.year reason given c.args.count why.0 (omega arith) read
-    (subst (IsFinal greatest_year u c.args.year why.0) c.if-is_final.false final)
+    final
     (subst (λ (y : ℤ). AreYearsTried greatest_year u (c.args.count - 1) y why.0 given)
     (one_less c.args.year c.ranges.year (omega (arith, ints))) later))
     (c.read_years-in-Err.ensures.said why.0 why.1)

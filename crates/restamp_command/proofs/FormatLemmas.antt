@@ -2,7 +2,7 @@
 use Rattle.std.specs.Int.{int_div_euclid}
 use Rattle.std.specs.Fmt.{decimal}
 use Rattle.std.specs.Io.KnownBytes.{Appends}
-use Rattle.std.proofs.Common.{◌≡◌, ℕ, ℤ, pos, neg_ℤ, negsuc, arith, Some, None, zero, suc, ◌+◌, ◌<◌, List, [], ◌∷◌, ◌++◌, length, take, map, get_or, Bool, Option, inl, inr, sym, ap, subst, ◌-◌, min, codes, true, drop, append_assoc, length-drop, ◌∙◌}
+use Rattle.std.proofs.Common.{◌≡◌, ℕ, ℤ, pos, neg_ℤ, negsuc, arith, Some, None, zero, suc, ◌+◌, ◌<◌, List, [], ◌∷◌, ◌++◌, length, take, map, get_or, Bool, Option, inl, inr, ap, subst, ◌-◌, min, codes, true, drop, append_assoc, length-drop}
 use Rattle.std.proofs.lemmas.Int.{ints}
 use Rattle.std.proofs.lemmas.List.{map_more, take_all, take_min, drop_min}
 use Rattle.std.proofs.KnownBytes.{Appends-trans}
@@ -45,7 +45,7 @@ no_date Y n r e inside =
 pub others_fault : (Y : ℕ) (o : Options) (has_year : Bool) (names : List (List ℕ)) (f : Fault) → has_year ≡ has_default_year o
     → names ≡ other_names o → IsFormatFault has_year names f → IsFault Y o f
 others_fault Y o has_year names f e n h =
-    by_fault f (subst (λ b. IsFormatFault b (other_names o) f) e (subst (λ (names : List (List ℕ)). IsFormatFault has_year names f) n h))
+    by_fault f (rw (e, n) at h)
   where
     by_fault : (f : Fault) → IsFormatFault (has_default_year o) (other_names o) f → IsFault Y o f
     by_fault fault.memory h = h
@@ -73,8 +73,7 @@ pub more_formats : {X : Type 0} (f : X → List ℕ) (has_year : Bool) (old new 
     → AddsFormats has_year (map f (take i xs)) old new → i < length xs → IsFormat has_year (f (get_or xs i x)) format
     → AddsFormats has_year (map f (take (i + 1) xs)) old (new ++ format ∷ [])
 more_formats {X} f has_year old new format xs i x p below q =
-    subst (λ (names : List (List ℕ)). AddsFormats has_year names old (new ++ format ∷ [])) (sym (map_more f xs i x below))
-    (push has_year (map f (take i xs)) (f (get_or xs i x)) old new format p q)
+    rw (map_more f xs i x below) (push has_year (map f (take i xs)) (f (get_or xs i x)) old new format p q)
 
 one_of : {X : Type 0} (f : X → List ℕ) (xs : List X) (i : ℕ) (x : X) (value : List ℕ) → i < length xs
     → IsOneOf (f (get_or xs i x) ∷ []) value → IsOneOf (map f xs) value
@@ -105,18 +104,15 @@ pub part_is : (line : List ℕ) (most left_out from n : ℕ) → from ≡ min le
     → n ≡ min most (length (take (length line - from) (drop from line)))
     → take n (take (length line - from) (drop from line)) ≡ take most (drop left_out line)
 part_is line most left_out from n begins ends =
-    let rest : take (length line - from) (drop from line) ≡ drop from line = take_all _ _ (omega (arith, length-drop from line)) in
-    ap (take n) rest ∙ ap (λ (k : ℕ). take k (drop from line)) (ends ∙ ap (λ (xs : List ℕ). min most (length xs)) rest)
-    ∙ take_min most (drop from line) ∙ ap (take most) (ap (λ (k : ℕ). drop k line) begins ∙ drop_min left_out line)
+    let rest : take (length line - from) (drop from line) ≡ drop from line = grind (arith, take_all, length-drop) in
+    rw (rest, rw rest at ends, take_min most (drop from line), begins, drop_min left_out line)
 
 pub Appends-pointer : (a b c d e f : Option (List ℕ)) (line : List ℕ) (column : ℕ)
     → Appends a b (10 ∷ []) → Appends b c (around line column) → Appends c d (10 ∷ []) → Appends d e (blanks (column - 1))
     → Appends e f (red (codes "^")) → Appends a f (pointer line column)
 Appends-pointer a b c d e f line column p q r s t =
-    let caret : List ℕ = red (codes "^") in
-    Appends-trans a b f (10 ∷ []) (around line column ++ (10 ∷ (blanks (column - 1) ++ caret))) p
-    (Appends-trans b c f (around line column) (10 ∷ (blanks (column - 1) ++ caret)) q
-    (Appends-trans c d f (10 ∷ []) (blanks (column - 1) ++ caret) r (Appends-trans d e f (blanks (column - 1)) caret s t)))
+    let behind = Appends-trans c d f (10 ∷ []) (blanks (column - 1) ++ red (codes "^")) r (Appends-trans d e f _ _ s t) in
+    Appends-trans a b f (10 ∷ []) _ p (Appends-trans b c f _ _ q behind)
 
 told_joined : (number mark red_on reason expected red_off line : List ℕ)
     → (number ++ ((mark ++ red_on) ++ reason)) ++ (expected ++ (red_off ++ line))

@@ -1,3 +1,4 @@
+mod CaseLemmas
 mod MailBegins
 pub mod BeginsLemmas
 pub mod OneVerdict

@@ -3,19 +3,19 @@ use Rattle.std.proofs.Common.{◌≡◌, ℕ, ◌≤◌, ◌==◌, ◌++◌, Boo
 use Rattle.std.specs.Prelude.{◌&&◌, if◌then◌else◌}
 use Rattle.std.specs.Char.{is_ascii_digit, to_ascii_lowercase}
 use Rattle.std.specs.Str.{str_to_ascii_lowercase}
-use Rattle.std.proofs.lemmas.Bool.{and_from, le-leb, or_left, or_parts, or_right, true≢false}
+use Rattle.std.proofs.lemmas.Bool.{and_from, le-leb, or_parts, true≢false}
 use Rattle.std.proofs.lemmas.Bool.Decides.{nat_tests}
 use Rattle.time_values.specs.Names.{weekday_name}
 use Rattle.time_values.specs.declared.weekday.Weekday.{Weekday}
-use Rattle.time_values.specs.declared.weekday.Weekday.TheVariants.{Monday, Tuesday, Wednesday, Thursday, Friday, Saturday, Sunday}
+use Rattle.time_values.specs.declared.weekday.Weekday.TheVariants.{Monday}
 use Rattle.time_digits.specs.Digits.{NoCut, IsDigit, IsDigitRun}
 use Rattle.time_readers.specs.MailBlanks.{blanks, cfws, comment, comment_end, crlf, fws, is_blank, line_fold, opt_cfws}
-use Rattle.time_readers.specs.Readers.{Stand, one_of, zero_or_more, char}
+use Rattle.time_readers.specs.Readers.{Reader, Stand, one_of, ◌then◌, zero_or_more}
 use Rattle.time_readers.specs.Rfc2822.{FailsAt, IsShortWeekday, nothing_read, to_offset_places, offset_places}
 use Rattle.time_readers.specs.declared.rfc2822.Place.TheVariants.{WeekdayName, Day}
 use Rattle.time_readers.proofs.MailBlanks.{blanks_or_comment, fws-blanks, fws-none, more_lines-end, opt_cfws-leaves, read-cut}
 use Rattle.time_readers.proofs.Repeats.{or-none, or-some, then-none, then-some, zero_or_more-none}
-use Rattle.restamp_lines.specs.Begins.{begins_day, is_gap, is_letter, is_weekday, is_weekday_second, may_be_mail}
+use Rattle.restamp_lines.specs.Begins.{begins_day, is_gap, is_weekday, is_weekday_second, may_be_mail}
 
 pub digit-first : (c : ℕ) → IsDigit c → is_ascii_digit c ≡ true
 digit-first c h = and_from _ _ (le-leb _ _ h.0) (le-leb _ _ h.1)
@@ -33,46 +33,33 @@ one_of-none test (x ∷ xs) other = rw other refl
 
 -- neither white space nor a comment starts with another byte
 module _ (bytes : List ℕ) (other : is_gap (get_or bytes 0 0) ≡ false) where
-  no_end : crlf bytes ≡ None
-  no_end = then-none (one_of (λ c. c == 13)) (one_of (λ c. c == 10)) bytes (one_of-none (λ c. c == 13) bytes (or_parts _ _ (or_parts _ _ other).0).1)
+  no_byte : (test : ℕ → Bool) → test (get_or bytes 0 0) ≡ false → (p : Reader) → (one_of test then p) bytes ≡ None
+  no_byte test none p = then-none (one_of test) p bytes (one_of-none test bytes none)
 
-  no_fold : line_fold bytes ≡ None
-  unfolding line_fold
-  no_fold = then-none crlf blanks bytes no_end
+  no_end : crlf bytes ≡ None
+  no_end = grind (arith, no_byte, or_parts)
 
   no_blank : one_of is_blank bytes ≡ None
-  no_blank = one_of-none is_blank bytes (or_parts _ _ (or_parts _ _ other).0).0
-
-  no_blanks : blanks bytes ≡ None
-  unfolding blanks
-  no_blanks = then-none (one_of is_blank) (zero_or_more (one_of is_blank)) bytes no_blank
-
-  no_comment : comment 31 bytes ≡ None
-  unfolding comment
-  no_comment = then-none (char "(") (comment_end (comment 30)) bytes (one_of-none (λ c. c == 40) bytes (or_parts _ _ other).1)
+  no_blank = grind (arith, one_of-none, or_parts)
 
   no_gap : blanks_or_comment bytes ≡ None
-  no_gap = or-none fws (comment 31) bytes (fws-none bytes no_fold no_blanks) ∙ no_comment
+  unfolding blanks line_fold comment
+  no_gap =
+      or-none fws (comment 31) bytes (fws-none bytes (then-none crlf blanks bytes no_end) (then-none (one_of is_blank) _ bytes no_blank))
+      ∙ no_byte (λ c. c == 40) (or_parts _ _ other).1 (comment_end (comment 30))
 
   gap-none : opt_cfws bytes ≡ Some bytes
   unfolding opt_cfws cfws
   gap-none = or-none cfws Some bytes (then-none blanks_or_comment (zero_or_more blanks_or_comment) bytes no_gap)
 
   -- neither follows one space
-  one_blank : blanks (32 ∷ bytes) ≡ Some bytes
-  unfolding blanks
-  one_blank =
-      then-some (one_of is_blank) (zero_or_more (one_of is_blank)) (32 ∷ bytes) bytes refl
-      ∙ zero_or_more-none (one_of is_blank) bytes no_blank
-
-  no_fold_here : line_fold (32 ∷ bytes) ≡ None
-  unfolding line_fold
-  no_fold_here = then-none crlf blanks (32 ∷ bytes) refl
-
   one_gap : blanks_or_comment (32 ∷ bytes) ≡ Some bytes
+  unfolding blanks line_fold
   one_gap =
+      let one_blank = then-some (one_of is_blank) (zero_or_more (one_of is_blank)) (32 ∷ bytes) bytes refl
+      ∙ zero_or_more-none (one_of is_blank) bytes no_blank in
       or-some fws (comment 31) (32 ∷ bytes) bytes
-      (fws-blanks (32 ∷ bytes) bytes no_fold_here one_blank ∙ more_lines-end bytes no_end)
+      (fws-blanks (32 ∷ bytes) bytes (then-none crlf blanks (32 ∷ bytes) refl) one_blank ∙ more_lines-end bytes no_end)
 
   gap-one : opt_cfws (32 ∷ bytes) ≡ Some bytes
   unfolding opt_cfws cfws
@@ -81,44 +68,16 @@ module _ (bytes : List ℕ) (other : is_gap (get_or bytes 0 0) ≡ false) where
       (then-some blanks_or_comment (zero_or_more blanks_or_comment) (32 ∷ bytes) bytes one_gap
       ∙ zero_or_more-none blanks_or_comment bytes no_gap)
 
--- a byte whose lower case is that letter
-in_case : (x l : ℕ) → 97 ≤ l → l ≤ 122 → to_ascii_lowercase x ≡ l → is_letter x l ≡ true
-in_case x l low high is = grind (arith, nat_tests)
-
 -- the first two letters of a weekday
 letters : (w : Weekday) (t u : ℕ) → to_ascii_lowercase t ≡ get_or (str_to_ascii_lowercase (take 3 (weekday_name w))) 0 0
     → to_ascii_lowercase u ≡ get_or (str_to_ascii_lowercase (take 3 (weekday_name w))) 1 0
     → (is_weekday t && is_weekday_second u) ≡ true
-letters Monday t u first second =
-    and_from _ _ (or_left _ _ (or_left _ _ (or_left _ _ (or_left _ _ (in_case t 109 (omega arith) (omega arith) first)))))
-    (or_left _ _ (or_left _ _ (or_left _ _ (or_left _ _ (or_left _ _ (in_case u 111 (omega arith) (omega arith) second))))))
-letters Tuesday t u first second =
-    and_from _ _ (or_left _ _ (or_left _ _ (or_left _ _ (or_right _ _ (in_case t 116 (omega arith) (omega arith) first)))))
-    (or_left _ _ (or_left _ _ (or_left _ _ (or_left _ _ (or_right _ _ (in_case u 117 (omega arith) (omega arith) second))))))
-letters Wednesday t u first second =
-    and_from _ _ (or_left _ _ (or_left _ _ (or_right _ _ (in_case t 119 (omega arith) (omega arith) first))))
-    (or_left _ _ (or_left _ _ (or_left _ _ (or_right _ _ (in_case u 101 (omega arith) (omega arith) second)))))
-letters Thursday t u first second =
-    and_from _ _ (or_left _ _ (or_left _ _ (or_left _ _ (or_right _ _ (in_case t 116 (omega arith) (omega arith) first)))))
-    (or_left _ _ (or_left _ _ (or_right _ _ (in_case u 104 (omega arith) (omega arith) second))))
-letters Friday t u first second =
-    and_from _ _ (or_left _ _ (or_right _ _ (in_case t 102 (omega arith) (omega arith) first)))
-    (or_left _ _ (or_right _ _ (in_case u 114 (omega arith) (omega arith) second)))
-letters Saturday t u first second =
-    and_from _ _ (or_right _ _ (in_case t 115 (omega arith) (omega arith) first))
-    (or_right _ _ (in_case u 97 (omega arith) (omega arith) second))
-letters Sunday t u first second =
-    and_from _ _ (or_right _ _ (in_case t 115 (omega arith) (omega arith) first))
-    (or_left _ _ (or_left _ _ (or_left _ _ (or_left _ _ (or_right _ _ (in_case u 117 (omega arith) (omega arith) second))))))
+letters Monday t u first second = grind (arith, nat_tests)
+letters _ t u first second = grind (arith, nat_tests)
 
 three : (w : Weekday) → length (str_to_ascii_lowercase (take 3 (weekday_name w))) ≡ 3
 three Monday = refl
-three Tuesday = refl
-three Wednesday = refl
-three Thursday = refl
-three Friday = refl
-three Saturday = refl
-three Sunday = refl
+three _ = refl
 
 -- two bytes that no weekday starts with
 abbrev begin_none : List ℕ → Type 0
@@ -126,15 +85,11 @@ begin_none bytes = (is_weekday (get_or bytes 0 0) && is_weekday_second (get_or b
 
 weekday-begins : (w : Weekday) (text rest : List ℕ) → str_to_ascii_lowercase text ≡ str_to_ascii_lowercase (take 3 (weekday_name w))
     → (is_weekday (get_or (text ++ rest) 0 0) && is_weekday_second (get_or (text ++ rest) 1 0)) ≡ true
-weekday-begins w [] rest is = absurd (omega (arith, ap (λ (xs : List ℕ). length xs) is, three w))
-weekday-begins w (t ∷ []) rest is = absurd (omega (arith, ap (λ (xs : List ℕ). length xs) is, three w))
-weekday-begins w (t ∷ u ∷ ts) rest is =
-    letters w t u (ap (λ (xs : List ℕ). get_or xs 0 0) is) (ap (λ (xs : List ℕ). get_or xs 1 0) is)
+weekday-begins w (t ∷ u ∷ ts) rest is = letters w t u (ap (λ (xs : List ℕ). get_or xs 0 0) is) (ap (λ (xs : List ℕ). get_or xs 1 0) is)
+weekday-begins w text rest is = absurd (omega (arith, ap length is, three w))
 
 no_weekday : (bytes : List ℕ) → begin_none bytes → NoCut IsShortWeekday bytes
-no_weekday bytes none text rest w cut is =
-    true≢false (sym (subst (λ (b : List ℕ). (is_weekday (get_or b 0 0) && is_weekday_second (get_or b 1 0)) ≡ true) (sym cut)
-    (weekday-begins w text rest is)) ∙ none)
+no_weekday bytes none text rest w cut is = true≢false (sym (weekday-begins w text rest is) ∙ rw cut at none)
 
 -- the day fails, because no day follows the bytes before it
 day-fails : (bytes mid : List ℕ) → opt_cfws bytes ≡ Some mid → is_ascii_digit (get_or mid 0 0) ≡ false → begin_none mid → FailsAt true bytes Day
@@ -148,18 +103,14 @@ day-fails bytes mid gap no_digit none =
       mid = mid;
       numbers = nothing_read;
       stand = (mid, nothing_read, (front.0, front.1, (None, (front.2, no_weekday mid none), refl)), (refl, refl));
-      stops = λ text rest v cut h.
-          true≢false (sym (subst (λ (b : List ℕ). is_ascii_digit (get_or b 0 0) ≡ true) (sym cut)
-          (run-first 1 2 text rest h.0 (omega arith) h.1)) ∙ no_digit);
+      stops = λ text rest v cut h. true≢false (sym (run-first 1 2 text rest h.0 (omega arith) h.1) ∙ rw cut at no_digit);
     }
 
 -- the day fails if the bytes start with no white space, no comment, no day and no weekday
 begun-fails : (bytes mid : List ℕ) → (is_gap (get_or mid 0 0) ≡ false → opt_cfws bytes ≡ Some mid)
     → begins_day (get_or mid 0 0) (get_or mid 1 0) ≡ false → FailsAt true bytes Day
 begun-fails bytes mid gap none =
-    let outer = or_parts _ _ none in
-    let inner = or_parts _ _ outer.0 in
-    day-fails bytes mid (gap inner.1) inner.0 outer.1
+    day-fails bytes mid (gap (grind (arith, or_parts))) (grind (arith, or_parts)) (grind (arith, or_parts))
 
 space-fails : (bytes : List ℕ) (space : Bool) → (get_or bytes 0 0 == 32) ≡ space
     → (if space then begins_day (get_or bytes 1 0) (get_or bytes 2 0) else begins_day (get_or bytes 0 0) (get_or bytes 1 0)) ≡ false

@@ -6,9 +6,9 @@ use Rattle.restamp_lines.specs.declared.job.Verdict as declared
 use Rattle.restamp_lines.specs.declared.job.Verdict.TheVariants as variant
 
 -- A verdict that satisfies a stronger relation satisfies a weaker one.
-pub verdict_so : {E : Type 0} (IsOf : Reason → E → Type 0) {P Q : Verdict → Type 0} (result : declared.Verdict E) (text : Items)
+pub verdict_so : {E : Type 0} (IsOf : Reason → E → Type 0) {P : Verdict → Type 0} (Q : Verdict → Type 0) (result : declared.Verdict E) (text : Items)
     → ((given : Verdict) → P given → Q given) → GivesVerdict IsOf P result text → GivesVerdict IsOf Q result text
-verdict_so IsOf variant.Without text f p = f without p
-verdict_so IsOf (variant.Rewritten start length) text f p = f (rewritten start length text.items) p
-verdict_so IsOf variant.Dropped text f p = f dropped p
-verdict_so IsOf (variant.Refused column e) text f p = (p.0, p.1, f (refused column p.0) p.2)
+verdict_so IsOf Q variant.Without text f p = f without p
+verdict_so IsOf Q (variant.Rewritten start length) text f p = f (rewritten start length text.items) p
+verdict_so IsOf Q variant.Dropped text f p = f dropped p
+verdict_so IsOf Q (variant.Refused column e) text f p = (p.0, p.1, f (refused column p.0) p.2)

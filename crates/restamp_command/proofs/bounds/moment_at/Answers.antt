@@ -8,12 +8,10 @@ use Rattle.restamp_command.proofs.bounds.moment_at.Goals as goal
 
 pub returns-in-Ok : goal.returns-in-Ok
 returns-in-Ok c =
-    let n = c.args.nanos in
-    let fits = c.ranges.nanos in
-    (Constructs-Ok (timestamp_refusal greatest_year n) _ c.in-Ok.moment (simp to_z-of_z at c.in-Ok.ensures)).1
+    let fits = c.ranges.nanos in (Constructs-Ok (timestamp_refusal greatest_year c.args.nanos) _ c.in-Ok.moment (simp to_z-of_z at c.in-Ok.ensures)).1
 
 pub returns-in-Err : goal.returns-in-Err
 returns-in-Err c =
-    let n = c.args.nanos in
     let fits = c.ranges.nanos in
-    (refl, no_date greatest_year n _ (Constructs-Err (timestamp_refusal greatest_year n) _ c.in-Err.field-0 (simp to_z-of_z at c.in-Err.ensures)))
+    let refused = Constructs-Err (timestamp_refusal greatest_year c.args.nanos) _ c.in-Err.field-0 (simp to_z-of_z at c.in-Err.ensures) in
+    (refl, no_date greatest_year c.args.nanos _ refused)

@@ -1,4 +1,4 @@
-use Rattle.std.proofs.Common.{Some, None, Ok, Err, FitsSigned, refl}
+use Rattle.std.proofs.Common.{Some, None, Ok, Err, refl}
 use Rattle.std.proofs.lemmas.Int.{to_z-of_z}
 use Rattle.std.specs.Int.{w128}
 use Rattle.restamp_command.specs.Fault.{erased_time_error}
@@ -9,30 +9,12 @@ returns-in_default c = (c.from.result, c.from.ensures.0, None, rw c.in_default.i
 
 pub returns-in-Ok : goal.returns-in-Ok
 returns-in-Ok c =
-    let fits : FitsSigned w128 c.midnight_at.result = c.midnight_at.ensures.fits in
-    let kept = to_z-of_z w128 c.midnight_at.result fits in (
-      c.from.result,
-      c.from.ensures.0,
-      Some c.in-Some.shown,
-      rw c.in-Some.is at c.converted_in.ensures,
-      (
-        Ok c.in-Ok.begin,
-        rw (kept, c.midnight_at.ensures.value, c.offset.ensures) at (rw c.in-Ok.is at c.moment_at.ensures),
-        c.earliest_with_local.ensures,
-      ),
-    )
+    let kept = to_z-of_z w128 c.midnight_at.result c.midnight_at.ensures.fits in
+    let at = rw (kept, c.midnight_at.ensures.value, c.offset.ensures) at (rw c.in-Ok.is at c.moment_at.ensures) in
+    (c.from.result, c.from.ensures.0, Some c.in-Some.shown, rw c.in-Some.is at c.converted_in.ensures, (Ok c.in-Ok.begin, at, c.earliest_with_local.ensures))
 
 pub returns-in-Err : goal.returns-in-Err
 returns-in-Err c =
-    let fits : FitsSigned w128 c.midnight_at.result = c.midnight_at.ensures.fits in
-    let kept = to_z-of_z w128 c.midnight_at.result fits in (
-      c.from.result,
-      c.from.ensures.0,
-      Some c.in-Some.shown,
-      rw c.in-Some.is at c.converted_in.ensures,
-      (
-        Err (erased_time_error c.in-Err.why),
-        rw (kept, c.midnight_at.ensures.value, c.offset.ensures) at (rw c.in-Err.is at c.moment_at.ensures),
-        refl,
-      ),
-    )
+    let kept = to_z-of_z w128 c.midnight_at.result c.midnight_at.ensures.fits in
+    let at = rw (kept, c.midnight_at.ensures.value, c.offset.ensures) at (rw c.in-Err.is at c.moment_at.ensures) in
+    (c.from.result, c.from.ensures.0, Some c.in-Some.shown, rw c.in-Some.is at c.converted_in.ensures, (Err (erased_time_error c.in-Err.why), at, refl))

@@ -19,18 +19,15 @@ action_of-verdict job front action verdict p q = p.2 ∙ ap action_of (one_verdi
 
 pub returns-in-Without : goal.returns-in-Without
 returns-in-Without g c =
-    let e = action_of-verdict c.args.self.now.job c.args.front.now Refused without c.requires (rw c.in-Without.is at c.judge.ensures.verdict) in
-    absurd cc
+    absurd (cc (action_of-verdict c.args.self.now.job c.args.front.now Refused without c.requires (rw c.in-Without.is at c.judge.ensures.verdict)))
 
 pub returns-in-Rewritten : goal.returns-in-Rewritten
 returns-in-Rewritten g c =
-    let e = action_of-verdict c.args.self.now.job c.args.front.now Refused _ c.requires (rw c.in-Rewritten.is at c.judge.ensures.verdict) in
-    absurd cc
+    absurd (cc (action_of-verdict c.args.self.now.job c.args.front.now Refused _ c.requires (rw c.in-Rewritten.is at c.judge.ensures.verdict)))
 
 pub returns-in-Dropped : goal.returns-in-Dropped
 returns-in-Dropped g c =
-    let e = action_of-verdict c.args.self.now.job c.args.front.now Refused dropped c.requires (rw c.in-Dropped.is at c.judge.ensures.verdict) in
-    absurd cc
+    absurd (cc (action_of-verdict c.args.self.now.job c.args.front.now Refused dropped c.requires (rw c.in-Dropped.is at c.judge.ensures.verdict)))
 
 pub returns-in-Refused-clause-reported : goal.returns-in-Refused-clause-reported
 returns-in-Refused-clause-reported g c =

@@ -1,16 +1,13 @@
 use Rattle.std.proofs.Common.{Err, Ok, refl}
 use Rattle.time_values.specs.Calendar.{greatest_year}
-use Rattle.restamp_lines.specs.Job.{IsJudgedPart, IsPut, Verdict}
+use Rattle.restamp_lines.specs.Job.{IsJudgedPart}
 use Rattle.restamp_lines.proofs.VerdictLemmas.{verdict_so}
 use Rattle.restamp_lines.proofs.job.Job.judge_in_turn.Goals as goal
 
 pub returns-in-Ok-clause-verdict : goal.returns-in-Ok-clause-verdict
 returns-in-Ok-clause-verdict g c =
-    let found = c.in-Ok.said in
-    let with : (verdict : Verdict) → IsPut greatest_year c.args.self.now c.args.start found verdict
-    → IsJudgedPart greatest_year c.args.self.now c.args.is_prefix c.args.start c.args.part.now verdict =
-    λ verdict put. (Ok found, c.in-Ok.ensures.said, put) in
-    verdict_so g.E.FromReason.is_of c.put.result c.put.new.text with c.put.ensures.put
+    verdict_so g.E.FromReason.is_of (IsJudgedPart greatest_year c.args.self.now c.args.is_prefix c.args.start c.args.part.now)
+    c.put.result c.put.new.text (λ verdict put. (Ok c.in-Ok.said, c.in-Ok.ensures.said, put)) c.put.ensures.put
 
 pub returns-in-Err-clause-verdict : goal.returns-in-Err-clause-verdict
 returns-in-Err-clause-verdict g c = let why = c.in-Err.ensures.said in (why.0, why.1, (Err why.0, why.2, refl))

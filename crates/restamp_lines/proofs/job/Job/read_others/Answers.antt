@@ -1,16 +1,15 @@
-use Rattle.std.proofs.Common.{Some}
 use Rattle.time_values.specs.Calendar.{greatest_year}
 use Rattle.restamp_lines.proofs.AloneLemmas.{alone-here, alone-later}
 use Rattle.restamp_lines.proofs.job.Job.read_others.Goals as goal
 
 pub returns-in-Some-clause-said : goal.returns-in-Some-clause-said
 returns-in-Some-clause-said c =
-    c.loop-reading.invariant (Some c.in-Some.said)
-    (alone-here greatest_year c.args.self.now c.args.line.now c.args.start c.args.self.now.others.now c.loop-reading.reading-index
-    c.reading-item.result c.loop-reading-test.true c.reading-item.is c.in-Some.said c.in-Some.ensures.said)
+    c.loop-reading.invariant _
+    (alone-here greatest_year c.args.self.now c.args.line.now c.args.start c.args.self.now.others.now _ _
+    c.loop-reading-test.true c.reading-item.is c.in-Some.said c.in-Some.ensures.said)
 
 pub loop-reading-preserved : goal.loop-reading-preserved
-loop-reading-preserved c = λ result later.
+loop-reading-preserved c result later =
     c.loop-reading.invariant result
-    (alone-later greatest_year c.args.self.now c.args.line.now c.args.start c.args.self.now.others.now c.loop-reading.reading-index
-    c.reading-item.result c.loop-reading-test.true c.reading-item.is result c.in_default.ensures.said later)
+    (alone-later greatest_year c.args.self.now c.args.line.now c.args.start c.args.self.now.others.now _ _
+    c.loop-reading-test.true c.reading-item.is result c.in_default.ensures.said later)

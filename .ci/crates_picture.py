@@ -12,14 +12,12 @@ BOXES = {
     "time_digits": (0, 0, 0, "digits, signs, single bytes"),
     "time_zones": (0, 0, 1, "moments in named zones"),
     "time_values": (0, 0, 2.05, "dates, times, offsets, errors"),
-    "time_writing": (0, 0, 3.25, "texts of moments"),
     "time_components": (1, 1, 1, "how a component is spelled"),
     "time_readers": (1, 2, 0, "RFC 3339, RFC 2822, ISO 8601"),
     "time_record": (1, 2, 1, "what was parsed, resolved"),
-    "time_descriptions": (1, 2, 2, "descriptions read from texts"),
-    "time_formatting": (1, 2, 3.25, "moments by descriptions"),
+    "time_descriptions": (1, 2, 2, "descriptions and their texts"),
+    "time_formatting": (1, 2, 3.25, "texts of moments"),
     "time_parsing": (2, 3, 1, "a text's value, or its error"),
-    "time_describing": (2, 3, 2, "the text of a description"),
     "time_preparing": (2, 4, 0, "a description for many texts"),
     "time_locating": (2, 4, 1, "where a text goes wrong"),
     "byte_streams": (2, 4, 2.15, "calls that fail, counted"),
@@ -32,16 +30,16 @@ BOXES = {
 }
 # The lines, each with the column in which it runs up past other rows, if it passes some.
 LINES = [
-    ("time_values", "time_zones", None), ("time_values", "time_writing", None),
+    ("time_values", "time_zones", None),
     ("time_digits", "time_components", None), ("time_values", "time_components", None),
     ("time_components", "time_readers", None), ("time_components", "time_record", None),
     ("time_components", "time_descriptions", None), ("time_components", "time_formatting", None),
-    ("time_writing", "time_formatting", None), ("time_writing", "time_parsing", 3.0),
+    ("time_formatting", "time_parsing", None),
     ("time_readers", "time_parsing", None), ("time_record", "time_parsing", None), ("time_descriptions", "time_parsing", None),
-    ("time_descriptions", "time_describing", None), ("time_parsing", "time_preparing", None), ("time_preparing", "time_locating", None),
+    ("time_parsing", "time_preparing", None), ("time_preparing", "time_locating", None),
     ("time_locating", "programs", None), ("byte_streams", "programs", None), ("byte_streams", "restamp", None),
     ("time_locating", "restamp", None), ("time_locating", "C", None), ("byte_streams", "C", None),
-    ("time_formatting", "restamp", 3.0), ("time_zones", "restamp", 1.9),
+    ("time_zones", "restamp", 1.9),
 ]
 WIDE, HIGH, STEP, PITCH, LEFT, SMALL = 204, 30, 244, 112, 30, 6.1
 # Boxes that depend on all others.

@@ -19,9 +19,9 @@ use Rattle.time_values.specs.Moments.{offset_time, plain_date, plain_time}
 use Rattle.time_values.specs.Offsets.{whole_offset_refusal}
 use Rattle.time_values.specs.Shown.{significant}
 use Rattle.time_values.specs.Times.{nanosecond, time_refusal}
-use Rattle.time_writing.specs.Texts.{IsMailText, moment_text, unwritable_2822, unwritable_3339}
-use Rattle.time_writing.specs.declared.parts.Unwritable.{Unwritable}
-use Rattle.time_writing.specs.declared.parts.Unwritable.TheVariants.{Year, OffsetHour, OffsetSecond}
+use Rattle.time_formatting.specs.WellKnown.{IsMailText, moment_text, unwritable_2822, unwritable_3339}
+use Rattle.time_formatting.specs.declared.parts.Unwritable.{Unwritable}
+use Rattle.time_formatting.specs.declared.parts.Unwritable.TheVariants.{Year, OffsetHour, OffsetSecond}
 use Rattle.time_readers.specs.Direct.{RefusesRfc3339, RefusesRfc2822}
 use Rattle.time_record.specs.Record.{Record, empty}
 use Rattle.time_record.specs.Resolution.{IsDated, IsTimed, IsOffset}

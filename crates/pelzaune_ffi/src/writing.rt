@@ -2,7 +2,7 @@
 ghost use Rattle.std.specs.Prelude.{◌≡◌, length};
 ghost use Rattle.time_values.specs.Names.{month_number};
 ghost use Rattle.time_values.specs.Refusal.{Constructs};
-ghost use Rattle.time_writing.specs.Texts.{WritesSuch};
+ghost use Rattle.time_formatting.specs.WellKnown.{WritesSuch};
 ghost use Rattle.pelzaune_ffi.specs.Results as Formats;
 ghost use Rattle.pelzaune_ffi.specs.Results.{HasMoment, StoresMomentText, StoresText, StoresTextOf, IsDateOf, IsLocalOf, IsTextOf, date_refusal, local_refusal, month_refusal, moment_refusal, reason_of};
 
@@ -12,7 +12,7 @@ use crate::text::lay_bytes;
 use std::num::NonZero;
 use time_values::error::ComponentRange;
 use time_values::{Date, Month, OffsetDateTime, PlainDateTime, Time, UtcOffset};
-use time_writing::{FractionDigits, Text, Unwritable, text_2822, text_3339, text_8601};
+use time_formatting::{FractionDigits, Text, Unwritable, text_2822, text_3339, text_8601};
 
 // The month with this number.
 fn month_of(number: u8) -> Result<Month, ComponentRange>

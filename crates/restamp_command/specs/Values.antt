@@ -16,8 +16,8 @@ use Rattle.time_values.specs.Refusal.{Refusal}
 use Rattle.time_zones.specs.Zones.{IsAnswer}
 use Rattle.time_zones.specs.declared.clocks.NotOne.{NotOne}
 use Rattle.time_zones.specs.declared.clocks.NotOne.TheVariants as not_one
-use Rattle.time_writing.specs.declared.parts.FractionDigits.{FractionDigits}
-use Rattle.time_writing.specs.declared.parts.FractionDigits.TheVariants.{Auto, Exactly}
+use Rattle.time_formatting.specs.declared.parts.FractionDigits.{FractionDigits}
+use Rattle.time_formatting.specs.declared.parts.FractionDigits.TheVariants.{Auto, Exactly}
 use Rattle.time_digits.specs.declared.Padding.TheVariants as padding
 use Rattle.time_components.specs.Tree.{Tree, literal, component, sequence, trees}
 use Rattle.time_components.specs.declared.format_description.Component.TheVariants as kind

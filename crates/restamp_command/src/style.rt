@@ -13,7 +13,7 @@ use crate::zone::{Zone, parse_zone};
 use restamp_formats::{FormatFault, Named, Writing, find_writing};
 use std::alloc::Global;
 use std::rt::{Env, Files};
-use time_writing::FractionDigits;
+use time_formatting::FractionDigits;
 use time_zones::write_suffix;
 
 /// How a moment is written.

@@ -8,7 +8,7 @@ use restamp_formats::Fold;
 use time_components::{BorrowedFormatItem, Padding, item};
 use time_parsing::Parsable;
 use time_values::UtcOffset;
-use time_writing::FractionDigits;
+use time_formatting::FractionDigits;
 
 /// A number.
 pub fn find_number(text: &str) -> Option<u64>

@@ -23,7 +23,7 @@ use Rattle.time_values.specs.Times.{HasClock, time_refusal}
 use Rattle.time_values.specs.declared.offset_date_time.OffsetDateTime.{OffsetDateTime}
 use Rattle.time_values.proofs.InstantLemmas.{ordinal_in}
 use Rattle.time_values.proofs.YearLemmas.{abs_within, year_length-leap_day}
-use Rattle.time_writing.proofs.SameTexts.{signed-minutes, signed-seconds}
+use Rattle.time_formatting.proofs.SameTexts.{signed-minutes, signed-seconds}
 use Rattle.time_components.specs.declared.format_description.Component.{Component}
 use Rattle.time_components.specs.declared.format_description.Component.TheVariants as component
 use Rattle.time_formatting.specs.Components.{count_of, hour_12, kept, value_of}

@@ -18,9 +18,9 @@ use Rattle.time_zones.specs.declared.suffix.Suffixed.{Suffixed}
 use Rattle.time_zones.specs.declared.zones.Zones.{Zones}
 use Rattle.time_zones.proofs.FolderLemmas.{same_offset_by_seconds, one_check}
 use Rattle.time_zones.proofs.LongestLemmas.{suffix_once}
-use Rattle.time_writing.specs.Texts.{WritesSuch, IsMailText, mail_text}
-use Rattle.time_writing.specs.declared.parts.FractionDigits.{FractionDigits}
-use Rattle.time_writing.specs.declared.parts.Unwritable.{Unwritable}
+use Rattle.time_formatting.specs.WellKnown.{WritesSuch, IsMailText, mail_text}
+use Rattle.time_formatting.specs.declared.parts.FractionDigits.{FractionDigits}
+use Rattle.time_formatting.specs.declared.parts.Unwritable.{Unwritable}
 use Rattle.restamp_formats.specs.Zoned.{IsConvertedTo, IsConvertedIn, IsConverted, conversion_error, IsChecked, IsLongestSuffix, IsSuffixed, Suffix, checked, extended, has_tail, tells_offset}
 use Rattle.restamp_formats.specs.Form.{IsCounted, IsNamedText, IsWrittenBy, IsWritten, unit_of, written}
 use Rattle.restamp_formats.specs.Reason.{Reason, unread}

@@ -9,10 +9,10 @@ use Rattle.time_values.specs.Shown.{Items}
 use Rattle.time_values.specs.Times as Times
 use Rattle.time_values.specs.declared.offset_date_time.OffsetDateTime.{OffsetDateTime}
 use Rattle.time_descriptions.specs.Description.{shape}
-use Rattle.time_writing.specs.Texts.{WritesSuch, IsMailText, moment_text, count_of, unwritable_3339, unwritable_2822}
-use Rattle.time_writing.specs.declared.parts.FractionDigits.{FractionDigits}
-use Rattle.time_writing.specs.declared.parts.FractionDigits.TheVariants.{Exactly}
-use Rattle.time_writing.specs.declared.parts.Unwritable.{Unwritable}
+use Rattle.time_formatting.specs.WellKnown.{WritesSuch, IsMailText, moment_text, count_of, unwritable_3339, unwritable_2822}
+use Rattle.time_formatting.specs.declared.parts.FractionDigits.{FractionDigits}
+use Rattle.time_formatting.specs.declared.parts.FractionDigits.TheVariants.{Exactly}
+use Rattle.time_formatting.specs.declared.parts.Unwritable.{Unwritable}
 use Rattle.time_record.specs.Record.{empty}
 use Rattle.time_record.specs.Resolution.{IsMoment}
 use Rattle.time_parsing.specs.Outcome.{IsOutcome}

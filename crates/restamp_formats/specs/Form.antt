@@ -9,9 +9,9 @@ use Rattle.time_values.specs.Moments.{offset_instant, offset_time}
 use Rattle.time_values.specs.Shown.{Items}
 use Rattle.time_values.specs.Times as Times
 use Rattle.time_values.specs.declared.offset_date_time.OffsetDateTime.{OffsetDateTime}
-use Rattle.time_writing.specs.Texts.{Writes, WritesSuch, IsMailText, moment_text, count_of, unwritable_3339, unwritable_2822}
-use Rattle.time_writing.specs.declared.parts.FractionDigits.{FractionDigits}
-use Rattle.time_writing.specs.declared.parts.Unwritable.{Unwritable}
+use Rattle.time_formatting.specs.WellKnown.{Writes, WritesSuch, IsMailText, moment_text, count_of, unwritable_3339, unwritable_2822}
+use Rattle.time_formatting.specs.declared.parts.FractionDigits.{FractionDigits}
+use Rattle.time_formatting.specs.declared.parts.Unwritable.{Unwritable}
 use Rattle.restamp_formats.specs.Zoned.{IsConverted, conversion_error}
 use Rattle.restamp_formats.specs.Reason.{Reason, unwritable, unformattable, out_of_range}
 use Rattle.restamp_formats.specs.declared.clock.Clock.{Clock}

@@ -9,8 +9,8 @@ use Rattle.time_values.specs.declared.utc_offset.UtcOffset.{UtcOffset}
 use Rattle.time_zones.specs.Suffix.{GoesWith, IsNameIn, IsSuffix, IsZoneText, Tag, Zone, ZoneTag, at_offset, bracketed, critical_key, named}
 use Rattle.time_zones.specs.Finding.{zone_named, IsZoneIfAny, SameNamed}
 use Rattle.time_zones.specs.declared.zones.Zones.{Zones}
-use Rattle.time_writing.specs.declared.parts.FractionDigits.{FractionDigits}
-use Rattle.time_writing.specs.declared.parts.FractionDigits.TheVariants.{Auto}
+use Rattle.time_formatting.specs.declared.parts.FractionDigits.{FractionDigits}
+use Rattle.time_formatting.specs.declared.parts.FractionDigits.TheVariants.{Auto}
 use Rattle.time_components.specs.Tree.{Tree, steps_shape}
 use Rattle.time_components.specs.declared.inspect.Step.{Step}
 use Rattle.time_descriptions.specs.Description.{shape}

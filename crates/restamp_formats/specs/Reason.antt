@@ -4,8 +4,8 @@ use Rattle.time_formatting.specs.Texts.{unformattable_text}
 use Rattle.time_formatting.specs.declared.walk.Unformattable.{Unformattable}
 use Rattle.time_values.specs.Refusal.{Refusal, refusal_of, refusal_text}
 use Rattle.time_values.specs.Shown.{Items, fixed}
-use Rattle.time_writing.specs.Texts.{unwritable_text}
-use Rattle.time_writing.specs.declared.parts.Unwritable.{Unwritable}
+use Rattle.time_formatting.specs.WellKnown.{unwritable_text}
+use Rattle.time_formatting.specs.declared.parts.Unwritable.{Unwritable}
 use Rattle.time_zones.specs.Zones.{suffix_fault_text}
 use Rattle.time_zones.specs.declared.checking.SuffixFault.{SuffixFault}
 use Rattle.restamp_formats.specs.declared.reading.Match.{Match}

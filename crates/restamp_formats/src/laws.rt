@@ -5,7 +5,7 @@ ghost use Rattle.restamp_formats.specs.MissingField.{ClocksHaveNoUse, HasNoUse, 
 
 /// A text written by RFC 3339, RFC 2822 or ISO 8601 parses by the same format as the same moment, at the offset of the
 /// clock that it was converted to, provided that each nonzero digit of its fraction was written; and the match has all
-/// bytes of the text. [`Auto`](time_writing::FractionDigits::Auto) omits no such digit.
+/// bytes of the text. [`Auto`](time_formatting::FractionDigits::Auto) omits no such digit.
 ///
 /// A text written by a description parses likewise by a description with the same tree, provided that the values of its
 /// components make a record of that moment, and that each component's text is followed by bytes that may follow it.

@@ -6,7 +6,7 @@ ghost use Rattle.restamp_formats.specs.Reason.{seen, offset_text, offsets_text, 
 use std::{fmt, str};
 use time_formatting::Unformattable;
 use time_values::error::Parse;
-use time_writing::Unwritable;
+use time_formatting::Unwritable;
 use time_zones::SuffixFault;
 
 /// The offsets of the two moments that an ambiguous local time may mean.

@@ -250,7 +250,7 @@ mod anywhere {
     use restamp_lines::{Job, REACH, Verdict};
     use restamp_place::Place;
     use std::test::Fail;
-    use time_writing::{FractionDigits, Text};
+    use time_formatting::{FractionDigits, Text};
 
     const DAY: &[u8] =
         b"[day padding:none] [month repr:long] [year] [hour]:[minute] [offset_hour sign:mandatory]";

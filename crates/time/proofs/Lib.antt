@@ -10,8 +10,8 @@ pub use Rattle.time_parsing.proofs.WrittenBack
 pub use Rattle.time_record.proofs.HeldRecords
 pub use Rattle.time_record.proofs.ResolutionLemmas
 pub use Rattle.time_record.proofs.Unique
-pub use Rattle.time_writing.proofs.KeptDigits
-pub use Rattle.time_writing.proofs.SameTexts
+pub use Rattle.time_formatting.proofs.KeptDigits
+pub use Rattle.time_formatting.proofs.SameTexts
 pub use Rattle.time_zones.proofs.FolderLemmas
 pub use Rattle.time_zones.proofs.LongestLemmas
 pub use Rattle.time_zones.proofs.ZoneLemmas

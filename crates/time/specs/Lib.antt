@@ -1,7 +1,6 @@
 pub mod Types
 pub mod Words
 pub mod components
-pub mod describing
 pub mod descriptions
 pub mod digits
 pub mod formatting
@@ -11,5 +10,4 @@ pub mod preparing
 pub mod readers
 pub mod records
 pub mod values
-pub mod writing
 pub mod zones

@@ -33,8 +33,8 @@ pub use Rattle.time_values.specs.declared.utc_offset.UtcOffset.{UtcOffset}
 pub use Rattle.time_values.specs.declared.weekday.Weekday.{Weekday}
 pub use Rattle.time_values.specs.declared.weekday.Weekday.TheVariants.{Monday, Tuesday, Wednesday, Thursday, Friday}
 pub use Rattle.time_values.specs.declared.weekday.Weekday.TheVariants.{Saturday, Sunday}
-pub use Rattle.time_writing.specs.declared.parts.FractionDigits.{FractionDigits}
-pub use Rattle.time_writing.specs.declared.parts.FractionDigits.TheVariants.{Auto, Exactly}
-pub use Rattle.time_writing.specs.declared.parts.Unwritable.{Unwritable}
+pub use Rattle.time_formatting.specs.declared.parts.FractionDigits.{FractionDigits}
+pub use Rattle.time_formatting.specs.declared.parts.FractionDigits.TheVariants.{Auto, Exactly}
+pub use Rattle.time_formatting.specs.declared.parts.Unwritable.{Unwritable}
 pub use Rattle.time_zones.specs.declared.clocks.NotOne.{NotOne}
 pub use Rattle.time_zones.specs.declared.suffix.Suffixed.{Suffixed}

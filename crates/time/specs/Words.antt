@@ -19,5 +19,5 @@ pub use Rattle.time_values.specs.Moments.{plain_date, plain_time, offset_date, o
 pub use Rattle.time_values.specs.Moments.{utc_time, plain_instant, offset_instant, utc_instant, nanoseconds}
 pub use Rattle.time_values.specs.Refusal.{Refusal, refusal_of, refusal_of_range, refusal_of_description}
 pub use Rattle.time_values.specs.Refusal.{refusal_of_parsed, trailing}
-pub use Rattle.time_writing.specs.Texts.{count_of, moment_text, basic_text, mail_text, IsMailText, unwritable_3339}
-pub use Rattle.time_writing.specs.Texts.{unwritable_2822, Writes, WritesSuch}
+pub use Rattle.time_formatting.specs.WellKnown.{count_of, moment_text, basic_text, mail_text, IsMailText, unwritable_3339}
+pub use Rattle.time_formatting.specs.WellKnown.{unwritable_2822, Writes, WritesSuch}

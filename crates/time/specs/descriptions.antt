@@ -1,3 +1,4 @@
+pub use Rattle.time_descriptions.specs.Described
 pub use Rattle.time_descriptions.specs.Components
 pub use Rattle.time_descriptions.specs.Description
 pub use Rattle.time_descriptions.specs.Grammar

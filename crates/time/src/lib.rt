@@ -47,12 +47,11 @@ pub mod prelude {
 /// The errors.
 pub mod error {
     pub use time_descriptions::{InvalidFormatDescription, OwnedError};
-    pub use time_formatting::Unformattable;
+    pub use time_formatting::{Unformattable, Unwritable};
     pub use time_preparing::Unprepared;
     pub use time_values::error::{
         ComponentRange, DifferentVariant, Error, Parse, ParseFromDescription, TryFromParsed,
     };
-    pub use time_writing::Unwritable;
 }
 
 /// Descriptions of how a date, a time or an offset is written, and the well-known formats.
@@ -87,14 +86,15 @@ pub mod format_description {
 
 /// Texts of descriptions.
 pub mod describing {
-    pub use time_describing::{DescriptionText, NoText, description_of, is_described, text_of};
+    pub use time_descriptions::{DescriptionText, NoText, description_of, is_described, text_of};
 }
 
 /// Texts of moments. None takes memory: a text is an array and a length.
 pub mod formatting {
-    pub use time_formatting::format;
+    pub use time_formatting::{
+        FractionDigits, format, text_2822, text_3339, text_8601, text_8601_basic,
+    };
     pub use time_values::text::Text;
-    pub use time_writing::{FractionDigits, text_2822, text_3339, text_8601, text_8601_basic};
 }
 
 /// What texts are parsed by, and the record of what was parsed.
@@ -147,7 +147,6 @@ pub mod util {
 /// Functions whose contracts are laws, by the crate that proves them.
 pub mod laws {
     pub use time_components::laws as components;
-    pub use time_describing::laws as describing;
     pub use time_descriptions::laws as descriptions;
     pub use time_digits::laws as digits;
     pub use time_formatting::laws as formatting;
@@ -157,7 +156,6 @@ pub mod laws {
     pub use time_readers::laws as readers;
     pub use time_record::laws as records;
     pub use time_values::laws as values;
-    pub use time_writing::laws as writing;
 
     /// The laws of `time_zones`.
     pub mod zones {

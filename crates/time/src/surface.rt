@@ -63,10 +63,10 @@ fn refusals<'a>(
     ),
 ) -> (
     time_descriptions::InvalidFormatDescription<'a>,
-    time_describing::NoText,
+    time_descriptions::NoText,
     time_formatting::Unformattable,
     time_preparing::Unprepared,
-    time_writing::Unwritable,
+    time_formatting::Unwritable,
 ) {
     its
 }
@@ -131,7 +131,7 @@ fn description(its: here::format_description::Description<8>) -> time_descriptio
 // The text of a description.
 fn description_text(
     its: here::describing::DescriptionText<8>,
-) -> time_describing::DescriptionText<8> {
+) -> time_descriptions::DescriptionText<8> {
     its
 }
 
@@ -153,7 +153,7 @@ fn formats(
 // What is written of moments.
 fn writing(
     its: (here::formatting::FractionDigits, here::formatting::Text),
-) -> (time_writing::FractionDigits, time_values::text::Text) {
+) -> (time_formatting::FractionDigits, time_values::text::Text) {
     its
 }
 
@@ -299,12 +299,12 @@ mod functions {
     #[test]
     fn texts() {
         are_one(here::formatting::format, time_formatting::format);
-        are_one(here::formatting::text_3339, time_writing::text_3339);
-        are_one(here::formatting::text_2822, time_writing::text_2822);
-        are_one(here::formatting::text_8601, time_writing::text_8601);
+        are_one(here::formatting::text_3339, time_formatting::text_3339);
+        are_one(here::formatting::text_2822, time_formatting::text_2822);
+        are_one(here::formatting::text_8601, time_formatting::text_8601);
         are_one(
             here::formatting::text_8601_basic,
-            time_writing::text_8601_basic,
+            time_formatting::text_8601_basic,
         );
     }
 
@@ -355,8 +355,8 @@ mod functions {
             time_components::laws::law_one_spelling,
         );
         are_one(
-            here::laws::describing::law_one_tree,
-            time_describing::laws::law_one_tree,
+            here::laws::descriptions::law_one_tree,
+            time_descriptions::laws::law_one_tree,
         );
         are_one(
             here::laws::descriptions::law_one_outcome,
@@ -395,8 +395,8 @@ mod functions {
             time_values::laws::law_first_date,
         );
         are_one(
-            here::laws::writing::law_one_shown,
-            time_writing::laws::law_one_shown,
+            here::laws::formatting::law_one_shown,
+            time_formatting::laws::law_one_shown,
         );
         are_one(
             here::laws::zones::law_one_answer,

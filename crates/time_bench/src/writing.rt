@@ -4,7 +4,7 @@
 //! the loop.
 
 use time_values::{Date, Month, OffsetDateTime, Time, UtcOffset};
-use time_writing::{FractionDigits, Text, Unwritable, text_2822, text_3339};
+use time_formatting::{FractionDigits, Text, Unwritable, text_2822, text_3339};
 
 // The moment, or `None` where a number is out of range.
 fn moment(day: u8, nanosecond: u32, minutes: i8) -> Option<OffsetDateTime> {

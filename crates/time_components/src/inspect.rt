@@ -1,6 +1,7 @@
 //! A uniform view of the items of any description, and the steps that a parsed description is stored as.
-ghost use Rattle.std.specs.Prelude.{◌≡◌};
-ghost use Rattle.time_components.specs.Tree.{borrowed_shape, owned_shape, v3_shape, Tree, node_tree};
+ghost use Rattle.std.specs.Prelude.{◌≡◌, ◌≤◌, drop, length};
+ghost use Rattle.time_components.specs.Tree as spec;
+ghost use Rattle.time_components.specs.Tree.{borrowed_shape, further, owned_shape, v3_shape, Tree, node_tree};
 
 use crate::{BorrowedFormatItem, Component, FormatDescriptionV3Inner, OwnedFormatItem};
 
@@ -113,4 +114,33 @@ impl Default for Step {
     fn default() -> Step {
         Step::Literal(0)
     }
+}
+
+/// The steps after those that belong to a step: the further bytes of a literal, or the steps of a group.
+#[inline(always)]
+pub fn steps_after<'s>(step: &Step, behind: &'s [Step]) -> &'s [Step]
+    ensures after { result.now ≡ spec.steps_after step.now behind.now }
+    ensures fewer { length result.now ≤ length behind.now }
+{
+    match *step {
+        Step::Literal(_) | Step::More(_) => after_further(behind),
+        Step::Component(_) => behind,
+        Step::Group(_, len) => {
+            let (_, after) = behind.split_at(len.min(behind.len()));
+            after
+        }
+    }
+}
+
+// The steps after the further bytes of a literal. Not inlined, so that a loop over leaves needs fewer registers.
+#[inline(never)]
+fn after_further(steps: &[Step]) -> &[Step]
+    ensures after { result.now ≡ drop (length (further steps.now)) steps.now }
+    ensures fewer { length result.now ≤ length steps.now }
+{
+    let mut left = steps;
+    while let [Step::More(_), behind @ ..] = left {
+        left = behind;
+    }
+    left
 }

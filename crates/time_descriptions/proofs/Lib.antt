@@ -1,5 +1,9 @@
 pub mod Adding
+pub mod Checks
+pub mod DescribedText
+pub mod OneTree
 pub mod ReadComponents
+pub mod ReadDescribed
 pub mod Shapes
 pub mod Versions
 pub mod Written

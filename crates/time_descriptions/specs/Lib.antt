@@ -1,4 +1,6 @@
 pub mod Components
+pub mod Described
+pub mod DescribedParts
 pub mod Description
 pub mod Grammar
 pub mod Items

@@ -1,4 +1,5 @@
-//! Laws of descriptions, each the contract of a function.
+//! Laws of descriptions and of their texts, each the contract of a function.
+ghost use Rattle.time_descriptions.specs.Described.{DescribedTrees, OneTree};
 ghost use Rattle.time_descriptions.specs.Description.{DescribedBack, OneDescription, OneOutcome, OneStrftimeDescription, OneStrftimeOutcome, StepsOfRead, StrftimePieces, VersionsAgree};
 
 /// A text describes at most one tree in each version.
@@ -43,4 +44,15 @@ pub fn law_strftime_pieces()
 /// room for.
 pub fn law_one_strftime_outcome()
     ensures { OneStrftimeOutcome }
+{}
+
+/// Texts of version 2 describe exactly the trees that are valid items in turn.
+pub fn law_described_trees()
+    ensures { DescribedTrees }
+{}
+
+/// Trees that texts describe are equal if the texts that are written of them are.
+#[tactic(auto, using(crate::proofs::OneTree::one_tree))]
+pub fn law_one_tree()
+    ensures { OneTree }
 {}

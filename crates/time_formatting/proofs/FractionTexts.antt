@@ -17,8 +17,8 @@ use Rattle.time_values.specs.Moments.{offset_instant}
 use Rattle.time_values.specs.declared.offset_date_time.OffsetDateTime.{OffsetDateTime}
 use Rattle.time_values.proofs.YearLemmas.{abs_within}
 use Rattle.time_values.proofs.InstantLemmas.{clock_nanos_range, first_instant_is, instant_is, last_instant_is}
-use Rattle.time_writing.proofs.KeptDigits.{fixed-length, front-below, significant-bound, take-fixed}
-use Rattle.time_writing.proofs.SameTexts.{signed-hours}
+use Rattle.time_formatting.proofs.KeptDigits.{fixed-length, front-below, significant-bound, take-fixed}
+use Rattle.time_formatting.proofs.SameTexts.{signed-hours}
 use Rattle.time_digits.specs.Digits.{IsDigitRun, NoDigitFirst, digits_value, Form, IsPaddedRun, AllDigits}
 use Rattle.time_digits.specs.declared.Padding.{Padding}
 use Rattle.time_digits.specs.declared.Padding.TheVariants as padding

@@ -1,3 +1,5 @@
 pub mod DigitRuns
 pub mod FractionTexts
+pub mod KeptDigits
+pub mod SameTexts
 pub mod Spelled

@@ -2,3 +2,4 @@ pub mod Components
 pub mod Numbers
 pub mod Steps
 pub mod Texts
+pub mod WellKnown

@@ -13,9 +13,9 @@ use Rattle.time_values.specs.Sign.{signed_by}
 use Rattle.time_values.specs.Times as Times
 use Rattle.time_values.specs.declared.offset_date_time.OffsetDateTime.{OffsetDateTime}
 use Rattle.time_values.specs.declared.plain_date_time.PlainDateTime.{PlainDateTime}
-use Rattle.time_writing.specs.Texts.{is_behind, is_none, numeric_text, zone_text, basic_offset_text, basic_text, moment_text, date_text, clock_text}
-use Rattle.time_writing.specs.Texts as Texts
-use Rattle.time_writing.proofs.KeptDigits.{fixed-length}
+use Rattle.time_formatting.specs.WellKnown.{is_behind, is_none, numeric_text, zone_text, basic_offset_text, basic_text, moment_text, date_text, clock_text}
+use Rattle.time_formatting.specs.WellKnown as Texts
+use Rattle.time_formatting.proofs.KeptDigits.{fixed-length}
 use Rattle.time_digits.specs.Digits.{sign_byte, is_negative, NoDigitFirst}
 use Rattle.time_digits.specs.declared.Sign.{Sign}
 use Rattle.time_readers.specs.IsoPieces.{NoPointFirst, with_sign}

@@ -26,7 +26,7 @@ use Rattle.time_readers.proofs.IsoCuts.{year-found, number-found, pieces-are_cut
 use Rattle.time_readers.proofs.OneMailDate.{round-one}
 use Rattle.time_readers.proofs.IsoTimes.{offset_by_pieces_is, colon_minute, minute_basic}
 use Rattle.time_readers.proofs.IsoPieces.{month-numbered}
-use Rattle.time_writing.proofs.KeptDigits.{fixed-length}
+use Rattle.time_formatting.proofs.KeptDigits.{fixed-length}
 use Rattle.time_parsing.specs.Written.{kept}
 use Rattle.time_parsing.proofs.WrittenBack.{fixed-run, written-fraction, not_zero}
 

@@ -16,9 +16,9 @@ use Rattle.time_values.specs.Names.{month_number}
 use Rattle.time_values.specs.Offsets as Offsets
 use Rattle.time_values.specs.Times as Times
 use Rattle.time_values.specs.declared.offset_date_time.OffsetDateTime.{OffsetDateTime}
-use Rattle.time_writing.specs.Texts.{short_weekday, short_month, is_behind, mail_text}
-use Rattle.time_writing.specs.declared.parts.Unwritable.TheVariants.{Year, OffsetSecond}
-use Rattle.time_writing.proofs.KeptDigits.{fixed-length}
+use Rattle.time_formatting.specs.WellKnown.{short_weekday, short_month, is_behind, mail_text}
+use Rattle.time_formatting.specs.declared.parts.Unwritable.TheVariants.{Year, OffsetSecond}
+use Rattle.time_formatting.proofs.KeptDigits.{fixed-length}
 use Rattle.time_digits.specs.Digits.{sign_byte, is_negative, IsDigitRun}
 use Rattle.time_digits.specs.declared.Sign.{Sign}
 use Rattle.time_digits.specs.declared.Sign.TheVariants.{Negative, Positive}

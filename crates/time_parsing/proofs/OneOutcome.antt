@@ -8,8 +8,8 @@ use Rattle.time_values.specs.declared.offset_date_time.OffsetDateTime.{OffsetDat
 use Rattle.time_values.specs.Dates as Dates
 use Rattle.time_values.specs.Names.{month_number}
 use Rattle.time_values.specs.Shown.{fixed}
-use Rattle.time_writing.specs.declared.parts.FractionDigits.TheVariants.{Auto, Exactly}
-use Rattle.time_writing.specs.Texts.{moment_text, basic_text}
+use Rattle.time_formatting.specs.declared.parts.FractionDigits.TheVariants.{Auto, Exactly}
+use Rattle.time_formatting.specs.WellKnown.{moment_text, basic_text}
 use Rattle.time_components.specs.declared.format_description.Component.{Component}
 use Rattle.time_components.specs.declared.format_description.Component.TheVariants.{Ignore}
 use Rattle.time_components.specs.Spelling.{Spells}

@@ -16,11 +16,11 @@ use Rattle.time_values.specs.Times as Times
 use Rattle.time_values.specs.Times.{time_refusal}
 use Rattle.time_values.specs.declared.offset_date_time.OffsetDateTime.{OffsetDateTime}
 use Rattle.time_values.proofs.NumberLemmas.{month_number_in}
-use Rattle.time_writing.specs.Texts.{is_behind, is_none, numeric_text, offset_text, moment_text, count_of}
-use Rattle.time_writing.specs.declared.parts.FractionDigits.{FractionDigits}
-use Rattle.time_writing.specs.declared.parts.FractionDigits.TheVariants.{Auto, Exactly}
-use Rattle.time_writing.specs.declared.parts.Unwritable.TheVariants.{Year, OffsetHour, OffsetSecond}
-use Rattle.time_writing.proofs.KeptDigits.{fixed-length, take-fixed, front-below, significant-bound, keeps-auto}
+use Rattle.time_formatting.specs.WellKnown.{is_behind, is_none, numeric_text, offset_text, moment_text, count_of}
+use Rattle.time_formatting.specs.declared.parts.FractionDigits.{FractionDigits}
+use Rattle.time_formatting.specs.declared.parts.FractionDigits.TheVariants.{Auto, Exactly}
+use Rattle.time_formatting.specs.declared.parts.Unwritable.TheVariants.{Year, OffsetHour, OffsetSecond}
+use Rattle.time_formatting.proofs.KeptDigits.{fixed-length, take-fixed, front-below, significant-bound, keeps-auto}
 use Rattle.time_digits.specs.Digits.{sign_byte, is_negative, AllDigits, digits_value, NoDigitFirst, IsDigitRun, IsFraction}
 use Rattle.time_digits.specs.declared.Sign.{Sign}
 use Rattle.time_digits.specs.declared.Sign.TheVariants.{Negative, Positive}

@@ -44,6 +44,45 @@ use time_values::{OffsetDateTime, PlainDateTime};
 #[derive(Clone, Copy, Debug, PartialEq, Eq)]
 pub struct Iso8601;
 
+// Stores a date's numbers in turn, up to the first that is out of its range, and returns the error of that one.
+#[inline(always)]
+fn store_date(numbers: DateNumbers, parsed: &mut Parsed) -> Result<(), ParseFromDescription>
+    ensures { MatchResult result
+        (λ _. spec.put_or_fault greatest_year (spec.date_entries (iso_date numbers)) parsed.old ≡ Ok parsed.new)
+        (λ e. spec.put_or_fault greatest_year (spec.date_entries (iso_date numbers)) parsed.old
+        ≡ Err (refusal_of_description e)) }
+{
+    match numbers {
+        DateNumbers::Calendar(year, month, day) => {
+            if parsed.set_year(year).is_none() {
+                return Err(ParseFromDescription::InvalidComponent("year"));
+            }
+            parsed.set_month(month);
+            if parsed.set_day(day).is_none() {
+                return Err(ParseFromDescription::InvalidComponent("day"));
+            }
+        }
+        DateNumbers::Ordinal(year, ordinal) => {
+            if parsed.set_year(year).is_none() {
+                return Err(ParseFromDescription::InvalidComponent("year"));
+            }
+            if parsed.set_ordinal(ordinal).is_none() {
+                return Err(ParseFromDescription::InvalidComponent("ordinal"));
+            }
+        }
+        DateNumbers::Week(year, week, weekday) => {
+            if parsed.set_iso_year(year).is_none() {
+                return Err(ParseFromDescription::InvalidComponent("year"));
+            }
+            if parsed.set_iso_week_number(week).is_none() {
+                return Err(ParseFromDescription::InvalidComponent("week"));
+            }
+            parsed.set_weekday(weekday);
+        }
+    }
+    Ok(())
+}
+
 // Stores a date's numbers. If one is out of its range, returns the error of the first such number, and stores nothing.
 #[inline(always)]
 fn put_date(numbers: DateNumbers, parsed: &mut Parsed) -> Result<(), ParseFromDescription>
@@ -53,38 +92,11 @@ fn put_date(numbers: DateNumbers, parsed: &mut Parsed) -> Result<(), ParseFromDe
         ≡ Err (refusal_of_description e)) × (parsed.new ≡ parsed.old)) }
 {
     let before = *parsed;
-    match numbers {
-        DateNumbers::Calendar(year, month, day) => {
-            if parsed.set_year(year).is_none() {
-                return Err(ParseFromDescription::InvalidComponent("year"));
-            }
-            parsed.set_month(month);
-            if parsed.set_day(day).is_none() {
-                *parsed = before;
-                return Err(ParseFromDescription::InvalidComponent("day"));
-            }
-        }
-        DateNumbers::Ordinal(year, ordinal) => {
-            if parsed.set_year(year).is_none() {
-                return Err(ParseFromDescription::InvalidComponent("year"));
-            }
-            if parsed.set_ordinal(ordinal).is_none() {
-                *parsed = before;
-                return Err(ParseFromDescription::InvalidComponent("ordinal"));
-            }
-        }
-        DateNumbers::Week(year, week, weekday) => {
-            if parsed.set_iso_year(year).is_none() {
-                return Err(ParseFromDescription::InvalidComponent("year"));
-            }
-            if parsed.set_iso_week_number(week).is_none() {
-                *parsed = before;
-                return Err(ParseFromDescription::InvalidComponent("week"));
-            }
-            parsed.set_weekday(weekday);
-        }
+    let stored = store_date(numbers, parsed);
+    if stored.is_err() {
+        *parsed = before;
     }
-    Ok(())
+    stored
 }
 
 // Stores a time's numbers, or nothing.

@@ -9,7 +9,7 @@ ghost use Rattle.time_parsing.specs.TreeLaws.{KeepsReadings, KeepsRecords, Keeps
 ghost use Rattle.time_parsing.specs.Outcome.{OneFront, OneOutcome, OneMomentOutcome, SameMoments, direct, over_record};
 ghost use Rattle.time_parsing.specs.Rfc2822 as Rfc2822;
 ghost use Rattle.time_parsing.specs.Rfc3339 as Rfc3339;
-ghost use Rattle.time_writing.specs.declared.parts.FractionDigits.TheVariants.{Auto, Exactly};
+ghost use Rattle.time_formatting.specs.declared.parts.FractionDigits.TheVariants.{Auto, Exactly};
 
 use crate::Parsable;
 pub use crate::rfc3339::text_3339;
@@ -80,7 +80,7 @@ pub fn law_suffix()
     ensures { LeavesSuffix greatest_year }
 {}
 
-/// The text that [`text_3339`](time_writing::text_3339) writes of a moment parses back by [`Rfc3339`](crate::Rfc3339)
+/// The text that [`text_3339`](time_formatting::text_3339) writes of a moment parses back by [`Rfc3339`](crate::Rfc3339)
 /// as that moment except for the digits that aren't written, without defaults, directly and over a record. As many
 /// digits as the fraction has, or nine, keep all of it. The canonical text, which [`text_3339`] of this module writes,
 /// parses back as the whole moment.
@@ -100,15 +100,15 @@ pub fn law_one_text()
     ensures auto { OneShortText }
 {}
 
-/// The text that [`text_2822`](time_writing::text_2822) writes of a moment parses back by [`Rfc2822`](crate::Rfc2822)
+/// The text that [`text_2822`](time_formatting::text_2822) writes of a moment parses back by [`Rfc2822`](crate::Rfc2822)
 /// as that moment without its fraction, without defaults, directly and over a record.
 pub fn law_mail_read_back()
     ensures { ReadsMailBack greatest_year (direct (RefusesRfc2822 greatest_year)) (Rfc2822.Reads greatest_year)
         (Rfc2822.Refuses greatest_year) }
 {}
 
-/// What [`text_8601`](time_writing::text_8601) writes of a moment parses back by [`Iso8601`](crate::Iso8601) as that
-/// moment, and what [`text_8601_basic`](time_writing::text_8601_basic) writes parses back as that moment without its
+/// What [`text_8601`](time_formatting::text_8601) writes of a moment parses back by [`Iso8601`](crate::Iso8601) as that
+/// moment, and what [`text_8601_basic`](time_formatting::text_8601_basic) writes parses back as that moment without its
 /// fraction, without defaults and over a record. The first is the text of RFC 3339 with nine digits of a fraction. With
 /// any number of digits such a text parses back as the moment except for the digits that aren't written.
 pub fn law_iso_read_back()

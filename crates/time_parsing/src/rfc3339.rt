@@ -12,7 +12,7 @@ ghost use Rattle.time_parsing.specs.Rfc3339.{date_entries, time_entries, offset_
 ghost use Rattle.time_values.specs.Dates as Dates;
 ghost use Rattle.time_values.specs.Moments.{offset_date, offset_of};
 ghost use Rattle.time_values.specs.Offsets as Offsets;
-ghost use Rattle.time_writing.specs.Texts.{date_text, clock_text, offset_sign, numeric_text};
+ghost use Rattle.time_formatting.specs.WellKnown.{date_text, clock_text, offset_sign, numeric_text};
 ghost use Rattle.time_parsing.specs.Written.{canonical_text};
 
 use crate::Parsable;
@@ -180,8 +180,8 @@ fn offset_with_colon(offset: UtcOffset) -> [u8; 6]
 /// The canonical text of a moment by RFC 3339, section 5.6: `2021-01-02T03:04:05.500000000-00:30`, always with nine
 /// digits of a fraction, and with `+00:00` in UTC.
 ///
-/// The year has to be 0 to 9999, and the offset whole minutes, at most 23:59. [`text_3339`](time_writing::text_3339) of
-/// `time_writing` has no such requirement.
+/// The year has to be 0 to 9999, and the offset whole minutes, at most 23:59. [`time_formatting::text_3339`] has no such
+/// requirement.
 pub fn text_3339(value: OffsetDateTime) -> [u8; 35]
     requires year { IsBetween (pos 0) (pos 9999) (Dates.year (offset_date value)) }
     requires hours { IsBetween (neg_ℤ (pos 23)) (pos 23) (Offsets.hours (offset_of value)) }

@@ -8,12 +8,12 @@ mod front;
 ghost use Rattle.std.specs.Prelude.{◌≡◌, ◌≤◌, length, drop};
 ghost use Rattle.time_values.specs.Calendar.{greatest_year};
 ghost use Rattle.time_components.specs.Tree as steps_;
-ghost use Rattle.time_components.specs.Tree.{steps_shape, steps_trees, further, first_of, optional};
+ghost use Rattle.time_components.specs.Tree.{steps_shape, steps_trees, first_of, optional};
 ghost use Rattle.time_preparing.specs.Forms.{Fits};
 ghost use Rattle.time_preparing.specs.Walk.{Goes, Tells, item_length};
 
 use crate::joined::Joined;
-use time_components::{Group, Step};
+use time_components::{Group, Step, steps_after};
 use time_record::Parsed;
 use time_values::error::ParseFromDescription;
 
@@ -210,23 +210,5 @@ fn item_len(step: &Step, behind: &[Step]) -> usize
     ensures len { result ≡ item_length step.now behind.now }
     ensures within { result ≤ length behind.now }
 {
-    match step {
-        Step::Literal(_) | Step::More(_) => further_len(behind),
-        Step::Component(_) => 0,
-        Step::Group(_, len) => (*len).min(behind.len()),
-    }
-}
-
-// How many of the steps at the front are further bytes of a literal.
-fn further_len(steps: &[Step]) -> usize
-    ensures len { result ≡ length (further steps.now) }
-    ensures within { result ≤ length steps.now }
-{
-    let [step, behind @ ..] = steps else {
-        return 0;
-    };
-    match step {
-        Step::More(_) => 1 + further_len(behind),
-        _ => 0,
-    }
+    behind.len() - steps_after(step, behind).len()
 }

@@ -5,7 +5,7 @@ ghost use Rattle.time_descriptions.specs.Description.{shape};
 
 use crate::describing::texts::is_text;
 use time_components::{BorrowedFormatItem, item};
-use time_describing::{NoText, description_of, text_of};
+use time_descriptions::{NoText, description_of, text_of};
 use time_descriptions::Description;
 
 /// The description of a sequence of items.
@@ -29,7 +29,7 @@ fn text_of_a_clock(rt: HostRuntime) {
 mod texts {
     use std::alloc::Global;
     use time_components::{BorrowedFormatItem, item};
-    use time_describing::{DescriptionText, NoText, description_of, text_of};
+    use time_descriptions::{DescriptionText, NoText, description_of, text_of};
     use time_descriptions::parse_owned;
 
     // Texts of descriptions, and the canonical text of each: without default modifiers, with one space before each
@@ -157,7 +157,7 @@ mod texts {
 mod refused {
     use std::alloc::{AllocError, Global};
     use time_components::{BorrowedFormatItem, OwnedFormatItem, item};
-    use time_describing::{NoText, is_described, text_of};
+    use time_descriptions::{NoText, is_described, text_of};
 
     // Whether no text describes the sequence of items.
     fn is_refused(items: &[BorrowedFormatItem<'_>]) -> bool {

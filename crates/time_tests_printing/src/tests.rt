@@ -4,7 +4,7 @@ mod values;
 
 use time_values::error::ComponentRange;
 use time_values::{Date, Month, OffsetDateTime, PlainDateTime, Time, UtcDateTime, UtcOffset};
-use time_writing::{Text, Unwritable};
+use time_formatting::{Text, Unwritable};
 
 // The numbers of a moment's date, of its time, and of its offset in hours, minutes and seconds.
 type Numbers = ((i32, Month, u8), (u8, u8, u8, u32), (i8, i8, i8));
@@ -69,8 +69,8 @@ mod texts {
     use Format::{BasicIso8601, Iso8601, Rfc2822, Rfc3339};
     use time_values::error::ComponentRange;
     use time_values::{Month, OffsetDateTime};
-    use time_writing::FractionDigits::{Auto, Exactly};
-    use time_writing::{
+    use time_formatting::FractionDigits::{Auto, Exactly};
+    use time_formatting::{
         FractionDigits, Text, Unwritable, text_2822, text_3339, text_8601, text_8601_basic,
     };
 
@@ -229,7 +229,7 @@ mod texts {
         use time_record::Parsed;
         use time_values::error::ComponentRange;
         use time_values::{Month, OffsetDateTime};
-        use time_writing::{FractionDigits, Text, Unwritable, text_2822, text_3339, text_8601};
+        use time_formatting::{FractionDigits, Text, Unwritable, text_2822, text_3339, text_8601};
 
         // Whether that text is written, and parsed as that moment by the format, without defaults and over an empty
         // record.

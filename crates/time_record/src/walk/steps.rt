@@ -1,5 +1,5 @@
 //! Walks over the steps of a description that was parsed from a text, a second root over the short cuts of leaves.
-ghost use Rattle.std.specs.Prelude.{◌≡◌, ◌≢◌, ◌-◌, ◌≤◌, ◌++◌, ◌∷◌, [], ℕ, List, Ok, IfSome, length, drop, MatchOption};
+ghost use Rattle.std.specs.Prelude.{◌≡◌, ◌≢◌, ◌-◌, ◌≤◌, ◌++◌, ◌∷◌, [], ℕ, List, Ok, IfSome, length, MatchOption};
 ghost use Rattle.time_values.specs.Calendar.{greatest_year};
 ghost use Rattle.time_values.specs.Refusal.{refusal_of_description};
 ghost use Rattle.time_components.specs.Tree as steps_;
@@ -12,7 +12,7 @@ ghost use Rattle.time_record.specs.Record.{Record};
 use super::fast;
 use crate::parsed::component::fault;
 use crate::{Parsed, Tries};
-use time_components::{Group, Step};
+use time_components::{Group, Step, steps_after};
 use time_values::error::ParseFromDescription;
 
 /// Parses the steps at the start of the input as a list, and counts it and the items inside it that are visited. If one
@@ -221,22 +221,6 @@ fn walk_first<'a>(
     Err(first_fault)
 }
 
-// The steps after those that belong to a step.
-#[inline(always)]
-fn steps_after<'s>(step: &Step, behind: &'s [Step]) -> &'s [Step]
-    ensures after { result.now ≡ steps_.steps_after step.now behind.now }
-    ensures fewer { length result.now ≤ length behind.now }
-{
-    match *step {
-        Step::Literal(_) | Step::More(_) => after_further(behind),
-        Step::Component(_) => behind,
-        Step::Group(_, len) => {
-            let (_, after) = behind.split_at(len.min(behind.len()));
-            after
-        }
-    }
-}
-
 // The further byte of a literal at the start of the steps, if there is one, and the steps after it.
 // This is no second way of reading.
 #[inline(always)]
@@ -252,20 +236,8 @@ pub(super) fn further_byte(steps: &[Step]) -> Option<(u8, &[Step])>
     }
 }
 
-// The steps after the further bytes of a literal. Not inlined, so that the loop over leaves needs fewer registers.
-#[inline(never)]
-fn after_further(steps: &[Step]) -> &[Step]
-    ensures after { result.now ≡ drop (length (steps_.further steps.now)) steps.now }
-    ensures fewer { length result.now ≤ length steps.now }
-{
-    let mut left = steps;
-    while let Some((_, behind)) = further_byte(left) {
-        left = behind;
-    }
-    left
-}
-
-// Parses a literal of this byte and the further bytes at the start of the steps. Not inlined, as `after_further`.
+// Parses a literal of this byte and the further bytes at the start of the steps. Not inlined, so that the loop over leaves needs
+// fewer registers.
 #[inline(never)]
 fn read_literal<'a>(
     first: u8,

@@ -2,7 +2,7 @@ use Rattle.std.proofs.Common.{◌≡◌, ℕ, List, [], ◌∷◌, length, get_o
 use Rattle.time_values.specs.Moments.{offset_date, offset_time, offset_of}
 use Rattle.time_values.specs.Shown.{fixed}
 use Rattle.time_values.specs.Times as Times
-use Rattle.time_writing.specs.Texts.{date_text, clock_text, numeric_text}
+use Rattle.time_formatting.specs.WellKnown.{date_text, clock_text, numeric_text}
 use Rattle.time_parsing.proofs.rfc3339.text_3339.Goals as goal
 
 -- ---- Short lists, by their elements

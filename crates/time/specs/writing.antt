@@ -1,1 +1,0 @@
-pub use Rattle.time_writing.specs.Texts

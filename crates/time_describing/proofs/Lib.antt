@@ -1,4 +1,0 @@
-pub mod Checks
-pub mod DescribedText
-pub mod OneTree
-pub mod ReadDescribed

@@ -1,0 +1,98 @@
+-- The trees that a text of version 2 describes: those of items in turn.
+use Rattle.std.specs.Prelude.{ℕ, zero, suc, List, [], ◌∷◌, Bool, true, false, not, ◌&&◌, ◌||◌, nat_lt, ◌≡◌, ◌<◌, length, ◌↔◌}
+use Rattle.time_components.specs.declared.format_description.Component.{Component}
+use Rattle.time_components.specs.declared.format_description.Component.TheVariants as component
+use Rattle.time_components.specs.Tree.{Tree, Trees, literal, component as component_tree, sequence, optional, first_of, none, more}
+use Rattle.time_descriptions.specs.declared.leaf.Version.TheVariants as versions
+use Rattle.time_descriptions.specs.Grammar.{is_plain, most_lists, Describes}
+use Rattle.time_descriptions.specs.Writing.{is_escaped, tree_text}
+use Rattle.time_descriptions.specs.declared.describing.described.NoText.{NoText}
+use Rattle.time_descriptions.specs.declared.describing.described.NoText.TheVariants as no_text
+
+-- one byte that is written after a backslash
+abbrev pub is_escape : List ℕ → Bool
+is_escape (b ∷ []) = is_escaped b
+is_escape bytes = false
+
+-- bytes that need no backslash
+abbrev pub are_plain : Bool → List ℕ → Bool
+are_plain nested [] = true
+are_plain nested (b ∷ bytes) = is_plain versions.Two nested b && are_plain nested bytes
+
+abbrev pub is_literal : Bool → List ℕ → Bool
+is_literal nested [] = false
+is_literal nested (b ∷ bytes) = is_escape (b ∷ bytes) || are_plain nested (b ∷ bytes)
+
+-- a literal that needs no backslash; two in a row would be parsed as one literal
+abbrev pub is_run : Tree → Bool
+is_run (literal bytes) = not (is_escape bytes)
+is_run _ = false
+
+abbrev pub begins_run : Trees → Bool
+begins_run none = false
+begins_run (more t ts) = is_run t
+
+-- a count has 16 bits
+abbrev pub has_words : Component → Bool
+has_words (component.Ignore m) = not (nat_lt 65535 m.count.value)
+has_words _ = true
+
+abbrev pub is_some : Trees → Bool
+is_some none = false
+is_some (more t ts) = true
+
+unfoldable mutual
+  -- an item with at most depth nested lists
+  pub is_item : ℕ → Bool → Tree → Bool
+  is_item depth nested (literal bytes) = is_literal nested bytes
+  is_item depth nested (component_tree ends c) = not ends && has_words c
+  is_item depth nested (sequence ts) = false
+  is_item zero nested (optional t) = false
+  is_item (suc depth) nested (optional t) = is_list depth t
+  is_item zero nested (first_of ts) = false
+  is_item (suc depth) nested (first_of ts) = is_some ts && are_lists depth ts
+
+  pub is_list : ℕ → Tree → Bool
+  is_list depth (sequence ts) = are_items depth true ts
+  is_list depth _ = false
+
+  -- lists of a choice
+  pub are_lists : ℕ → Trees → Bool
+  are_lists depth none = true
+  are_lists depth (more t ts) = is_list depth t && are_lists depth ts
+
+  -- items in turn
+  pub are_items : ℕ → Bool → Trees → Bool
+  are_items depth nested none = true
+  are_items depth nested (more t ts) =
+      is_item depth nested t && not (is_run t && begins_run ts) && are_items depth nested ts
+
+-- a tree that a text describes
+abbrev pub is_described : Tree → Bool
+is_described (sequence ts) = are_items most_lists false ts
+is_described _ = false
+
+-- ---- The text of a tree, and trees without a text
+
+-- Some text of version 2 describes the tree.
+abbrev pub HasText : Tree → Type 0
+HasText tree = (text : List ℕ) × Describes versions.Two text tree
+
+-- These bytes are the text that is written of the tree, and describe it.
+abbrev pub IsTextOf : Tree → List ℕ → Type 0
+IsTextOf tree bytes = (bytes ≡ tree_text tree) × Describes versions.Two bytes tree
+
+-- Why there is no text of at most n bytes: no text describes the tree, or the text that is written of it is longer.
+abbrev pub IsNoText : ℕ → Tree → NoText → Type 0
+IsNoText n tree no_text.Undescribed = HasText tree → ⊥
+IsNoText n tree no_text.TooLong = HasText tree × (n < length (tree_text tree))
+
+-- ---- Laws of texts of descriptions
+
+-- Texts describe exactly the trees that are valid items in turn.
+abbrev pub DescribedTrees : Type 0
+DescribedTrees = (tree : Tree) → (is_described tree ≡ true) ↔ HasText tree
+
+-- Trees are equal if the texts that are written of them are.
+abbrev pub OneTree : Type 0
+OneTree = (a b : Tree) → HasText a → HasText b → tree_text a ≡ tree_text b → a ≡ b

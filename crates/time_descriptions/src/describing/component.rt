@@ -1,0 +1,195 @@
+//! Texts of components in descriptions.
+ghost use Rattle.std.specs.Prelude.{◌≡◌, ◌++◌, codes, false};
+ghost use Rattle.time_components.specs.Tree as tree;
+ghost use Rattle.time_descriptions.specs.Writing as writing;
+ghost use Rattle.time_descriptions.specs.Writing.{tree_text};
+ghost use Rattle.time_descriptions.specs.DescribedParts as parts;
+ghost use Rattle.time_descriptions.specs.DescribedParts.{Puts};
+
+use crate::describing::writing::{DescriptionText, Full};
+use itoa::Buffer;
+use time_components::{Component, Padding, SubsecondDigits, TrailingInput};
+
+// The name, with the modifiers that select the form.
+fn name_part(component: Component) -> &'static str
+    ensures { result.now ≡ parts.name_part component }
+{
+    match component {
+        Component::Day(_) => "day",
+        Component::MonthShort(_) => "month repr:short",
+        Component::MonthLong(_) => "month repr:long",
+        Component::MonthNumerical(_) => "month",
+        Component::Ordinal(_) => "ordinal",
+        Component::WeekdayShort(_) => "weekday repr:short",
+        Component::WeekdayLong(_) => "weekday",
+        Component::WeekdaySunday(_) => "weekday repr:sunday",
+        Component::WeekdayMonday(_) => "weekday repr:monday",
+        Component::WeekNumberIso(_) => "week_number",
+        Component::WeekNumberSunday(_) => "week_number repr:sunday",
+        Component::WeekNumberMonday(_) => "week_number repr:monday",
+        Component::CalendarYearFullExtendedRange(_) => "year",
+        Component::CalendarYearFullStandardRange(_) => "year range:standard",
+        Component::IsoYearFullExtendedRange(_) => "year base:iso_week",
+        Component::IsoYearFullStandardRange(_) => "year base:iso_week range:standard",
+        Component::CalendarYearCenturyExtendedRange(_) => "year repr:century",
+        Component::CalendarYearCenturyStandardRange(_) => "year repr:century range:standard",
+        Component::IsoYearCenturyExtendedRange(_) => "year repr:century base:iso_week",
+        Component::IsoYearCenturyStandardRange(_) =>
+            "year repr:century base:iso_week range:standard",
+        Component::CalendarYearLastTwo(_) => "year repr:last_two",
+        Component::IsoYearLastTwo(_) => "year repr:last_two base:iso_week",
+        Component::Hour12(_) => "hour repr:12",
+        Component::Hour24(_) => "hour",
+        Component::Minute(_) => "minute",
+        Component::Period(m) if m.is_uppercase => "period",
+        Component::Period(_) => "period case:lower",
+        Component::Second(_) => "second",
+        Component::Subsecond(_) => "subsecond",
+        Component::OffsetHour(_) => "offset_hour",
+        Component::OffsetMinute(_) => "offset_minute",
+        Component::OffsetSecond(_) => "offset_second",
+        Component::Ignore(_) => "ignore count:",
+        Component::UnixTimestampSecond(_) => "unix_timestamp",
+        Component::UnixTimestampMillisecond(_) => "unix_timestamp precision:millisecond",
+        Component::UnixTimestampMicrosecond(_) => "unix_timestamp precision:microsecond",
+        Component::UnixTimestampNanosecond(_) => "unix_timestamp precision:nanosecond",
+        Component::End(_) => "end",
+    }
+}
+
+// An expression over the modifiers of a component with one of the names, or else the last value.
+macro_rules! of_names {
+    ($component:ident, $modifiers:ident: $($($name:ident)|+ => $value:expr,)+ _ => $other:expr) => {
+        match $component {
+            $($(Component::$name($modifiers) => $value,)+)+
+            _ => $other,
+        }
+    };
+}
+
+// The padding of the number. For a component without a number it is one that isn't written.
+fn padding_of(component: Component) -> Padding
+    ensures { writing.padding_text result ≡ parts.padding_part component }
+{
+    of_names!(component, m:
+        Day | MonthNumerical | Ordinal | WeekNumberIso | WeekNumberSunday | WeekNumberMonday
+        | CalendarYearFullExtendedRange | CalendarYearFullStandardRange
+        | IsoYearFullExtendedRange | IsoYearFullStandardRange
+        | CalendarYearCenturyExtendedRange | CalendarYearCenturyStandardRange
+        | IsoYearCenturyExtendedRange | IsoYearCenturyStandardRange
+        | CalendarYearLastTwo | IsoYearLastTwo
+        | Hour12 | Hour24 | Minute | Second | OffsetHour | OffsetMinute | OffsetSecond => m.padding,
+        _ => Padding::Zero
+    )
+}
+
+fn padding_text(padding: Padding) -> &'static str
+    ensures { result.now ≡ writing.padding_text padding }
+{
+    match padding {
+        Padding::Zero => "",
+        Padding::Space => " padding:space",
+        Padding::None => " padding:none",
+    }
+}
+
+fn sign_text(sign_is_mandatory: bool) -> &'static str
+    ensures { result.now ≡ writing.sign_text sign_is_mandatory }
+{
+    if sign_is_mandatory {
+        " sign:mandatory"
+    } else {
+        ""
+    }
+}
+
+// A modifier that is written if the flag isn't set.
+fn where_false(modifier: &'static str, is_set: bool) -> &'static str
+    ensures { result.now ≡ writing.where_false modifier.now is_set }
+{
+    if is_set { "" } else { modifier }
+}
+
+fn digits_text(digits: SubsecondDigits) -> &'static str
+    ensures { result.now ≡ writing.digits_text digits }
+{
+    match digits {
+        SubsecondDigits::One => " digits:1",
+        SubsecondDigits::Two => " digits:2",
+        SubsecondDigits::Three => " digits:3",
+        SubsecondDigits::Four => " digits:4",
+        SubsecondDigits::Five => " digits:5",
+        SubsecondDigits::Six => " digits:6",
+        SubsecondDigits::Seven => " digits:7",
+        SubsecondDigits::Eight => " digits:8",
+        SubsecondDigits::Nine => " digits:9",
+        SubsecondDigits::OneOrMore => "",
+    }
+}
+
+fn trailing_input_text(trailing_input: TrailingInput) -> &'static str
+    ensures { result.now ≡ writing.trailing_input_text trailing_input }
+{
+    match trailing_input {
+        TrailingInput::Prohibit => "",
+        TrailingInput::Discard => " trailing_input:discard",
+    }
+}
+
+// The modifier after the padding, if it isn't the default.
+fn modifier_part(component: Component) -> &'static str
+    ensures { result.now ≡ parts.modifier_part component }
+{
+    of_names!(component, m:
+        MonthShort | MonthLong | WeekdayShort | WeekdayLong | Period =>
+            where_false(" case_sensitive:false", m.case_sensitive),
+        WeekdaySunday | WeekdayMonday => where_false(" one_indexed:false", m.one_indexed),
+        CalendarYearFullExtendedRange | CalendarYearFullStandardRange
+        | IsoYearFullExtendedRange | IsoYearFullStandardRange
+        | CalendarYearCenturyExtendedRange | CalendarYearCenturyStandardRange
+        | IsoYearCenturyExtendedRange | IsoYearCenturyStandardRange | OffsetHour
+        | UnixTimestampSecond | UnixTimestampMillisecond
+        | UnixTimestampMicrosecond | UnixTimestampNanosecond => sign_text(m.sign_is_mandatory),
+        Subsecond => digits_text(m.digits),
+        End => trailing_input_text(m.trailing_input),
+        _ => ""
+    )
+}
+
+// Writes the digits of a count.
+fn put_count<const N: usize>(
+    component: Component,
+    text: &mut DescriptionText<N>,
+) -> Result<(), Full>
+    ensures { Puts N (parts.count_part component) text.old.bytes.items result text.new.bytes.items }
+{
+    match component {
+        Component::Ignore(m) => text.put(Buffer::new().format(m.count.get()).as_bytes()),
+        _ => Ok(()),
+    }
+}
+
+// Writes the contents of the component's brackets.
+fn put_words<const N: usize>(
+    component: Component,
+    text: &mut DescriptionText<N>,
+) -> Result<(), Full>
+    ensures { Puts N (parts.parts_of component) text.old.bytes.items result text.new.bytes.items }
+{
+    text.put(name_part(component).as_bytes())?;
+    text.put(padding_text(padding_of(component)).as_bytes())?;
+    text.put(modifier_part(component).as_bytes())?;
+    put_count(component, text)
+}
+
+/// Writes the component in its brackets.
+pub(crate) fn put_component<const N: usize>(
+    component: Component,
+    text: &mut DescriptionText<N>,
+) -> Result<(), Full>
+    ensures { Puts N (tree_text (tree.component false component)) text.old.bytes.items result text.new.bytes.items }
+{
+    text.put(b"[")?;
+    put_words(component, text)?;
+    text.put(b"]")
+}

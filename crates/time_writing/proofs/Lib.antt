@@ -1,2 +1,0 @@
-pub mod KeptDigits
-pub mod SameTexts

@@ -1,201 +1,155 @@
-"""The picture of the crates: bands from bottom to top, and in the last one, side by side, what is built from them.
+"""The picture of the crates: three columns of the library, for reading, values and writing, and below them its users.
 
-A box has its name, and below it its one purpose. A line leads from a crate to one that depends on it, unless another
-path does. It reports a crate without a box, a label that doesn't fit, two things that overlap, a line that runs behind
-a box or a label, and lines that aren't those of crates.txt.
+An arrow leads from a group to one that uses it. A bold name marks where a reader starts in a column. It reports a crate
+that no group has or that is gone, a line that doesn't fit, and an arrow without a dependency in crates.txt or the other
+way around.
 """
-import re
 
-BANDS = ("values and texts of digits", "readers, descriptions and the record", "parsing, what stands on it, and streams", "built of them")
-# Each box: its band, row and column, its purpose, and further lines in it.
-BOXES = {
-    "time_digits": (0, 0, 0, "digits, signs, single bytes"),
-    "time_zones": (0, 0, 1, "moments in named zones"),
-    "time_values": (0, 0, 2.05, "dates, times, offsets, errors"),
-    "time_components": (1, 1, 1, "how a component is spelled"),
-    "time_readers": (1, 2, 0, "RFC 3339, RFC 2822, ISO 8601"),
-    "time_record": (1, 2, 1, "what was parsed, resolved"),
-    "time_descriptions": (1, 2, 2, "descriptions and their texts"),
-    "time_formatting": (1, 2, 3.25, "texts of moments"),
-    "time_parsing": (2, 3, 1, "a text's value, or its error"),
-    "time_preparing": (2, 4, 0, "a description for many texts"),
-    "time_locating": (2, 4, 1, "where a text goes wrong"),
-    "byte_streams": (2, 4, 2.15, "calls that fail, counted"),
-    "the facade": (2, 4, 3.25, "all of them, by Rust's paths", "time, time_uses"),
-    "programs": (3, 5, 0, "texts parsed line by line", "programs_answers", "time_lines", "time_parse"),
-    "restamp": (3, 5, 2.15, "times rewritten in lines", "restamp_place, restamp_formats,", "restamp_lines, restamp_stream,",
-                "restamp_in_place,", "restamp_command, restamp"),
-    "C": (3, 5, 1.1, "C, Rust, Python and SQL", "pelzaune_ffi", "pelzaune"),
-    "tests and benches": (3, 5, 3.25, "stand on all of these", "time_tests_.., restamp_tests", "time_bench"),
+WIDE, COLUMN, GAP, LINE, LEFT = 800, 232, 28, 31, 24
+STAGES = ("text", "numbers", "record", "value", "text")
+# Each group of the library: its crates with their purposes, and the entry point first.
+COLUMNS = {
+    "Read": {
+        "time_parsing": "a text's value, or its error",
+        "time_locating": "where a rejected text fails",
+        "time_preparing": "a description for many texts",
+        "time_record": "what was parsed, and its value",
+        "time_readers": "RFC 3339, RFC 2822, ISO 8601",
+        "time_descriptions": "descriptions, and their texts",
+        "time_components": "how a component is spelled",
+        "time_digits": "digits and signs",
+    },
+    "Values": {
+        "time_values": "dates, times, offsets, errors",
+        "time_zones": "moments in named time zones",
+    },
+    "Write": {
+        "time_formatting": "texts of moments",
+    },
 }
-# The lines, each with the column in which it runs up past other rows, if it passes some.
-LINES = [
-    ("time_values", "time_zones", None),
-    ("time_digits", "time_components", None), ("time_values", "time_components", None),
-    ("time_components", "time_readers", None), ("time_components", "time_record", None),
-    ("time_components", "time_descriptions", None), ("time_components", "time_formatting", None),
-    ("time_formatting", "time_parsing", None),
-    ("time_readers", "time_parsing", None), ("time_record", "time_parsing", None), ("time_descriptions", "time_parsing", None),
-    ("time_parsing", "time_preparing", None), ("time_preparing", "time_locating", None),
-    ("time_locating", "programs", None), ("byte_streams", "programs", None), ("byte_streams", "restamp", None),
-    ("time_locating", "restamp", None), ("time_locating", "C", None), ("byte_streams", "C", None),
-    ("time_zones", "restamp", 1.9),
-]
-WIDE, HIGH, STEP, PITCH, LEFT, SMALL = 204, 30, 244, 112, 30, 6.1
-# Boxes that depend on all others.
-ON_ALL = ("the facade", "tests and benches")
-MEMBERS = {"the facade": ("time", "time_uses"), "programs": ("programs_answers", "time_lines", "time_parse"), "C": ("pelzaune_ffi", "pelzaune"),
-           "restamp": ("restamp_place", "restamp_stream", "restamp_in_place", "restamp_formats", "restamp_lines", "restamp_command", "restamp")}
+# Each group of users: its purpose, and its lines of crates.
+USERS = {
+    "Rust's paths": ("one crate to depend on", "time", "time_uses"),
+    "Lines of texts": ("programs that print values", "programs_answers", "time_lines, time_parse"),
+    "restamp": ("times rewritten in logs", "restamp_place", "restamp_formats", "restamp_lines", "restamp_stream", "restamp_in_place",
+                "restamp_command", "restamp"),
+    "C, Python, SQL": ("the library for C, and on it", "pelzaune_ffi", "pelzaune"),
+}
+STREAMS = ("Streams", "what programs read and write", "byte_streams")
+# The arrows between groups; the library is the three columns together.
+ARROWS = [("Values", "Read"), ("Read", "Write"), ("Values", "Write"), ("Write", "Read")]
+FROM_STREAMS = ("Lines of texts", "restamp", "C, Python, SQL")
 
 
-def box_of(crate):
-    """The box of a crate."""
-    if "_tests" in crate or crate == "time_bench":
-        return "tests and benches"
-    return next((box for box, crates in MEMBERS.items() if crate in crates), crate)
+def groups():
+    """The crates of each group."""
+    found = {name: set(crates) for name, crates in COLUMNS.items()}
+    for name, (_, *lines) in [*USERS.items(), (STREAMS[0], STREAMS[1:])]:
+        found[name] = {it for line in lines for it in line.split(", ")}
+    return found
 
 
-def is_shown(crate):
-    """Whether a box has the crate's name, in its lines or as its own. Crates of tests need none."""
-    box = BOXES.get(box_of(crate))
-    return "_tests" in crate or box is not None and crate in re.findall(r"\w+", " ".join(box[4:]) or crate)
+def is_test(crate):
+    return "_tests" in crate or crate == "time_bench"
 
 
-def wanted_lines(below):
-    """The lines without another path, from crates to their dependents, but for boxes that depend on all."""
-    on = {}
-    for crate, lower in below.items():
-        on.setdefault(box_of(crate), set()).update(box_of(it) for it in lower)
-    on = {it: lower - {it} for it, lower in on.items()}
-
-    def all_below(box):
-        return on[box].union(*(all_below(it) for it in on[box]))
-
-    return {(low, box) for box, lower in on.items() if box not in ON_ALL
-            for low in lower if not any(low in all_below(it) for it in lower if it != low)}
-
-
-class Plan:
-    def __init__(self, below):
-        rows = 1 + max(it[1] for it in BOXES.values())
-        self.bottom = 40 + (rows - 1) * PITCH + 56
-        self.wide = round(LEFT * 2 + max(it[2] for it in BOXES.values()) * STEP + WIDE)
-        self.rects, self.labels, self.ways, self.wrong = {}, [], {}, []
-        for name, (_, row, column, purpose, *more) in BOXES.items():
-            x, high = round(LEFT + column * STEP), HIGH + 15 * len(more)
-            y = self.bottom - row * PITCH - (high - HIGH)
-            self.rects[name] = (x, y, WIDE, high)
-            self.label(name, x, y + high + 5, purpose, WIDE - 24)
-            for k, line in enumerate(more):
-                if len(line) * SMALL > WIDE - 8:
-                    self.wrong.append(f"`{line}` doesn't fit its box")
-        for title, foot in zip(BANDS, self.feet()):
-            self.label("a band", 18, foot - 18, title, STEP)
-        self.wrong += [f"{it} isn't shown" for it in below if not is_shown(it)]
-        lines = {(low, high) for low, high, _ in LINES}
-        for low, high in sorted(wanted_lines(below) ^ lines):
-            self.wrong.append(f"a line from {low} to {high} {'is missing' if (low, high) not in lines else 'says nothing new'}")
-        for line in LINES:
-            self.lead(*line)
-        self.compare()
-
-    def feet(self):
-        """The tops of the bands."""
-        for k in range(len(BANDS)):
-            yield self.bottom - min(it[1] for it in BOXES.values() if it[0] == k) * PITCH + HIGH + 40
-
-    def label(self, name, x, y, words, most):
-        if len(words) * SMALL > most:
-            self.wrong.append(f"`{words}` doesn't fit below {name}")
-        self.labels.append((x, y, round(len(words) * SMALL), 14, words))
-
-    def lead(self, low, high, channel):
-        """A path from the top of the lower box to the bottom of the higher one, in a column of its own past other
-        rows."""
-        (a, b, c, d), (x, y, w, h) = self.rects[low], self.rects[high]
-        if b + d == y + h and BOXES[low][1] == BOXES[high][1]:
-            side = y + h - HIGH // 2
-            self.ways[low, high] = [(a + c, side), (x - 6, side)] if a < x else [(a, side), (x + w + 6, side)]
-            return
-        for begin in (a + c // 2, *range(a + 20, a + c - 16, 10)):
-            for way in ways_between(begin, b, x + w - 12, y + h + 6, channel):
-                if self.is_free(low, high, way):
-                    self.ways[low, high] = way
-                    return
-        self.wrong.append(f"no way leads from {low} to {high}")
-
-    def is_free(self, low, high, way):
-        """Whether nothing is in the way, and no other line runs along it, except from the same box, or at its end to
-        the same box."""
-        parts = list(zip(way, way[1:]))
-        if any(meets(part, it) for part in parts for it in [*self.rects.values(), *(it[:4] for it in self.labels)]):
-            return False
-        for (other_low, other_high), other in self.ways.items():
-            others = list(zip(other, other[1:]))
-            for one in parts:
-                for two in others:
-                    joins = other_high == high and one is parts[-1] and two is others[-1]
-                    if runs_along(one, two) and other_low != low and not joins:
-                        return False
-        return True
-
-    def compare(self):
-        things = [(name, rect) for name, rect in self.rects.items()] + [(it[4], it[:4]) for it in self.labels]
-        for k, (name, one) in enumerate(things):
-            for other, two in things[k + 1 :]:
-                if one[0] < two[0] + two[2] and two[0] < one[0] + one[2] and one[1] < two[1] + two[3] and two[1] < one[1] + one[3]:
-                    self.wrong.append(f"`{name}` and `{other}` overlap")
-
-    def shapes(self, text):
-        for k, foot in enumerate(self.feet()):
-            y = min(self.rects[name][1] for name, it in BOXES.items() if it[0] == k) - 12
-            yield f'<rect class="band" x="8" y="{y}" width="{self.wide - 16}" height="{foot - y}" rx="8"/>'
-        for way in self.ways.values():
-            path = " L ".join(f"{x} {y}" for x, y in way)
-            (a, b), (x, y) = way[-2:]
-            yield f'<path class="line" d="M {path}"/>'
-            right, left, up = (x + 6, y, "l -6 -4 v 8 z"), (x - 6, y, "l 6 -4 v 8 z"), (x, y - 6, "l -4 6 h 8 z")
-            x, y, head = up if b != y else right if a < x else left
-            yield f'<path class="head" d="M {x} {y} {head}"/>'
-        for name, (x, y, w, h) in self.rects.items():
-            yield f'<rect class="box" x="{x}" y="{y}" width="{w}" height="{h}" rx="6"/>'
-            yield text(x + w // 2, y + 20, name, "code", "middle")
-            for k, line in enumerate(BOXES[name][4:]):
-                yield text(x + w // 2, y + 36 + 15 * k, line, "small", "middle")
-        for x, y, _, _, words in self.labels:
-            yield text(x, y + 11, words, "small")
+def differences(below):
+    """What is wrong with the groups and the arrows, by the crates' dependencies."""
+    of = {crate: name for name, crates in groups().items() for crate in crates}
+    wrong = [f"{it} has no group" for it in below if it not in of and not is_test(it)]
+    wrong += [f"{it} is no crate" for it in of if it not in below]
+    used = {(of[low], of[crate]) for crate, lower in below.items() for low in lower if crate in of and low in of}
+    used = {(low, user) for low, user in used if low != user and not (low in COLUMNS and user in USERS)}
+    drawn_ones = {*ARROWS, *((STREAMS[0], it) for it in FROM_STREAMS)}
+    wrong += [f"an arrow from {low} to {user} {'is missing' if (low, user) in used else 'has no dependency'}"
+              for low, user in sorted(used ^ drawn_ones)]
+    return wrong
 
 
-def ways_between(begin, top, end, foot, channel):
-    """The paths from a place up to another, each at a height of its own, and through the channel if there is one."""
-    for first in range(8, PITCH - HIGH - 30, 5):
-        if channel is None:
-            yield [(begin, top), (begin, top - first), (end, top - first), (end, foot)]
-            continue
-        for up in range(round(LEFT + channel * STEP), round(LEFT + channel * STEP) + 30, 6):
-            for last in range(6, PITCH - HIGH - 30, 5):
-                yield [(begin, top), (begin, top - first), (up, top - first), (up, foot + last), (end, foot + last), (end, foot)]
+class Picture:
+    """The shapes so far, and what doesn't fit."""
 
+    def __init__(self, text):
+        self.text, self.shapes, self.wrong = text, [], []
 
-def meets(part, box):
-    """Whether a part of a path runs through a box, more than along its edge."""
-    (a, b), (c, d) = part
-    x, y, w, h = box
-    return min(a, c) < x + w + 2 and max(a, c) > x - 2 and min(b, d) < y + h and max(b, d) > y
+    def words(self, x, y, words, kind, most, anchor="start"):
+        if len(words) * (6.7 if "code" in kind else 5.9) > most:
+            self.wrong.append(f"`{words}` doesn't fit")
+        self.shapes.append(self.text(x, y, words, kind, anchor))
 
+    def box(self, x, y, wide, high, kind="box"):
+        self.shapes.append(f'<rect class="{kind}" x="{x}" y="{y}" width="{wide}" height="{high}" rx="8"/>')
 
-def runs_along(one, other):
-    """Whether two parts of paths overlap, or look like one."""
-    (a, b), (c, d) = one
-    (e, f), (g, h) = other
-    if a == c and e == g and abs(a - e) < 4:
-        return min(b, d) < max(f, h) and min(f, h) < max(b, d)
-    if b == d and f == h and abs(b - f) < 4:
-        return min(a, c) <= max(e, g) and min(e, g) <= max(a, c)
-    return False
+    def arrow(self, *points):
+        """A path, whose last part is horizontal or vertical, with a head at its end."""
+        (a, b), (x, y) = points[-2:]
+        across, down = (x > a) - (x < a), (y > b) - (y < b)
+        head = f"l {-7 * across - 4 * down} {-7 * down - 4 * across} l {8 * down} {8 * across} z"
+        self.shapes.append(f'<path class="line" d="M {" L ".join(f"{p} {q}" for p, q in points)}"/>')
+        self.shapes.append(f'<path class="head" d="M {x} {y} {head}"/>')
+
+    def stages(self):
+        """What a text becomes, across the top."""
+        step = (WIDE - 2 * LEFT) // len(STAGES)
+        for k, stage in enumerate(STAGES):
+            middle = LEFT + step * k + step // 2
+            self.words(middle, 32, stage, "", step, "middle")
+            if k:
+                self.arrow((middle - step + 36, 28), (middle - 36, 28))
+
+    def column(self, k, title, crates, y, high):
+        """A column, as high as its crates in the middle, so that arrows between the others pass below it."""
+        x = LEFT + k * (COLUMN + GAP)
+        high = high if k != 1 else 46 + LINE * len(crates)
+        self.box(x, y, COLUMN, high)
+        self.words(x + 12, y + 22, title, "", COLUMN)
+        for line, (crate, purpose) in enumerate(crates.items()):
+            at = y + 46 + line * LINE
+            self.words(x + 12, at, crate, "code" if line else "code entry", COLUMN - 24)
+            self.words(x + 12, at + 13, purpose, "small", COLUMN - 24)
+
+    def users(self, y):
+        """The groups of users side by side, and their bottom."""
+        wide = (WIDE - 2 * LEFT - 3 * 12) // 4
+        high = 52 + 15 * max(len(lines) - 1 for lines in USERS.values())
+        for k, (title, (purpose, *lines)) in enumerate(USERS.items()):
+            x = LEFT + k * (wide + 12)
+            self.arrow((x + wide // 2 - 30, y - 34), (x + wide // 2 - 30, y - 2))
+            if title in FROM_STREAMS:
+                self.arrow((x + wide // 2 + 30, y + high + 34), (x + wide // 2 + 30, y + high + 2))
+            self.box(x, y, wide, high)
+            self.words(x + 10, y + 20, title, "", wide)
+            self.words(x + 10, y + 35, purpose, "small", wide - 12)
+            for line, crates in enumerate(lines):
+                self.words(x + 10, y + 53 + 15 * line, crates, "code", wide)
+        return y + high
+
+    def draw(self):
+        """Everything, and the picture's height."""
+        self.stages()
+        top, high = 62, 46 + LINE * max(len(it) for it in COLUMNS.values())
+        self.box(8, top - 12, WIDE - 16, high + 24, "band")
+        for k, (title, crates) in enumerate(COLUMNS.items()):
+            self.column(k, title, crates, top, high)
+        one, two, three = (LEFT + k * (COLUMN + GAP) for k in range(3))
+        self.arrow((two, top + 24), (one + COLUMN + 2, top + 24))
+        self.arrow((two + COLUMN, top + 24), (three - 2, top + 24))
+        low = top + high - 60
+        self.arrow((one + COLUMN, low), (three - 2, low))
+        self.arrow((three, low + 24), (one + COLUMN + 2, low + 24))
+        bottom = self.users(top + high + 48)
+        wide = (WIDE - 2 * LEFT - 3 * 12) // 4
+        self.box(LEFT + wide + 12, bottom + 36, 3 * wide + 24, 44)
+        self.words(LEFT + wide + 24, bottom + 56, f"{STREAMS[0]}: {STREAMS[1]}", "", 2 * wide)
+        self.words(LEFT + wide + 24, bottom + 72, STREAMS[2], "code", wide)
+        self.words(LEFT, bottom + 52, "An arrow leads from a", "small", wide)
+        self.words(LEFT, bottom + 66, "group to one that uses it.", "small", wide)
+        self.words(LEFT, bottom + 80, "Start at a bold name.", "small", wide)
+        return bottom + 96
 
 
 def drawn(below, text):
     """The picture's width, height and shapes, and what is wrong with it."""
-    plan = Plan(below)
-    return plan.wide, plan.bottom + HIGH + 48, list(plan.shapes(text)), plan.wrong
+    picture = Picture(text)
+    high = picture.draw()
+    return WIDE, high, picture.shapes, picture.wrong + differences(below)

@@ -16,6 +16,7 @@ ghost use Rattle.time_record.specs.Reading.{Reads};
 
 use crate::{Expected, Located};
 use time_components::Component;
+use time_record::fault;
 use time_values::error::ParseFromDescription;
 
 // Whether the component has this name, which is that of the error of its text. For an ISO 8601 week, the error of its
@@ -24,40 +25,8 @@ fn is_named(component: Component, name: &str) -> bool
     ensures { result ≡ places.is_named name.now component }
 {
     match component {
-        Component::Day(_) => name == "day",
-        Component::MonthShort(_) | Component::MonthLong(_) | Component::MonthNumerical(_) => name
-            == "month",
-        Component::Ordinal(_) => name == "ordinal",
-        Component::WeekdayShort(_)
-        | Component::WeekdayLong(_)
-        | Component::WeekdaySunday(_)
-        | Component::WeekdayMonday(_) => name == "weekday",
         Component::WeekNumberIso(_) => name == "week number" || name == "week",
-        Component::WeekNumberSunday(_) | Component::WeekNumberMonday(_) => name == "week number",
-        Component::CalendarYearFullExtendedRange(_)
-        | Component::CalendarYearFullStandardRange(_)
-        | Component::IsoYearFullExtendedRange(_)
-        | Component::IsoYearFullStandardRange(_)
-        | Component::CalendarYearCenturyExtendedRange(_)
-        | Component::CalendarYearCenturyStandardRange(_)
-        | Component::IsoYearCenturyExtendedRange(_)
-        | Component::IsoYearCenturyStandardRange(_)
-        | Component::CalendarYearLastTwo(_)
-        | Component::IsoYearLastTwo(_) => name == "year",
-        Component::Hour12(_) | Component::Hour24(_) => name == "hour",
-        Component::Minute(_) => name == "minute",
-        Component::Period(_) => name == "period",
-        Component::Second(_) => name == "second",
-        Component::Subsecond(_) => name == "subsecond",
-        Component::OffsetHour(_) => name == "offset hour",
-        Component::OffsetMinute(_) => name == "offset minute",
-        Component::OffsetSecond(_) => name == "offset second",
-        Component::Ignore(_) => name == "ignore",
-        Component::UnixTimestampSecond(_)
-        | Component::UnixTimestampMillisecond(_)
-        | Component::UnixTimestampMicrosecond(_)
-        | Component::UnixTimestampNanosecond(_) => name == "unix_timestamp",
-        Component::End(_) => false,
+        _ => says_name(fault(component), name),
     }
 }
 

@@ -8,4 +8,5 @@ mod walk;
 
 pub use format_item::AnyFormatItem;
 pub use parsed::Parsed;
+pub use parsed::component::fault;
 pub use walk::Tries;

@@ -7,14 +7,13 @@ ghost use Rattle.time_record.specs.WalkSteps.{Attempts};
 ghost use Rattle.time_locating.specs.Located.{seen_miss};
 ghost use Rattle.time_locating.specs.Marks.{MarksTree};
 ghost use Rattle.time_locating.specs.Misses.{IsFurthest, Misses, MissesFirst, first_byte, furthest, literal_misses};
-ghost use Rattle.time_locating.specs.StepRows as spec;
 ghost use Rattle.time_locating.specs.StepRows.{IsSplit};
 
 use super::read_component;
 use crate::Expected;
 use crate::mark::{Miss, further, missed_at};
 use std::slice;
-use time_components::{Group, Step};
+use time_components::{Group, Step, steps_after};
 use time_record::Parsed;
 
 /// Reads the steps as a list at the front of the input, and returns what `walk` returns for an item.
@@ -181,32 +180,6 @@ fn split_item(steps: &[Step]) -> Option<(&[Step], &[Step])>
     let [step, behind @ ..] = steps else {
         return None;
     };
-    let after = behind.len() - inside(step, behind);
-    Some(steps.split_at(steps.len() - after))
-}
-
-// How many of the steps after a step belong to its item.
-fn inside(step: &Step, behind: &[Step]) -> usize
-    ensures { result ≡ spec.inside step.now behind.now }
-{
-    match step {
-        Step::Literal(_) | Step::More(_) => more_bytes(behind),
-        Step::Component(_) => 0,
-        Step::Group(_, len) => (*len).min(behind.len()),
-    }
-}
-
-// How many further bytes of a literal are at the front of the steps.
-#[tactic(auto, using(crate::proofs::MissLemmas::other_at))]
-fn more_bytes(steps: &[Step]) -> usize
-    ensures { result ≡ length (steps_.further steps.now) }
-{
-    let mut count = 0;
-    for step in steps {
-        let Step::More(_) = step else {
-            return count;
-        };
-        count += 1;
-    }
-    count
+    let after = steps_after(step, behind);
+    Some(steps.split_at(steps.len() - after.len()))
 }

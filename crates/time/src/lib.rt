@@ -58,7 +58,7 @@ pub mod error {
 pub mod format_description {
     pub use time_components::{
         BorrowedFormatItem, Component, FormatDescriptionV3, FormatDescriptionV3Inner, Group,
-        Inspect, Node, OwnedFormatItem, Period, Step,
+        Inspect, Node, OwnedFormatItem, Period, Step, steps_after,
     };
     pub use time_descriptions::{Description, parse_borrowed, parse_owned, parse_strftime};
 
@@ -102,7 +102,7 @@ pub mod parsing {
     pub use time_components::component;
     pub use time_digits::{Integer, Padding, ParsedItem, Sign};
     pub use time_parsing::{Items, Parsable, Target, begin, value_before};
-    pub use time_record::{AnyFormatItem, Parsed, Tries};
+    pub use time_record::{AnyFormatItem, Parsed, Tries, fault};
 
     /// Parsers of digits, signs and single bytes.
     pub mod combinator {

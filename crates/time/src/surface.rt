@@ -294,6 +294,10 @@ mod functions {
             here::format_description::parse_owned::<2>,
             time_descriptions::parse_owned::<2>,
         );
+        are_one(
+            here::format_description::steps_after,
+            time_components::steps_after,
+        );
     }
 
     #[test]
@@ -322,6 +326,7 @@ mod functions {
     #[test]
     fn parsers() {
         are_one(here::parsing::begin, time_parsing::begin);
+        are_one(here::parsing::fault, time_record::fault);
         are_one(
             here::parsing::component::parse_day,
             time_components::component::parse_day,

@@ -10,9 +10,9 @@ use crate::parts::MomentParts;
 use crate::status::{Format, UNKNOWN_FORMAT, format_of, status_of_range};
 use crate::text::lay_bytes;
 use std::num::NonZero;
+use time_formatting::{FractionDigits, Text, Unwritable, text_2822, text_3339, text_8601};
 use time_values::error::ComponentRange;
 use time_values::{Date, Month, OffsetDateTime, PlainDateTime, Time, UtcOffset};
-use time_formatting::{FractionDigits, Text, Unwritable, text_2822, text_3339, text_8601};
 
 // The month with this number.
 fn month_of(number: u8) -> Result<Month, ComponentRange>

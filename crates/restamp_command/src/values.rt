@@ -6,9 +6,9 @@ ghost use Rattle.restamp_command.specs.Values as spec;
 
 use restamp_formats::Fold;
 use time_components::{BorrowedFormatItem, Padding, item};
+use time_formatting::FractionDigits;
 use time_parsing::Parsable;
 use time_values::UtcOffset;
-use time_formatting::FractionDigits;
 
 /// A number.
 pub fn find_number(text: &str) -> Option<u64>

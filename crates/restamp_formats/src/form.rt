@@ -15,9 +15,8 @@ use crate::clock::Clock;
 use crate::reading::MOST_STEPS;
 use crate::reason::Reason;
 use time_descriptions::Description;
-use time_formatting::format;
+use time_formatting::{FractionDigits, Text, Unwritable, format, text_2822, text_3339, text_8601};
 use time_values::{OffsetDateTime, Timestamp};
-use time_formatting::{FractionDigits, Text, Unwritable, text_2822, text_3339, text_8601};
 
 // The first and the last second of all dates in UTC, counted from 1970-01-01T00:00:00Z.
 const FIRST_SECOND: i64 = -31_619_087_596_800;

@@ -4,9 +4,8 @@ ghost use Rattle.time_values.specs.Shown.{fixed};
 ghost use Rattle.restamp_formats.specs.Reason.{seen, offset_text, offsets_text, parts_of, reason_text, text_with};
 
 use std::{fmt, str};
-use time_formatting::Unformattable;
+use time_formatting::{Unformattable, Unwritable};
 use time_values::error::Parse;
-use time_formatting::Unwritable;
 use time_zones::SuffixFault;
 
 /// The offsets of the two moments that an ambiguous local time may mean.

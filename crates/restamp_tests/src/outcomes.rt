@@ -5,8 +5,8 @@ use restamp_formats::{
 use restamp_lines::{Job, Verdict};
 use restamp_place::Place;
 use std::test::Fail;
-use time_values::{OffsetDateTime, UtcOffset};
 use time_formatting::{FractionDigits, Text};
+use time_values::{OffsetDateTime, UtcOffset};
 
 // The place of a timestamp, the format to parse it, the format to write it, and a line with such a timestamp.
 type Sample = (Place<'static>, &'static [u8], &'static [u8], &'static [u8]);

@@ -5,8 +5,8 @@ use restamp_lines::{Job, Verdict};
 use restamp_place::Place;
 use std::alloc::Global;
 use std::test::Fail;
-use time_values::error::{Parse, ParseFromDescription};
 use time_formatting::{FractionDigits, Text};
+use time_values::error::{Parse, ParseFromDescription};
 use time_zones::SuffixFault::{self, CriticalKey, OtherOffset, UnknownZone};
 use time_zones::Zones;
 

@@ -3,8 +3,8 @@
 //! The day is an argument, and the moments are in an array, so that the compiler can't hoist a part of a text out of
 //! the loop.
 
-use time_values::{Date, Month, OffsetDateTime, Time, UtcOffset};
 use time_formatting::{FractionDigits, Text, Unwritable, text_2822, text_3339};
+use time_values::{Date, Month, OffsetDateTime, Time, UtcOffset};
 
 // The moment, or `None` where a number is out of range.
 fn moment(day: u8, nanosecond: u32, minutes: i8) -> Option<OffsetDateTime> {

@@ -30,8 +30,8 @@ fn locate_item<'d, I: Inspect>(
         input.now (begun defaults) result }
 {
     let mut parsed = begin(defaults);
-    let (unread, missed, _) = walk(item, &mut parsed, input, "");
-    place(unread, missed, input)
+    let walked = walk(item, &mut parsed, input, "");
+    place(walked.rest, walked.missed, input)
 }
 
 // Locates the error of a text that is parsed by the steps of a description.
@@ -44,8 +44,8 @@ fn locate_steps<'a>(
         (LocatesTree greatest_year first_byte (steps_shape steps.now)) input.now (begun defaults) result }
 {
     let mut parsed = begin(defaults);
-    let (unread, missed, _) = walk_list(steps, &mut parsed, input, "");
-    place(unread, missed, input)
+    let walked = walk_list(steps, &mut parsed, input, "");
+    place(walked.rest, walked.missed, input)
 }
 
 // The index at which the last component of this name begins, of those that the steps of a description read.
@@ -58,8 +58,8 @@ fn locate_in_steps(
     ensures { IsMarked (MarksTree greatest_year (steps_shape steps.now)) name.now input.now (begun defaults) result }
 {
     let mut parsed = begin(defaults);
-    let (_, _, mark) = walk_list(steps, &mut parsed, input, name);
-    index_of(mark, input)
+    let walked = walk_list(steps, &mut parsed, input, name);
+    index_of(walked.mark, input)
 }
 
 // The index at which the last component of this name begins, of those that an item reads.
@@ -72,8 +72,8 @@ fn locate_in_item<I: Inspect>(
     ensures { IsMarked (MarksTree greatest_year (I.shape item.now)) name.now input.now (begun defaults) result }
 {
     let mut parsed = begin(defaults);
-    let (_, _, mark) = walk(item, &mut parsed, input, name);
-    index_of(mark, input)
+    let walked = walk(item, &mut parsed, input, name);
+    index_of(walked.mark, input)
 }
 
 impl Locate for BorrowedFormatItem<'_> {
@@ -196,8 +196,8 @@ impl<'i, I: Inspect> Locate for Items<'i, I> {
 
     fn locate<'a>(&'a self, input: &[u8], defaults: Option<Parsed>) -> Option<Located<'a>> {
         let mut parsed = begin(defaults);
-        let (unread, missed, _) = walk_all(self.0, &mut parsed, input, "");
-        place(unread, missed, input)
+        let walked = walk_all(self.0, &mut parsed, input, "");
+        place(walked.rest, walked.missed, input)
     }
 
     ghost exact_place = { λ s. tree_exact_place greatest_year all_bytes (sequence (trees (map I.Inspect.shape s.0.now))) };
@@ -211,8 +211,8 @@ impl<'i, I: Inspect> Locate for Items<'i, I> {
         name: &str,
     ) -> Option<usize> {
         let mut parsed = begin(defaults);
-        let (_, _, mark) = walk_all(self.0, &mut parsed, input, name);
-        index_of(mark, input)
+        let walked = walk_all(self.0, &mut parsed, input, name);
+        index_of(walked.mark, input)
     }
 
     ghost exact_mark = { λ s. tree_exact_mark greatest_year (sequence (trees (map I.Inspect.shape s.0.now))) };

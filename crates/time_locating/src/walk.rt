@@ -15,19 +15,29 @@ use crate::mark::{Miss, further, mark_of, missed_at, missed_in, wanted_of};
 use time_components::{Component, FormatDescriptionV3Inner, Inspect, Node};
 use time_record::Parsed;
 
-/// Reads an item at the front of the input over the record. Returns the unread rest, the furthest miss, and how many
-/// bytes are left at the start of the last component of this name that is read. An item that doesn't match has no rest,
-/// and leaves the record unchanged.
+/// What a walk over an item found.
+#[derive(Clone, Copy)]
+pub(crate) struct Walked<'a, 'd> {
+    /// The unread rest, if the item matches.
+    pub(crate) rest: Option<&'a [u8]>,
+    /// The furthest miss.
+    pub(crate) missed: Option<Miss<'d>>,
+    /// How many bytes are left at the start of the last component of the wanted name that is read.
+    pub(crate) mark: Option<usize>,
+}
+
+/// Reads an item at the front of the input over the record, and marks the last component of this name. An item that
+/// doesn't match leaves the record unchanged.
 #[cycle(items)]
 pub(crate) fn walk<'a, 'd, I: Inspect>(
     item: &'d I,
     parsed: &mut Parsed,
     input: &'a [u8],
     name: &str,
-) -> (Option<&'a [u8]>, Option<Miss<'d>>, Option<usize>)
-    ensures reads { Attempts greatest_year (I.shape item.now) input.now parsed.old result.0 parsed.new }
-    ensures misses { IsFurthest (Misses greatest_year all_bytes (I.shape item.now) input.now parsed.old) (seen_miss result.1) }
-    ensures marks { MarksTree greatest_year (I.shape item.now) name.now input.now parsed.old result.2 }
+) -> Walked<'a, 'd>
+    ensures reads { Attempts greatest_year (I.shape item.now) input.now parsed.old result.rest parsed.new }
+    ensures misses { IsFurthest (Misses greatest_year all_bytes (I.shape item.now) input.now parsed.old) (seen_miss result.missed) }
+    ensures marks { MarksTree greatest_year (I.shape item.now) name.now input.now parsed.old result.mark }
 {
     match item.node() {
         Node::Literal(text) => literal(text, input),
@@ -35,8 +45,12 @@ pub(crate) fn walk<'a, 'd, I: Inspect>(
         Node::WholeComponent(component) => read_whole_component(*component, parsed, input, name),
         Node::List(items) => walk_all(items, parsed, input, name),
         Node::Optional(item) => {
-            let (rest, missed, mark) = walk(item, parsed, input, name);
-            (Some(rest.unwrap_or(input)), missed, mark)
+            let walked = walk(item, parsed, input, name);
+            Walked {
+                rest: Some(walked.rest.unwrap_or(input)),
+                missed: walked.missed,
+                mark: walked.mark,
+            }
         }
         Node::First(items) => walk_first(items, parsed, input, name),
     }
@@ -49,29 +63,37 @@ pub(crate) fn walk_all<'a, 'd, I: Inspect>(
     parsed: &mut Parsed,
     input: &'a [u8],
     name: &str,
-) -> (Option<&'a [u8]>, Option<Miss<'d>>, Option<usize>)
-    ensures reads { Attempts greatest_year (sequence (trees (map I.shape items.now))) input.now parsed.old result.0 parsed.new }
+) -> Walked<'a, 'd>
+    ensures reads { Attempts greatest_year (sequence (trees (map I.shape items.now))) input.now parsed.old result.rest parsed.new }
     ensures misses { IsFurthest (MissesAll greatest_year all_bytes (trees (map I.shape items.now)) input.now parsed.old)
-        (seen_miss result.1) }
-    ensures marks { MarksTree greatest_year (sequence (trees (map I.shape items.now))) name.now input.now parsed.old result.2 }
+        (seen_miss result.missed) }
+    ensures marks { MarksTree greatest_year (sequence (trees (map I.shape items.now))) name.now input.now parsed.old result.mark }
 {
     let before = *parsed;
     let mut rest = input;
     let mut furthest = None;
     let mut last = None;
     for item in items {
-        let (unread, missed, mark) = walk(item, parsed, rest, name);
-        furthest = further(missed, furthest);
-        last = mark.or(last);
-        match unread {
+        let walked = walk(item, parsed, rest, name);
+        furthest = further(walked.missed, furthest);
+        last = walked.mark.or(last);
+        match walked.rest {
             Some(unread) => rest = unread,
             None => {
                 *parsed = before;
-                return (None, furthest, None);
+                return Walked {
+                    rest: None,
+                    missed: furthest,
+                    mark: None,
+                };
             }
         }
     }
-    (Some(rest), furthest, last)
+    Walked {
+        rest: Some(rest),
+        missed: furthest,
+        mark: last,
+    }
 }
 
 // Reads the first of the items that matches, or nothing if there are no items.
@@ -81,39 +103,56 @@ fn walk_first<'a, 'd, I: Inspect>(
     parsed: &mut Parsed,
     input: &'a [u8],
     name: &str,
-) -> (Option<&'a [u8]>, Option<Miss<'d>>, Option<usize>)
-    ensures reads { Attempts greatest_year (first_of (trees (map I.shape items.now))) input.now parsed.old result.0 parsed.new }
+) -> Walked<'a, 'd>
+    ensures reads { Attempts greatest_year (first_of (trees (map I.shape items.now))) input.now parsed.old result.rest parsed.new }
     ensures misses { IsFurthest (MissesFirst greatest_year all_bytes (trees (map I.shape items.now)) input.now parsed.old)
-        (seen_miss result.1) }
-    ensures marks { MarksTree greatest_year (first_of (trees (map I.shape items.now))) name.now input.now parsed.old result.2 }
+        (seen_miss result.missed) }
+    ensures marks { MarksTree greatest_year (first_of (trees (map I.shape items.now))) name.now input.now parsed.old result.mark }
 {
     let mut furthest = None;
     for item in items {
-        let (unread, missed, mark) = walk(item, parsed, input, name);
-        furthest = further(furthest, missed);
-        if let Some(rest) = unread {
-            return (Some(rest), furthest, mark);
+        let walked = walk(item, parsed, input, name);
+        furthest = further(furthest, walked.missed);
+        if let Some(rest) = walked.rest {
+            return Walked {
+                rest: Some(rest),
+                missed: furthest,
+                mark: walked.mark,
+            };
         }
     }
     if items.is_empty() {
-        return (Some(input), furthest, None);
+        return Walked {
+            rest: Some(input),
+            missed: furthest,
+            mark: None,
+        };
     }
-    (None, furthest, None)
+    Walked {
+        rest: None,
+        missed: furthest,
+        mark: None,
+    }
 }
 
 // Reads a literal of these bytes.
-fn literal<'a, 'd>(
-    text: &'d [u8],
-    input: &'a [u8],
-) -> (Option<&'a [u8]>, Option<Miss<'d>>, Option<usize>)
-    ensures reads { (r : Record) → Attempts greatest_year (tree.literal text.now) input.now r result.0 r }
+fn literal<'a, 'd>(text: &'d [u8], input: &'a [u8]) -> Walked<'a, 'd>
+    ensures reads { (r : Record) → Attempts greatest_year (tree.literal text.now) input.now r result.rest r }
     ensures misses { (r : Record) → IsFurthest (Misses greatest_year all_bytes (tree.literal text.now) input.now r)
-        (seen_miss result.1) }
-    ensures marks { (r : Record) (name : List ℕ) → MarksTree greatest_year (tree.literal text.now) name input.now r result.2 }
+        (seen_miss result.missed) }
+    ensures marks { (r : Record) (name : List ℕ) → MarksTree greatest_year (tree.literal text.now) name input.now r result.mark }
 {
     match Parsed::parse_literal(input, text) {
-        Ok(rest) => (Some(rest), None, None),
-        Err(_) => (None, missed_in(text, input), None),
+        Ok(rest) => Walked {
+            rest: Some(rest),
+            missed: None,
+            mark: None,
+        },
+        Err(_) => Walked {
+            rest: None,
+            missed: missed_in(text, input),
+            mark: None,
+        },
     }
 }
 
@@ -123,15 +162,23 @@ fn read_component<'a>(
     parsed: &mut Parsed,
     input: &'a [u8],
     name: &str,
-) -> (Option<&'a [u8]>, Option<Miss<'static>>, Option<usize>)
-    ensures reads { Attempts greatest_year (tree.component false component) input.now parsed.old result.0 parsed.new }
+) -> Walked<'a, 'static>
+    ensures reads { Attempts greatest_year (tree.component false component) input.now parsed.old result.rest parsed.new }
     ensures misses { IsFurthest (Misses greatest_year all_bytes (tree.component false component) input.now parsed.old)
-        (seen_miss result.1) }
-    ensures marks { MarksTree greatest_year (tree.component false component) name.now input.now parsed.old result.2 }
+        (seen_miss result.missed) }
+    ensures marks { MarksTree greatest_year (tree.component false component) name.now input.now parsed.old result.mark }
 {
     match parsed.parse_component(input, component) {
-        Ok(rest) => (Some(rest), None, mark_of(component, name, input)),
-        Err(fault) => (None, missed_at(wanted_of(fault), input), None),
+        Ok(rest) => Walked {
+            rest: Some(rest),
+            missed: None,
+            mark: mark_of(component, name, input),
+        },
+        Err(fault) => Walked {
+            rest: None,
+            missed: missed_at(wanted_of(fault), input),
+            mark: None,
+        },
     }
 }
 
@@ -141,14 +188,22 @@ fn read_whole_component<'a>(
     parsed: &mut Parsed,
     input: &'a [u8],
     name: &str,
-) -> (Option<&'a [u8]>, Option<Miss<'static>>, Option<usize>)
-    ensures reads { Attempts greatest_year (tree.component true component) input.now parsed.old result.0 parsed.new }
+) -> Walked<'a, 'static>
+    ensures reads { Attempts greatest_year (tree.component true component) input.now parsed.old result.rest parsed.new }
     ensures misses { IsFurthest (Misses greatest_year all_bytes (tree.component true component) input.now parsed.old)
-        (seen_miss result.1) }
-    ensures marks { MarksTree greatest_year (tree.component true component) name.now input.now parsed.old result.2 }
+        (seen_miss result.missed) }
+    ensures marks { MarksTree greatest_year (tree.component true component) name.now input.now parsed.old result.mark }
 {
     match parsed.parse_v3(input, &FormatDescriptionV3Inner::Component(component)) {
-        Ok(rest) => (Some(rest), None, mark_of(component, name, input)),
-        Err(fault) => (None, missed_at(wanted_of(fault), input), None),
+        Ok(rest) => Walked {
+            rest: Some(rest),
+            missed: None,
+            mark: mark_of(component, name, input),
+        },
+        Err(fault) => Walked {
+            rest: None,
+            missed: missed_at(wanted_of(fault), input),
+            mark: None,
+        },
     }
 }

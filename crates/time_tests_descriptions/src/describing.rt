@@ -5,8 +5,7 @@ ghost use Rattle.time_descriptions.specs.Description.{shape};
 
 use crate::describing::texts::is_text;
 use time_components::{BorrowedFormatItem, item};
-use time_descriptions::{NoText, description_of, text_of};
-use time_descriptions::Description;
+use time_descriptions::{Description, NoText, description_of, text_of};
 
 /// The description of a sequence of items.
 pub fn description_of_items<const N: usize>(
@@ -29,8 +28,7 @@ fn text_of_a_clock(rt: HostRuntime) {
 mod texts {
     use std::alloc::Global;
     use time_components::{BorrowedFormatItem, item};
-    use time_descriptions::{DescriptionText, NoText, description_of, text_of};
-    use time_descriptions::parse_owned;
+    use time_descriptions::{DescriptionText, NoText, description_of, parse_owned, text_of};
 
     // Texts of descriptions, and the canonical text of each: without default modifiers, with one space before each
     // modifier and each list, and in small letters.

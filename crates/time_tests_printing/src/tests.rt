@@ -2,9 +2,9 @@
 mod surface;
 mod values;
 
+use time_formatting::{Text, Unwritable};
 use time_values::error::ComponentRange;
 use time_values::{Date, Month, OffsetDateTime, PlainDateTime, Time, UtcDateTime, UtcOffset};
-use time_formatting::{Text, Unwritable};
 
 // The numbers of a moment's date, of its time, and of its offset in hours, minutes and seconds.
 type Numbers = ((i32, Month, u8), (u8, u8, u8, u32), (i8, i8, i8));
@@ -67,12 +67,12 @@ mod texts {
     //! Texts of moments, parses of these texts, and displayed values.
     use super::{FIRST, IN_1937, IN_1985, IN_1996, Numbers, is_written, moment};
     use Format::{BasicIso8601, Iso8601, Rfc2822, Rfc3339};
-    use time_values::error::ComponentRange;
-    use time_values::{Month, OffsetDateTime};
     use time_formatting::FractionDigits::{Auto, Exactly};
     use time_formatting::{
         FractionDigits, Text, Unwritable, text_2822, text_3339, text_8601, text_8601_basic,
     };
+    use time_values::error::ComponentRange;
+    use time_values::{Month, OffsetDateTime};
 
     #[derive(Clone, Copy)]
     enum Format {
@@ -225,11 +225,11 @@ mod texts {
     // Texts of moments that are parsed again.
     mod read_back {
         use super::super::{Numbers, is_written, moment};
+        use time_formatting::{FractionDigits, Text, Unwritable, text_2822, text_3339, text_8601};
         use time_parsing::{Iso8601, Parsable, Rfc2822, Rfc3339};
         use time_record::Parsed;
         use time_values::error::ComponentRange;
         use time_values::{Month, OffsetDateTime};
-        use time_formatting::{FractionDigits, Text, Unwritable, text_2822, text_3339, text_8601};
 
         // Whether that text is written, and parsed as that moment by the format, without defaults and over an empty
         // record.

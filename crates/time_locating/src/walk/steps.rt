@@ -9,7 +9,7 @@ ghost use Rattle.time_locating.specs.Marks.{MarksTree};
 ghost use Rattle.time_locating.specs.Misses.{IsFurthest, Misses, MissesFirst, first_byte, furthest, literal_misses};
 ghost use Rattle.time_locating.specs.StepRows.{IsSplit};
 
-use super::read_component;
+use super::{Walked, read_component};
 use crate::Expected;
 use crate::mark::{Miss, further, missed_at};
 use std::slice;
@@ -23,11 +23,11 @@ pub(crate) fn walk_list<'a, 'd>(
     parsed: &mut Parsed,
     input: &'a [u8],
     name: &str,
-) -> (Option<&'a [u8]>, Option<Miss<'d>>, Option<usize>)
-    ensures reads { Attempts greatest_year (steps_shape steps.now) input.now parsed.old result.0 parsed.new }
+) -> Walked<'a, 'd>
+    ensures reads { Attempts greatest_year (steps_shape steps.now) input.now parsed.old result.rest parsed.new }
     ensures misses { IsFurthest (Misses greatest_year first_byte (steps_shape steps.now) input.now parsed.old)
-        (seen_miss result.1) }
-    ensures marks { MarksTree greatest_year (steps_shape steps.now) name.now input.now parsed.old result.2 }
+        (seen_miss result.missed) }
+    ensures marks { MarksTree greatest_year (steps_shape steps.now) name.now input.now parsed.old result.mark }
 {
     let before = *parsed;
     let mut left = steps;
@@ -35,19 +35,27 @@ pub(crate) fn walk_list<'a, 'd>(
     let mut furthest = None;
     let mut last = None;
     while let Some((item, after)) = split_item(left) {
-        let (unread, missed, mark) = walk_item(item, parsed, rest, name);
-        furthest = further(missed, furthest);
-        last = mark.or(last);
-        match unread {
+        let walked = walk_item(item, parsed, rest, name);
+        furthest = further(walked.missed, furthest);
+        last = walked.mark.or(last);
+        match walked.rest {
             Some(unread) => rest = unread,
             None => {
                 *parsed = before;
-                return (None, furthest, None);
+                return Walked {
+                    rest: None,
+                    missed: furthest,
+                    mark: None,
+                };
             }
         }
         left = after;
     }
-    (Some(rest), furthest, last)
+    Walked {
+        rest: Some(rest),
+        missed: furthest,
+        mark: last,
+    }
 }
 
 // Reads the first item that matches, or nothing if there are no items.
@@ -57,26 +65,38 @@ fn walk_first<'a, 'd>(
     parsed: &mut Parsed,
     input: &'a [u8],
     name: &str,
-) -> (Option<&'a [u8]>, Option<Miss<'d>>, Option<usize>)
-    ensures reads { Attempts greatest_year (first_of (steps_trees steps.now)) input.now parsed.old result.0 parsed.new }
+) -> Walked<'a, 'd>
+    ensures reads { Attempts greatest_year (first_of (steps_trees steps.now)) input.now parsed.old result.rest parsed.new }
     ensures misses { IsFurthest (MissesFirst greatest_year first_byte (steps_trees steps.now) input.now parsed.old)
-        (seen_miss result.1) }
-    ensures marks { MarksTree greatest_year (first_of (steps_trees steps.now)) name.now input.now parsed.old result.2 }
+        (seen_miss result.missed) }
+    ensures marks { MarksTree greatest_year (first_of (steps_trees steps.now)) name.now input.now parsed.old result.mark }
 {
     let mut left = steps;
     let mut furthest = None;
     while let Some((item, after)) = split_item(left) {
-        let (unread, missed, mark) = walk_item(item, parsed, input, name);
-        furthest = further(furthest, missed);
-        if let Some(rest) = unread {
-            return (Some(rest), furthest, mark);
+        let walked = walk_item(item, parsed, input, name);
+        furthest = further(furthest, walked.missed);
+        if let Some(rest) = walked.rest {
+            return Walked {
+                rest: Some(rest),
+                missed: furthest,
+                mark: walked.mark,
+            };
         }
         left = after;
     }
     if steps.is_empty() {
-        return (Some(input), furthest, None);
+        return Walked {
+            rest: Some(input),
+            missed: furthest,
+            mark: None,
+        };
     }
-    (None, furthest, None)
+    Walked {
+        rest: None,
+        missed: furthest,
+        mark: None,
+    }
 }
 
 // Reads the steps of one item.
@@ -86,16 +106,20 @@ fn walk_item<'a, 'd>(
     parsed: &mut Parsed,
     input: &'a [u8],
     name: &str,
-) -> (Option<&'a [u8]>, Option<Miss<'d>>, Option<usize>)
+) -> Walked<'a, 'd>
     ensures reads { (t : Tree) → steps_trees item.now ≡ more t none
-        → Attempts greatest_year t input.now parsed.old result.0 parsed.new }
+        → Attempts greatest_year t input.now parsed.old result.rest parsed.new }
     ensures misses { (t : Tree) → steps_trees item.now ≡ more t none
-        → IsFurthest (Misses greatest_year first_byte t input.now parsed.old) (seen_miss result.1) }
+        → IsFurthest (Misses greatest_year first_byte t input.now parsed.old) (seen_miss result.missed) }
     ensures marks { (t : Tree) → steps_trees item.now ≡ more t none
-        → MarksTree greatest_year t name.now input.now parsed.old result.2 }
+        → MarksTree greatest_year t name.now input.now parsed.old result.mark }
 {
     let [step, inside @ ..] = item else {
-        return (Some(input), None, None);
+        return Walked {
+            rest: Some(input),
+            missed: None,
+            mark: None,
+        };
     };
     match step {
         Step::Literal(byte) | Step::More(byte) => literal(byte, inside, item, parsed, input),
@@ -112,17 +136,21 @@ fn walk_group<'a, 'd>(
     parsed: &mut Parsed,
     input: &'a [u8],
     name: &str,
-) -> (Option<&'a [u8]>, Option<Miss<'d>>, Option<usize>)
-    ensures reads { Attempts greatest_year (group_tree group (steps_trees inside.now)) input.now parsed.old result.0 parsed.new }
+) -> Walked<'a, 'd>
+    ensures reads { Attempts greatest_year (group_tree group (steps_trees inside.now)) input.now parsed.old result.rest parsed.new }
     ensures misses { IsFurthest (Misses greatest_year first_byte (group_tree group (steps_trees inside.now)) input.now parsed.old)
-        (seen_miss result.1) }
-    ensures marks { MarksTree greatest_year (group_tree group (steps_trees inside.now)) name.now input.now parsed.old result.2 }
+        (seen_miss result.missed) }
+    ensures marks { MarksTree greatest_year (group_tree group (steps_trees inside.now)) name.now input.now parsed.old result.mark }
 {
     match group {
         Group::List => walk_list(inside, parsed, input, name),
         Group::Optional => {
-            let (rest, missed, mark) = walk_list(inside, parsed, input, name);
-            (Some(rest.unwrap_or(input)), missed, mark)
+            let walked = walk_list(inside, parsed, input, name);
+            Walked {
+                rest: Some(walked.rest.unwrap_or(input)),
+                missed: walked.missed,
+                mark: walked.mark,
+            }
         }
         Group::First => walk_first(inside, parsed, input, name),
     }
@@ -135,20 +163,28 @@ fn literal<'a, 'd>(
     item: &[Step],
     parsed: &mut Parsed,
     input: &'a [u8],
-) -> (Option<&'a [u8]>, Option<Miss<'d>>, Option<usize>)
+) -> Walked<'a, 'd>
     ensures reads { let text = byte.now ∷ steps_.further inside.now in
         steps_trees item.now ≡ more (steps_.literal text) none
-        → Attempts greatest_year (steps_.literal text) input.now parsed.old result.0 parsed.new }
+        → Attempts greatest_year (steps_.literal text) input.now parsed.old result.rest parsed.new }
     ensures misses { let text = byte.now ∷ steps_.further inside.now in
         steps_trees item.now ≡ more (steps_.literal text) none
-        → IsFurthest (Misses greatest_year first_byte (steps_.literal text) input.now parsed.old) (seen_miss result.1) }
+        → IsFurthest (Misses greatest_year first_byte (steps_.literal text) input.now parsed.old) (seen_miss result.missed) }
     ensures marks { (name : List ℕ) → let text = byte.now ∷ steps_.further inside.now in
         steps_trees item.now ≡ more (steps_.literal text) none
-        → MarksTree greatest_year (steps_.literal text) name input.now parsed.old result.2 }
+        → MarksTree greatest_year (steps_.literal text) name input.now parsed.old result.mark }
 {
     match parsed.parse_steps(input, item) {
-        Ok(rest) => (Some(rest), None, None),
-        Err(_) => (None, missed_in(byte, inside, input), None),
+        Ok(rest) => Walked {
+            rest: Some(rest),
+            missed: None,
+            mark: None,
+        },
+        Err(_) => Walked {
+            rest: None,
+            missed: missed_in(byte, inside, input),
+            mark: None,
+        },
     }
 }
 

@@ -19,53 +19,53 @@ walk-returns-in-List-clause-misses g t c = rw c.in-List.ensures c.walk_all.ensur
 pub walk-returns-in-Optional-clause-reads : goal.walk-returns-in-Optional-clause-reads
 walk-returns-in-Optional-clause-reads g t c =
     rw (c.in-Optional.ensures, c.unwrap_or.ensures)
-    (optional_reads _ _ c.args.input.now _ c.walk-mark.result.0 c.args.input _ refl c.walk-mark.ensures.reads)
+    (optional_reads _ _ c.args.input.now _ c.walk-walked.result.rest c.args.input _ refl c.walk-walked.ensures.reads)
 
 pub walk-returns-in-Optional-clause-misses : goal.walk-returns-in-Optional-clause-misses
 unfolding Misses
-walk-returns-in-Optional-clause-misses g t c = rw c.in-Optional.ensures c.walk-mark.ensures.misses
+walk-returns-in-Optional-clause-misses g t c = rw c.in-Optional.ensures c.walk-walked.ensures.misses
 
 pub walk-returns-in-Optional-clause-marks : goal.walk-returns-in-Optional-clause-marks
 walk-returns-in-Optional-clause-marks g t c =
-    let read = optional_reads _ _ c.args.input.now _ c.walk-mark.result.0 c.args.input _ refl c.walk-mark.ensures.reads in
-    rw c.in-Optional.ensures (marks_read _ _ _ _ _ _ _ _ read c.walk-mark.ensures.marks)
+    let read = optional_reads _ _ c.args.input.now _ c.walk-walked.result.rest c.args.input _ refl c.walk-walked.ensures.reads in
+    rw c.in-Optional.ensures (marks_read _ _ _ _ _ _ _ _ read c.walk-walked.ensures.marks)
 
 pub walk-returns-in-First-clause-misses : goal.walk-returns-in-First-clause-misses
 unfolding Misses
 walk-returns-in-First-clause-misses g t c = rw c.in-First.ensures c.walk_first.ensures.misses
 
-pub walk_all-walk-mark-requires : goal.walk_all-walk-mark-requires
-walk_all-walk-mark-requires g t c κs within =
+pub walk_all-walk-walked-requires : goal.walk_all-walk-walked-requires
+walk_all-walk-walked-requires g t c κs within =
     let least = places-item g.I.Inspect.shape c.args.items.now _ _ (omega arith) c.item-item.is in search rules
 
-pub walk_first-walk-mark-requires : goal.walk_first-walk-mark-requires
-walk_first-walk-mark-requires g t c κs within =
+pub walk_first-walk-walked-requires : goal.walk_first-walk-walked-requires
+walk_first-walk-walked-requires g t c κs within =
     let least = places-item g.I.Inspect.shape c.args.items.now _ _ (omega arith) c.item-item.is in search rules
 
 pub walk_all-returns-in-None-clause-reads : goal.walk_all-returns-in-None-clause-reads
 walk_all-returns-in-None-clause-reads g t c =
     let is = trees_from-item g.I.Inspect.shape c.args.items.now _ _ (omega arith) c.item-item.is in
-    let read = rw c.in-None.is at c.walk-mark.ensures.reads in
-    record { unread = Follows-unread c.loop-item.invariant.0 _ _ is c.walk-mark.ensures.misses read.unread; same = refl }
+    let read = rw c.in-None.is at c.walk-walked.ensures.reads in
+    record { unread = Follows-unread c.loop-item.invariant.0 _ _ is c.walk-walked.ensures.misses read.unread; same = refl }
 
 pub walk_all-returns-in-None-clause-misses : goal.walk_all-returns-in-None-clause-misses
 walk_all-returns-in-None-clause-misses g t c =
     let is = trees_from-item g.I.Inspect.shape c.args.items.now _ _ (omega arith) c.item-item.is in
-    let read = rw c.in-None.is at c.walk-mark.ensures.reads in
-    rw c.further-furthest.ensures (Follows-misses c.loop-item.invariant.0 _ _ is c.walk-mark.ensures.misses read.unread)
+    let read = rw c.in-None.is at c.walk-walked.ensures.reads in
+    rw c.further-furthest.ensures (Follows-misses c.loop-item.invariant.0 _ _ is c.walk-walked.ensures.misses read.unread)
 
 pub walk_all-returns-in-None-clause-marks : goal.walk_all-returns-in-None-clause-marks
 walk_all-returns-in-None-clause-marks g t c =
     let is = trees_from-item g.I.Inspect.shape c.args.items.now _ _ (omega arith) c.item-item.is in
-    let read = rw c.in-None.is at c.walk-mark.ensures.reads in
-    marks_unread _ _ _ _ _ (Follows-unread c.loop-item.invariant.0 _ _ is c.walk-mark.ensures.misses read.unread)
+    let read = rw c.in-None.is at c.walk-walked.ensures.reads in
+    marks_unread _ _ _ _ _ (Follows-unread c.loop-item.invariant.0 _ _ is c.walk-walked.ensures.misses read.unread)
 
 pub walk_all-loop-item-preserved : goal.walk_all-loop-item-preserved
 walk_all-loop-item-preserved g t c =
     let is = trees_from-item g.I.Inspect.shape c.args.items.now _ _ (omega arith) c.item-item.is in
-    let read = rw c.in-Some.is at c.walk-mark.ensures.reads in (
-      rw c.further-furthest.ensures (Follows-reads c.loop-item.invariant.0 _ _ is c.walk-mark.ensures.misses read),
-      rw c.or-last.ensures (CarriesAll-reads c.loop-item.invariant.1 _ _ is _ _ _ read c.walk-mark.ensures.marks),
+    let read = rw c.in-Some.is at c.walk-walked.ensures.reads in (
+      rw c.further-furthest.ensures (Follows-reads c.loop-item.invariant.0 _ _ is c.walk-walked.ensures.misses read),
+      rw c.or-last.ensures (CarriesAll-reads c.loop-item.invariant.1 _ _ is _ _ _ read c.walk-walked.ensures.marks),
     )
 
 pub walk_all-returns-clause-reads : goal.walk_all-returns-clause-reads
@@ -84,26 +84,26 @@ walk_all-returns-clause-marks g t c =
 pub walk_first-returns-in-Some-clause-reads : goal.walk_first-returns-in-Some-clause-reads
 walk_first-returns-in-Some-clause-reads g t c =
     let is = trees_from-item g.I.Inspect.shape c.args.items.now _ _ (omega arith) c.item-item.is in
-    Passes-reads c.loop-item.invariant.0 _ _ is _ _ (rw c.in-Some.is at c.walk-mark.ensures.reads)
+    Passes-reads c.loop-item.invariant.0 _ _ is _ _ (rw c.in-Some.is at c.walk-walked.ensures.reads)
 
 pub walk_first-returns-in-Some-clause-misses : goal.walk_first-returns-in-Some-clause-misses
 walk_first-returns-in-Some-clause-misses g t c =
     let is = trees_from-item g.I.Inspect.shape c.args.items.now _ _ (omega arith) c.item-item.is in
     rw c.further-furthest.ensures
-    (Passes-misses c.loop-item.invariant.0 _ _ is c.walk-mark.ensures.misses _ _ (rw c.in-Some.is at c.walk-mark.ensures.reads))
+    (Passes-misses c.loop-item.invariant.0 _ _ is c.walk-walked.ensures.misses _ _ (rw c.in-Some.is at c.walk-walked.ensures.reads))
 
 pub walk_first-returns-in-Some-clause-marks : goal.walk_first-returns-in-Some-clause-marks
 walk_first-returns-in-Some-clause-marks g t c =
     let is = trees_from-item g.I.Inspect.shape c.args.items.now _ _ (omega arith) c.item-item.is in
-    let read = rw c.in-Some.is at c.walk-mark.ensures.reads in
-    CarriesFirst-reads c.loop-item.invariant.1 _ _ is c.loop-item.invariant.0.same _ _ _ read c.walk-mark.ensures.marks
+    let read = rw c.in-Some.is at c.walk-walked.ensures.reads in
+    CarriesFirst-reads c.loop-item.invariant.1 _ _ is c.loop-item.invariant.0.same _ _ _ read c.walk-walked.ensures.marks
     (Passes-reads c.loop-item.invariant.0 _ _ is _ _ read)
 
 pub walk_first-loop-item-preserved : goal.walk_first-loop-item-preserved
 walk_first-loop-item-preserved g t c =
     let is = trees_from-item g.I.Inspect.shape c.args.items.now _ _ (omega arith) c.item-item.is in
-    let read = rw c.in_default.is at c.walk-mark.ensures.reads in (
-      rw c.further-furthest.ensures (Passes-unread c.loop-item.invariant.0 _ _ is c.walk-mark.ensures.misses read.unread read.same),
+    let read = rw c.in_default.is at c.walk-walked.ensures.reads in (
+      rw c.further-furthest.ensures (Passes-unread c.loop-item.invariant.0 _ _ is c.walk-walked.ensures.misses read.unread read.same),
       CarriesFirst-unread c.loop-item.invariant.1 _ _ is c.loop-item.invariant.0.same read.unread,
     )
 

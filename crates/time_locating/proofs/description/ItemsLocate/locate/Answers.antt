@@ -6,4 +6,4 @@ pub returns : goal.returns
 unfolding Misses
 returns g c =
     rw (sym c.begin-parsed.ensures)
-    (c.place.ensures.tree all_bytes _ c.begin-parsed.result _ c.walk_all.ensures.reads c.walk_all.ensures.misses)
+    (c.place.ensures.tree all_bytes _ c.begin-parsed.result _ c.walk_all-walked.ensures.reads c.walk_all-walked.ensures.misses)

@@ -3,4 +3,4 @@ use Rattle.time_locating.proofs.description.ItemsLocate.locate_component.Goals a
 
 pub returns : goal.returns
 returns g c =
-    rw (sym c.begin-parsed.ensures) (c.index_of.ensures.tree _ c.args.name.now c.begin-parsed.result c.walk_all-mark.ensures.marks)
+    rw (sym c.begin-parsed.ensures) (c.index_of.ensures.tree _ c.args.name.now c.begin-parsed.result c.walk_all-walked.ensures.marks)

@@ -7,30 +7,30 @@ use Rattle.time_locating.proofs.MarkSteps.{CarriesAll-end, CarriesAll-reads, Car
 use Rattle.time_locating.proofs.MissLemmas.{first_tree, group_inside, literal_tree, no_item, no_steps, some_steps}
 use Rattle.time_locating.proofs.walk.steps.+steps.Goals as goal
 
-pub walk_first-returns-in-Some-unread-clause-reads : goal.walk_first-returns-in-Some-unread-clause-reads
-walk_first-returns-in-Some-unread-clause-reads t c =
+pub walk_first-returns-in-Some-rest-clause-reads : goal.walk_first-returns-in-Some-rest-clause-reads
+walk_first-returns-in-Some-rest-clause-reads t c =
     let s = c.in-Some.ensures in
-    Passes-reads c.loop-item.invariant.0 s.tree _ s.all _ _ (rw c.in-Some-unread.is at (c.walk_item-mark.ensures.reads s.tree s.alone))
+    Passes-reads c.loop-item.invariant.0 s.tree _ s.all _ _ (rw c.in-Some-rest.is at (c.walk_item-walked.ensures.reads s.tree s.alone))
 
-pub walk_first-returns-in-Some-unread-clause-misses : goal.walk_first-returns-in-Some-unread-clause-misses
-walk_first-returns-in-Some-unread-clause-misses t c =
+pub walk_first-returns-in-Some-rest-clause-misses : goal.walk_first-returns-in-Some-rest-clause-misses
+walk_first-returns-in-Some-rest-clause-misses t c =
     let s = c.in-Some.ensures in
-    let read = rw c.in-Some-unread.is at (c.walk_item-mark.ensures.reads s.tree s.alone) in
+    let read = rw c.in-Some-rest.is at (c.walk_item-walked.ensures.reads s.tree s.alone) in
     rw c.further-furthest.ensures
-    (Passes-misses c.loop-item.invariant.0 s.tree _ s.all (c.walk_item-mark.ensures.misses s.tree s.alone) _ _ read)
+    (Passes-misses c.loop-item.invariant.0 s.tree _ s.all (c.walk_item-walked.ensures.misses s.tree s.alone) _ _ read)
 
-pub walk_first-returns-in-Some-unread-clause-marks : goal.walk_first-returns-in-Some-unread-clause-marks
-walk_first-returns-in-Some-unread-clause-marks t c =
+pub walk_first-returns-in-Some-rest-clause-marks : goal.walk_first-returns-in-Some-rest-clause-marks
+walk_first-returns-in-Some-rest-clause-marks t c =
     let s = c.in-Some.ensures in
-    let read = rw c.in-Some-unread.is at (c.walk_item-mark.ensures.reads s.tree s.alone) in
-    CarriesFirst-reads c.loop-item.invariant.2 s.tree _ s.all c.loop-item.invariant.0.same _ _ _ read (c.walk_item-mark.ensures.marks s.tree s.alone)
+    let read = rw c.in-Some-rest.is at (c.walk_item-walked.ensures.reads s.tree s.alone) in
+    CarriesFirst-reads c.loop-item.invariant.2 s.tree _ s.all c.loop-item.invariant.0.same _ _ _ read (c.walk_item-walked.ensures.marks s.tree s.alone)
     (Passes-reads c.loop-item.invariant.0 s.tree _ s.all _ _ read)
 
 pub walk_first-loop-item-preserved : goal.walk_first-loop-item-preserved
 walk_first-loop-item-preserved t c =
     let s = c.in-Some.ensures in
-    let read = rw c.in_default-unread.is at (c.walk_item-mark.ensures.reads s.tree s.alone) in
-    let missed = c.walk_item-mark.ensures.misses s.tree s.alone in (
+    let read = rw c.in_default-rest.is at (c.walk_item-walked.ensures.reads s.tree s.alone) in
+    let missed = c.walk_item-walked.ensures.misses s.tree s.alone in (
       rw c.further-furthest.ensures (Passes-unread c.loop-item.invariant.0 s.tree _ s.all missed read.unread read.same),
       omega (arith, s.fewer, c.loop-item.invariant.1),
       CarriesFirst-unread c.loop-item.invariant.2 s.tree _ s.all c.loop-item.invariant.0.same read.unread,
@@ -70,16 +70,16 @@ walk_first-returns-clause-misses t c = Passes-kept c.loop-item.invariant.0 (no_s
 pub walk_group-returns-in-Optional-clause-reads : goal.walk_group-returns-in-Optional-clause-reads
 walk_group-returns-in-Optional-clause-reads t c =
     rw (c.in-Optional.is, c.unwrap_or.ensures)
-    (optional_reads _ _ c.args.input.now _ c.walk_list-mark.result.0 c.args.input _ refl c.walk_list-mark.ensures.reads)
+    (optional_reads _ _ c.args.input.now _ c.walk_list-walked.result.rest c.args.input _ refl c.walk_list-walked.ensures.reads)
 
 pub walk_group-returns-in-Optional-clause-misses : goal.walk_group-returns-in-Optional-clause-misses
 unfolding Misses
-walk_group-returns-in-Optional-clause-misses t c = rw c.in-Optional.is c.walk_list-mark.ensures.misses
+walk_group-returns-in-Optional-clause-misses t c = rw c.in-Optional.is c.walk_list-walked.ensures.misses
 
 pub walk_group-returns-in-Optional-clause-marks : goal.walk_group-returns-in-Optional-clause-marks
 walk_group-returns-in-Optional-clause-marks t c =
-    let read = optional_reads _ _ c.args.input.now _ c.walk_list-mark.result.0 c.args.input _ refl c.walk_list-mark.ensures.reads in
-    rw c.in-Optional.is (marks_read _ _ _ _ _ _ _ _ read c.walk_list-mark.ensures.marks)
+    let read = optional_reads _ _ c.args.input.now _ c.walk_list-walked.result.rest c.args.input _ refl c.walk_list-walked.ensures.reads in
+    rw c.in-Optional.is (marks_read _ _ _ _ _ _ _ _ read c.walk_list-walked.ensures.marks)
 
 pub walk_group-returns-in-First-clause-misses : goal.walk_group-returns-in-First-clause-misses
 unfolding Misses
@@ -152,31 +152,31 @@ walk_item-returns-in-Literal-clause-marks t c tree is =
 pub walk_list-returns-in-None-clause-reads : goal.walk_list-returns-in-None-clause-reads
 walk_list-returns-in-None-clause-reads t c =
     let s = c.in-Some.ensures in
-    let read = rw c.in-None.is at (c.walk_item-mark.ensures.reads s.tree s.alone) in
-    record { unread = Follows-unread c.loop-item.invariant.0 s.tree _ s.all (c.walk_item-mark.ensures.misses s.tree s.alone) read.unread; same = refl }
+    let read = rw c.in-None.is at (c.walk_item-walked.ensures.reads s.tree s.alone) in
+    record { unread = Follows-unread c.loop-item.invariant.0 s.tree _ s.all (c.walk_item-walked.ensures.misses s.tree s.alone) read.unread; same = refl }
 
 pub walk_list-returns-in-None-clause-misses : goal.walk_list-returns-in-None-clause-misses
 unfolding Misses
 walk_list-returns-in-None-clause-misses t c =
     let s = c.in-Some.ensures in
-    let read = rw c.in-None.is at (c.walk_item-mark.ensures.reads s.tree s.alone) in
+    let read = rw c.in-None.is at (c.walk_item-walked.ensures.reads s.tree s.alone) in
     rw c.further-furthest.ensures
-    (Follows-misses c.loop-item.invariant.0 s.tree _ s.all (c.walk_item-mark.ensures.misses s.tree s.alone) read.unread)
+    (Follows-misses c.loop-item.invariant.0 s.tree _ s.all (c.walk_item-walked.ensures.misses s.tree s.alone) read.unread)
 
 pub walk_list-returns-in-None-clause-marks : goal.walk_list-returns-in-None-clause-marks
 walk_list-returns-in-None-clause-marks t c =
     let s = c.in-Some.ensures in
-    let read = rw c.in-None.is at (c.walk_item-mark.ensures.reads s.tree s.alone) in
-    marks_unread _ _ _ _ _ (Follows-unread c.loop-item.invariant.0 s.tree _ s.all (c.walk_item-mark.ensures.misses s.tree s.alone) read.unread)
+    let read = rw c.in-None.is at (c.walk_item-walked.ensures.reads s.tree s.alone) in
+    marks_unread _ _ _ _ _ (Follows-unread c.loop-item.invariant.0 s.tree _ s.all (c.walk_item-walked.ensures.misses s.tree s.alone) read.unread)
 
 pub walk_list-loop-item-preserved : goal.walk_list-loop-item-preserved
 walk_list-loop-item-preserved t c =
     let s = c.in-Some.ensures in
-    let read = rw c.in-Some-unread.is at (c.walk_item-mark.ensures.reads s.tree s.alone) in (
+    let read = rw c.in-Some-rest.is at (c.walk_item-walked.ensures.reads s.tree s.alone) in (
       rw c.further-furthest.ensures
-          (Follows-reads c.loop-item.invariant.0 s.tree _ s.all (c.walk_item-mark.ensures.misses s.tree s.alone) read),
+          (Follows-reads c.loop-item.invariant.0 s.tree _ s.all (c.walk_item-walked.ensures.misses s.tree s.alone) read),
       omega (arith, s.fewer, c.loop-item.invariant.1),
-      rw c.or-last.ensures (CarriesAll-reads c.loop-item.invariant.2 s.tree _ s.all _ _ _ read (c.walk_item-mark.ensures.marks s.tree s.alone)),
+      rw c.or-last.ensures (CarriesAll-reads c.loop-item.invariant.2 s.tree _ s.all _ _ _ read (c.walk_item-walked.ensures.marks s.tree s.alone)),
     )
 
 pub walk_list-returns-clause-reads : goal.walk_list-returns-clause-reads

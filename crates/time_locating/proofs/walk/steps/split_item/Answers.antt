@@ -12,8 +12,8 @@ returns c =
     let x = c.step-item.result in
     let k = item_length x (behind_first steps) in
     let row = split_row steps x k c.in-len1-up.len_at_least c.step-item.is refl in
-    let rest = ap length (c.steps_after.ensures.after ∙ sym (item_after x (behind_first steps))) in
-    let end : 1 + k ≡ length steps - length c.steps_after.result.now =
+    let rest = ap length (c.steps_after-after.ensures.after ∙ sym (item_after x (behind_first steps))) in
+    let end : 1 + k ≡ length steps - length c.steps_after-after.result.now =
     omega (arith, item_within x (behind_first steps), rest, c.in-len1-up.len_at_least, length-drop k (behind_first steps), length-drop 1 steps) in
     let front = ap (λ n. take n steps) end ∙ sym c.split_at.ensures.front in
     let back = ap (λ n. drop n steps) end ∙ sym c.split_at.ensures.back in

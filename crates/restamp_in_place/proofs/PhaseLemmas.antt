@@ -1,11 +1,9 @@
 -- The steps of a file's replacement, from phase to phase.
-use Rattle.std.proofs.Common.{arith, ◌≡◌, ◌⊎◌, inl, inr, ⊎_elim, ℕ, List, ◌∷◌, [], refl, sym, ◌∙◌, ap, Option, None, Some}
-use Rattle.std.specs.Prelude.{IfSome}
+use Rattle.std.proofs.Common.{arith, ◌≡◌, ◌⊎◌, inl, inr, ⊎_elim, ℕ, List, ◌∷◌, [], refl, sym, ◌∙◌, ap, Option, None, Some, IfSome}
 use Rattle.std.proofs.lemmas.Option.{IfSome_then}
 use Rattle.restamp_in_place.specs.Replacing.{Event, leads, stored, MayLead, IsNew, HasSameBytes}
 use Rattle.restamp_in_place.specs.Replacing.Event.{Leads, Stored, Synced}
-use Rattle.restamp_in_place.specs.Phases.{Replacement, Safe, Reached, Same, Kept, Ready, Linked, HasBackup, Backed, TempRemovable, BackupRemovable}
-use Rattle.restamp_in_place.specs.Phases.{IsWhole, Put, Installed}
+use Rattle.restamp_in_place.specs.Phases.{Replacement, Safe, Reached, Same, Kept, Ready, Linked, HasBackup, Backed, TempRemovable, BackupRemovable, IsWhole, Put, Installed}
 use Rattle.restamp_in_place.proofs.FolderLemmas.{leads-at, leads-past, leads-removed, may_now, stored-at, stored-past, names_differ}
 
 IfSome-at : {X : Type 0} (o : Option X) (P : X → Type 0) (x : X) → o ≡ Some x → P x → IfSome o P

@@ -1,17 +1,12 @@
 -- The replacement of a file as a whole.
-use Rattle.std.proofs.Common.{arith, ◌≡◌, ◌⊎◌, inl, ⊎_elim, ℕ, List, [], ◌∷◌, ◌++◌, refl, ◌∙◌, ap, Option, None, Some, Result, Ok, Err}
-use Rattle.std.specs.Prelude.{IfOk, IfSome, MatchResult}
+use Rattle.std.proofs.Common.{arith, ◌≡◌, ◌⊎◌, inl, ⊎_elim, ℕ, List, [], ◌∷◌, ◌++◌, refl, ◌∙◌, ap, Option, None, Some, Result, Ok, Err, IfOk, IfSome, MatchResult}
 use Rattle.std.specs.Option.{option_map}
 use Rattle.std.specs.Io.KnownBytes.{Appends}
 use Rattle.std.proofs.lemmas.Option.{IfSome_then}
 use Rattle.std.proofs.lemmas.Result.{IfOk-weaker}
-use Rattle.restamp_in_place.specs.declared.lines.Made.{Made}
-use Rattle.restamp_in_place.specs.declared.lines.Made.TheVariants.{Changed}
-use Rattle.restamp_in_place.specs.declared.replacing.Plan.{Plan}
-use Rattle.restamp_in_place.specs.Replacing.{Event, leads, stored, bytes_at, Performs, Creates, Removes, bytes_made, HasSameBytes, IsEnded}
-use Rattle.restamp_in_place.specs.Replacing.{IsUntouched, Replaces}
+use Rattle.restamp_in_place.specs.Replacing.{Made, Changed, Event, leads, stored, bytes_at, Performs, Creates, Removes, bytes_made, HasSameBytes, IsEnded, IsUntouched, Replaces}
 use Rattle.restamp_in_place.specs.Replacing.Event.{Leads}
-use Rattle.restamp_in_place.specs.Phases.{Replacement, IsPlanOf, IsWritten, Reached, Kept, IsMade, IsEndOf, Runs}
+use Rattle.restamp_in_place.specs.Phases.{Plan, Replacement, IsPlanOf, IsWritten, Reached, Kept, IsMade, IsEndOf, Runs}
 use Rattle.restamp_in_place.proofs.FolderLemmas.{leads-past, leads-removed}
 use Rattle.restamp_in_place.proofs.PhaseLemmas.{made, Same-removable, removed}
 

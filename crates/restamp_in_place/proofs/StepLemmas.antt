@@ -1,12 +1,10 @@
 -- The effect of each call on the replacement of a file.
-use Rattle.std.proofs.Common.{◌≡◌, ◌⊎◌, ⊎_elim, ℕ, List, [], ◌∷◌, ◌++◌, refl, ◌∙◌, Option, None, Some, Bool, true, false, Result}
-use Rattle.std.specs.Prelude.{IfSome}
+use Rattle.std.proofs.Common.{◌≡◌, ◌⊎◌, ⊎_elim, ℕ, List, [], ◌∷◌, ◌++◌, refl, ◌∙◌, Option, None, Some, Bool, true, false, sym, is_ok, Result, Ok, Err, IfSome}
 use Rattle.std.proofs.lemmas.Option.{IfSome_then}
 use Rattle.std.proofs.lemmas.Result.{MatchResult-weaker}
-use Rattle.restamp_in_place.specs.Replacing.{Event, leads, Performs, Stores, Links, Renames, Removes, Syncs}
+use Rattle.restamp_in_place.specs.Replacing.{Event, leads, Performs, Tries, Stores, Links, Renames, Removes, Syncs}
 use Rattle.restamp_in_place.specs.Replacing.Event.{Leads}
-use Rattle.restamp_in_place.specs.Phases.{Replacement, IsWritten, Reached, Kept, Ready, Linked, Backed, TempRemovable, BackupRemovable}
-use Rattle.restamp_in_place.specs.Phases.{Put, Installed, Runs, Transitions}
+use Rattle.restamp_in_place.specs.Phases.{Replacement, IsWritten, Reached, Kept, Ready, Linked, Backed, TempRemovable, BackupRemovable, Put, Installed, Runs, Transitions}
 use Rattle.restamp_in_place.proofs.PhaseLemmas.{ready, linked, backed, renamed, put, removable-renamed, done-synced, removed}
 
 -- a call that may have failed
@@ -21,10 +19,29 @@ runs-any before after P fact from onto tries step stays = IfSome_then before tri
 ))
 
 -- a call that succeeded
-pub runs-ok : (before after : Option (List Event)) (fact : List Event → List Event → Type 0) (from onto : List Event → Type 0)
-    → Performs before after (λ done more. fact done more ⊎ ((false ≡ true) × (more ≡ [])))
+pub runs-ok : {T E : Type 0} (before after : Option (List Event)) (called : Result T E) (fact : List Event → List Event → Type 0)
+    (from onto : List Event → Type 0) → is_ok called ≡ true → Tries before after called fact
     → ((done more : List Event) → from done → fact done more → onto (more ++ done)) → Runs before after from onto
-runs-ok before after fact from onto tries step = runs-any before after (false ≡ true) fact from onto tries step (λ never. absurd (cc never))
+runs-ok before after (Ok value) fact from onto ok tries step = runs-any before after _ fact from onto tries step (λ never. absurd (cc never))
+runs-ok before after (Err error) fact from onto ok tries step = absurd (cc ok)
+
+-- a call, after which its caller fails
+pub call_failed : {T E T' E' : Type 0} (before after : Option (List Event)) (called : Result T E) (result : Result T' E')
+    (fact : List Event → List Event → Type 0) (from onto failed : List Event → Type 0) → is_ok result ≡ false → Tries before after called fact
+    → ((done more : List Event) → from done → fact done more → failed (more ++ done)) → ((done : List Event) → from done → failed done)
+    → Transitions before after result from onto failed
+call_failed before after called (Ok value) fact from onto failed is tries may stays = absurd (cc is)
+call_failed before after called (Err error) fact from onto failed is tries may stays = runs-any before after _ fact from failed tries may (λ _. stays)
+
+-- a call, and the result of its caller, which fails if the call failed
+pub tried : {T E T' E' : Type 0} (before after : Option (List Event)) (called : Result T E) (result : Result T' E')
+    (fact : List Event → List Event → Type 0) (from onto failed : List Event → Type 0) → is_ok result ≡ is_ok called → Tries before after called fact
+    → ((done more : List Event) → from done → fact done more → onto (more ++ done))
+    → ((done more : List Event) → from done → fact done more → failed (more ++ done)) → ((done : List Event) → from done → failed done)
+    → Transitions before after result from onto failed
+tried before after called (Ok value) fact from onto failed same tries step may stays = runs-ok before after called fact from onto (sym same) tries step
+tried before after called (Err error) fact from onto failed same tries step may stays =
+    runs-any before after _ fact from failed tries may (λ _. stays)
 
 pub runs-then : (before between after : Option (List Event)) (from mid onto : List Event → Type 0)
     → Runs before between from mid → Runs between after mid onto → Runs before after from onto
@@ -45,6 +62,12 @@ pub goes-into : {T E : Type 0} (before after : Option (List Event)) (result : Re
     → ((done : List Event) → failed done → other done) → Transitions before after result from onto failed → Transitions before after result from onto other
 goes-into before after result from onto failed other step =
     runs-weaker before after from from _ _ (λ _ is. is) (λ done is. MatchResult-weaker result is (λ _ is. is) (λ _. step done))
+
+-- the phase after a call, whether its caller fails or not
+pub either_way : {T E : Type 0} (before after : Option (List Event)) (result : Result T E) (from onto failed : List Event → Type 0)
+    → ((done : List Event) → onto done → failed done) → Runs before after from onto → Transitions before after result from onto failed
+either_way before after (Ok value) from onto failed step runs = runs
+either_way before after (Err error) from onto failed step runs = runs-weaker before after from from onto failed (λ _ is. is) step runs
 
 module _ (aim : Replacement) where
   pub did_store : (name : List ℕ) (known : Option (List ℕ)) → name ≡ aim.temporary → IsWritten aim known

@@ -3,10 +3,8 @@
 -- The phases of a file's replacement.
 use Rattle.std.specs.Prelude.{◌≡◌, ◌++◌, ℕ, List, ◌∷◌, Option, Some, None, IfSome, MatchResult, Result}
 use Rattle.std.specs.Option.{option_map}
-use Rattle.restamp_in_place.specs.declared.lines.Made.{Made}
-use Rattle.restamp_in_place.specs.declared.lines.Made.TheVariants.{Changed}
-use Rattle.restamp_in_place.specs.declared.replacing.Plan.{Plan}
-use Rattle.restamp_in_place.specs.Replacing.{Event, leads, stored, IsFresh, MayLead, IsSafe, IsBackedUp, IsReplaced, IsUntouched, Throughout}
+pub use Rattle.restamp_in_place.specs.declared.replacing.Plan.{Plan}
+use Rattle.restamp_in_place.specs.Replacing.{Made, Changed, Event, leads, stored, IsFresh, MayLead, IsSafe, IsBackedUp, IsReplaced, IsUntouched, Throughout}
 use Rattle.restamp_in_place.specs.Replacing.Event.{Leads}
 
 -- The plan: the folder's earlier events, the names of the file, the new file and the backup, the numbers of both files,

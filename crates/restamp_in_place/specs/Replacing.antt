@@ -5,8 +5,8 @@ use Rattle.std.specs.Str.{bytes_eq}
 use Rattle.restamp_stream.specs.declared.tally.Tally.{Tally}
 use Rattle.restamp_stream.specs.Reports.{nothing_counted}
 use Rattle.restamp_stream.specs.Streams.{Job, state, ProcessedAll}
-use Rattle.restamp_in_place.specs.declared.lines.Made.{Made}
-use Rattle.restamp_in_place.specs.declared.lines.Made.TheVariants.{Changed, Same}
+pub use Rattle.restamp_in_place.specs.declared.lines.Made.{Made}
+pub use Rattle.restamp_in_place.specs.declared.lines.Made.TheVariants.{Changed, Same}
 
 -- ---- The events of a folder, and what a crash leaves of it
 

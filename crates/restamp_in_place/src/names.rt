@@ -52,8 +52,5 @@ pub fn backup_name(alloc: Global, name: &str, suffix: &str) -> io::Result<String
         return Ok(backup);
     }
     let bytes = with_name(alloc, name.as_bytes(), suffix.as_bytes())?;
-    match String::from_utf8(bytes) {
-        Ok(backup) => Ok(backup),
-        Err(_) => Err(io::Error::from(ErrorKind::InvalidData)),
-    }
+    String::from_utf8(bytes).map_err(|_| io::Error::from(ErrorKind::InvalidData))
 }

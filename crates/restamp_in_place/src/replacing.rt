@@ -23,13 +23,6 @@ pub(crate) struct Plan<'a> {
     original: Original,
 }
 
-// Why a new file didn't replace the old one.
-#[derive(Drop)]
-enum InstallError {
-    Changed,
-    Failed(Step, io::Error),
-}
-
 // Creates a file beside a file, under an unused name.
 fn create_beside<F: Folder>(
     folder: &mut F,
@@ -52,49 +45,52 @@ fn create_beside<F: Folder>(
     Err(io::Error::from(ErrorKind::AlreadyExists))
 }
 
+// An error if another program changed the old file, or it can't be looked at.
+fn unchanged<S: Drop>(is_there: io::Result<bool>) -> Result<(), Unreplaced<S>> {
+    match is_there {
+        Ok(true) => Ok(()),
+        Ok(false) => Err(Unreplaced::Changed),
+        Err(e) => Err(Unreplaced::Failed(Step::Look, e)),
+    }
+}
+
 // Writes the new file to the disk. An error if another program changed the old one.
-fn prepare<F: Folder>(folder: &mut F, plan: &Plan<'_>, new: F::New) -> Result<(), InstallError>
+fn prepare<F: Folder, S: Drop>(
+    folder: &mut F,
+    plan: &Plan<'_>,
+    new: F::New,
+) -> Result<(), Unreplaced<S>>
     ensures { (aim : Replacement) → IsPlanOf aim plan.now → IsWritten aim (F.New.contents new)
         → Transitions (F.events folder.old) (F.events folder.new) result (Kept aim) (Ready aim) (TempRemovable aim) }
 {
-    match folder.store(plan.temporary, new, &plan.original) {
-        Ok(()) => {}
-        Err(e) => return Err(InstallError::Failed(Step::Store, e)),
-    }
-    match folder.is_at(plan.name, &plan.original) {
-        Ok(true) => Ok(()),
-        Ok(false) => Err(InstallError::Changed),
-        Err(e) => Err(InstallError::Failed(Step::Look, e)),
-    }
+    let stored = folder.store(plan.temporary, new, &plan.original);
+    stored.map_err(|e| Unreplaced::Failed(Step::Store, e))?;
+    unchanged(folder.is_at(plan.name, &plan.original))
 }
 
 // Renames the new file to the old one's name.
-fn rename<F: Folder>(folder: &mut F, plan: &Plan<'_>) -> Result<(), InstallError>
+fn rename<F: Folder, S: Drop>(folder: &mut F, plan: &Plan<'_>) -> Result<(), Unreplaced<S>>
     ensures { (aim : Replacement) → IsPlanOf aim plan.now
         → Transitions (F.events folder.old) (F.events folder.new) result (Backed aim) (Put aim) (BackupRemovable aim) }
 {
-    match folder.rename(plan.temporary, plan.name) {
-        Ok(()) => Ok(()),
-        Err(e) => Err(InstallError::Failed(Step::Rename, e)),
-    }
+    let renamed = folder.rename(plan.temporary, plan.name);
+    renamed.map_err(|e| Unreplaced::Failed(Step::Rename, e))
 }
 
 // Writes the second name of the old file to the disk, then renames the new file.
-fn rename_linked<F: Folder>(folder: &mut F, plan: &Plan<'_>) -> Result<(), InstallError>
+fn rename_linked<F: Folder, S: Drop>(folder: &mut F, plan: &Plan<'_>) -> Result<(), Unreplaced<S>>
     ensures { (aim : Replacement) → IsPlanOf aim plan.now
         → Transitions (F.events folder.old) (F.events folder.new) result (Linked aim) (Put aim) (BackupRemovable aim) }
 {
-    match folder.sync() {
-        Ok(()) => {}
-        Err(e) => return Err(InstallError::Failed(Step::BackUp, e)),
-    }
+    let synced = folder.sync();
+    synced.map_err(|e| Unreplaced::Failed(Step::BackUp, e))?;
     rename(folder, plan)
 }
 
 // Removes the backup again, if the name still points to the old file.
 fn remove_backup<F: Folder>(folder: &mut F, plan: &Plan<'_>, backup: &str)
     ensures { (aim : Replacement) → IsPlanOf aim plan.now → aim.backup ≡ Some backup.now
-        → IfSome (F.events folder.old) (λ done. BackupRemovable aim done → (now : List Event) × (F.events folder.new ≡ Some now) × TempRemovable aim now) }
+        → Runs (F.events folder.old) (F.events folder.new) (BackupRemovable aim) (TempRemovable aim) }
 {
     let Ok(true) = folder.is_at(plan.name, &plan.original) else {
         return;
@@ -103,112 +99,57 @@ fn remove_backup<F: Folder>(folder: &mut F, plan: &Plan<'_>, backup: &str)
 }
 
 // Gives the old file its second name, then renames the new file.
-fn rename_backed<F: Folder>(
+fn rename_backed<F: Folder, S: Drop>(
     folder: &mut F,
     plan: &Plan<'_>,
     backup: &str,
-) -> Result<(), InstallError>
+) -> Result<(), Unreplaced<S>>
     ensures { (aim : Replacement) → IsPlanOf aim plan.now → aim.backup ≡ Some backup.now
         → Transitions (F.events folder.old) (F.events folder.new) result (Ready aim) (Put aim) (TempRemovable aim) }
 {
-    match folder.link(plan.name, backup) {
-        Ok(()) => {}
-        Err(e) => return Err(InstallError::Failed(Step::BackUp, e)),
-    }
+    let linked = folder.link(plan.name, backup);
+    linked.map_err(|e| Unreplaced::Failed(Step::BackUp, e))?;
     match rename_linked(folder, plan) {
         Ok(()) => Ok(()),
-        Err(unput) => {
+        Err(why) => {
             remove_backup(folder, plan, backup);
-            Err(unput)
+            Err(why)
         }
     }
 }
 
 // Renames the new file to the old one's name, after the old one got its backup if one is requested.
-fn install<F: Folder>(folder: &mut F, plan: &Plan<'_>, new: F::New) -> Result<(), InstallError>
+fn install<F: Folder, S: Drop>(
+    folder: &mut F,
+    plan: &Plan<'_>,
+    new: F::New,
+) -> Result<(), Unreplaced<S>>
     ensures { (aim : Replacement) → IsPlanOf aim plan.now → IsWritten aim (F.New.contents new)
         → Transitions (F.events folder.old) (F.events folder.new) result (Kept aim) (Put aim) (TempRemovable aim) }
 {
-    match prepare(folder, plan, new) {
-        Ok(()) => {}
-        Err(unput) => return Err(unput),
-    }
+    prepare(folder, plan, new)?;
     match plan.backup {
         Some(backup) => rename_backed(folder, plan, backup),
         None => rename(folder, plan),
     }
 }
 
-// Writes the folder to the disk, with the new file in place.
-fn sync_folder<F: Folder>(disk: &mut F) -> Result<(), InstallError>
-    ensures { (aim : Replacement) → Transitions (F.events disk.old) (F.events disk.new) result (Put aim) (Installed aim) (Reached aim) }
-{
-    match disk.sync() {
-        Ok(()) => Ok(()),
-        Err(e) => Err(InstallError::Failed(Step::Sync, e)),
-    }
-}
-
 // Installs the new file, and writes the folder to the disk. Removes the new file if it can't be installed.
-fn put<F: Folder>(folder: &mut F, plan: &Plan<'_>, new: F::New) -> Result<(), InstallError>
+fn put<F: Folder, S: Drop>(
+    folder: &mut F,
+    plan: &Plan<'_>,
+    new: F::New,
+) -> Result<(), Unreplaced<S>>
     ensures { (aim : Replacement) → IsPlanOf aim plan.now → IsWritten aim (F.New.contents new)
         → Transitions (F.events folder.old) (F.events folder.new) result (Kept aim) (Installed aim) (Reached aim) }
 {
     match install(folder, plan, new) {
-        Ok(()) => {}
-        Err(unput) => {
+        Ok(()) => folder.sync().map_err(|e| Unreplaced::Failed(Step::Sync, e)),
+        Err(why) => {
+            // A second failure leaves the new file.
             let _ = folder.remove(plan.temporary);
-            return Err(unput);
+            Err(why)
         }
-    }
-    sync_folder(folder)
-}
-
-// Installs the new file, after its bytes were made.
-fn finish_changed<F: Folder, S: Drop>(
-    folder: &mut F,
-    plan: &Plan<'_>,
-    new: F::New,
-) -> Result<Made, Unreplaced<S>>
-    ensures ends { (aim : Replacement) → IsPlanOf aim plan.now → IsWritten aim (F.New.contents new)
-        → Runs (F.events folder.old) (F.events folder.new) (IsMade aim)
-        (λ now. MatchResult result (λ how. IsEndOf aim how now) (λ _. Reached aim now)) }
-    ensures how { IfOk result (λ how. how ≡ Made.Changed) }
-{
-    match put(folder, plan, new) {
-        Ok(()) => Ok(Made::Changed),
-        Err(InstallError::Changed) => Err(Unreplaced::Changed),
-        Err(InstallError::Failed(step, error)) => Err(Unreplaced::Failed(step, error)),
-    }
-}
-
-// Removes the new file, which isn't needed.
-fn finish_same<F: Folder, S: Drop>(folder: &mut F, plan: &Plan<'_>) -> Result<Made, Unreplaced<S>>
-    ensures ends { (aim : Replacement) → IsPlanOf aim plan.now
-        → Runs (F.events folder.old) (F.events folder.new) (IsMade aim)
-        (λ now. MatchResult result (λ how. IsEndOf aim how now) (λ _. Reached aim now)) }
-    ensures how { IfOk result (λ how. how ≡ Made.Same) }
-{
-    match folder.remove(plan.temporary) {
-        Ok(()) => Ok(Made::Same),
-        Err(e) => Err(Unreplaced::Failed(Step::Remove, e)),
-    }
-}
-
-// Removes the new file, whose bytes were not made: a write failed, or the `FileTransform` stopped.
-fn abandon<F: Folder, S: Drop>(
-    folder: &mut F,
-    plan: &Plan<'_>,
-    failure: Option<io::Error>,
-    stop: S,
-) -> Unreplaced<S>
-    ensures { (aim : Replacement) → IsPlanOf aim plan.now
-        → Runs (F.events folder.old) (F.events folder.new) (IsMade aim) (Reached aim) }
-{
-    let _ = folder.remove(plan.temporary);
-    match failure {
-        Some(error) => Unreplaced::Failed(Step::Write, error),
-        None => Unreplaced::Stopped(stop),
     }
 }
 
@@ -225,15 +166,24 @@ fn finish<F: Folder, S: Drop>(
         (λ now. MatchResult result (λ how. IsEndOf aim how now) (λ _. Reached aim now)) }
     ensures how { IfOk result (λ how. made ≡ Ok how) }
 {
-    let how = match made {
-        Ok(how) => how,
-        Err(stop) => return Err(abandon(folder, plan, new.into_failure(), stop)),
-    };
-    match how {
-        Made::Changed => finish_changed(folder, plan, new),
-        Made::Same => {
+    match made {
+        Ok(Made::Changed) => {
+            put(folder, plan, new)?;
+            Ok(Made::Changed)
+        }
+        Ok(Made::Same) => {
             drop(new);
-            finish_same(folder, plan)
+            let removed = folder.remove(plan.temporary);
+            removed.map_err(|e| Unreplaced::Failed(Step::Remove, e))?;
+            Ok(Made::Same)
+        }
+        Err(stop) => {
+            let failure = new.into_failure();
+            let _ = folder.remove(plan.temporary);
+            Err(match failure {
+                Some(error) => Unreplaced::Failed(Step::Write, error),
+                None => Unreplaced::Stopped(stop),
+            })
         }
     }
 }

@@ -1,8 +1,7 @@
 -- The first place of a byte and of a text.
-use Rattle.std.proofs.Common.{false, refl, take, ◌≡◌, ℕ, zero, suc, ◌+◌, ◌-◌, ◌/◌, ◌%◌, ◌^◌, ◌<◌, ◌≤◌, Bool, true, not, List, [], ◌∷◌, length, map, get_or, replicate, drop, bit_and, sym, ap, arith, add-one, get_or-drop, length-drop, ◌∙◌, None, Some}
+use Rattle.std.proofs.Common.{false, refl, take, ◌≡◌, ℕ, zero, suc, ◌+◌, ◌-◌, ◌/◌, ◌%◌, ◌^◌, ◌<◌, ◌≤◌, Bool, true, not, List, [], ◌∷◌, length, map, get_or, replicate, drop, bit_and, sym, ap, arith, add-one, get_or-drop, length-drop, ◌∙◌, None, Some, Option}
 use lib.Count.{count_trailing_zeros}
 use lib.Lanes.{chunk, zip2, mask_l, top}
-use Rattle.std.specs.Prelude.{Option}
 use Rattle.std.specs.List.{position_or_len, prefix_len}
 use Rattle.std.specs.Option.{option_map}
 use Rattle.std.proofs.lemmas.Bool.{not-true, both_ways, false_from_ne_true}

@@ -1,19 +1,14 @@
 -- Words of a line that are skipped.
-use Rattle.std.specs.Prelude.{Option, IfSome, ◌&&◌}
 use Rattle.std.specs.Option.{option_map}
 use Rattle.std.specs.List.{position_or_len}
-use Rattle.std.proofs.Common.{◌≡◌, ℕ, zero, suc, ◌+◌, ◌-◌, ◌<◌, ◌≤◌, false, List, [], ◌∷◌, ◌++◌, length, take, drop, refl, ap, arith, None, Some, take-append-drop, ◌==◌, Bool, true, not, if◌then◌else◌, get_or, ⊎_elim, get_or-drop, ◌∙◌, add-one, append_assoc}
+use Rattle.std.proofs.Common.{◌≡◌, ℕ, zero, suc, ◌+◌, ◌-◌, ◌<◌, ◌≤◌, false, List, [], ◌∷◌, ◌++◌, length, take, drop, refl, ap, arith, None, Some, take-append-drop, ◌==◌, Bool, true, not, if◌then◌else◌, get_or, ⊎_elim, get_or-drop, ◌∙◌, add-one, append_assoc, Option, IfSome, ◌&&◌}
 use Rattle.std.proofs.lemmas.Bool.{le-leb}
 use Rattle.std.proofs.lemmas.List.{take_all, length-drop, drop-drop}
 use Rattle.std.proofs.lemmas.Bool.Decides.{nat_tests}
 use Rattle.std.proofs.lemmas.List.Sums.{prefix_len-le-length}
 use Rattle.std.proofs.Math.Seq.{drop-cons}
 use mir.Val.{bool_byte}
-use Rattle.restamp_place.specs.declared.fields.Fields.{Fields}
-use Rattle.restamp_place.specs.declared.fields.Field.{Field}
-use Rattle.restamp_place.specs.declared.fields.Span.{Span}
-use Rattle.restamp_place.specs.Fields.{first_field, nth_field, moved, gap, first_word, is_blank, closing_quote}
-use Rattle.restamp_place.specs.declared.fields.Fields.TheVariants.{Blank}
+use Rattle.restamp_place.specs.Fields.{Fields, Field, Span, Blank, first_field, nth_field, moved, gap, first_word, is_blank, closing_quote}
 use Rattle.restamp_place.specs.Words.{IsPassed, is_end, word_ends}
 
 -- ---- The fields of a line, one after the other

@@ -5,8 +5,7 @@ use Rattle.memchr.specs.Find.{occurs_at}
 use Rattle.restamp_place.specs.declared.cuts.Cut as declared
 use Rattle.restamp_place.specs.declared.cuts.Place.{Place}
 use Rattle.restamp_place.specs.declared.cuts.Place.TheVariants.{Whole, Front, Field, Between, After}
-use Rattle.restamp_place.specs.declared.fields.Span.{Span}
-use Rattle.restamp_place.specs.Fields.{span, nth_field}
+use Rattle.restamp_place.specs.Fields.{Span, span, nth_field}
 
 -- ---- The place of a text in bytes
 
@@ -65,8 +64,6 @@ located place line = option_map (cut_by line) (span_of place line)
 -- whether the format decides where the timestamp ends, so that its part goes on to the end of the line, or to a
 -- CR there
 abbrev pub is_prefix : Place → Bool
-is_prefix Whole = false
 is_prefix Front = true
-is_prefix (Field kind n) = false
-is_prefix (Between begin close) = false
 is_prefix (After key) = true
+is_prefix _ = false

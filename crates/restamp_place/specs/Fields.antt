@@ -2,10 +2,10 @@
 use Rattle.std.specs.Prelude.{ℕ, zero, suc, ◌+◌, ◌≤◌, Bool, not, ◌||◌, ◌==◌, nat_le, List, [], ◌∷◌, length, drop, slice_index, if◌then◌else◌, Option, None, Some}
 use Rattle.std.specs.List.{position_or_len}
 use Rattle.std.specs.Option.{option_and_then, option_map}
-use Rattle.restamp_place.specs.declared.fields.Span.{Span}
-use Rattle.restamp_place.specs.declared.fields.Field.{Field}
-use Rattle.restamp_place.specs.declared.fields.Fields.{Fields}
-use Rattle.restamp_place.specs.declared.fields.Fields.TheVariants.{Delimited, Blank, Quoted}
+pub use Rattle.restamp_place.specs.declared.fields.Span.{Span}
+pub use Rattle.restamp_place.specs.declared.fields.Field.{Field}
+pub use Rattle.restamp_place.specs.declared.fields.Fields.{Fields}
+pub use Rattle.restamp_place.specs.declared.fields.Fields.TheVariants.{Delimited, Blank, Quoted}
 
 -- space or TAB
 abbrev pub is_blank : ℕ → Bool
@@ -68,9 +68,8 @@ first_field (Quoted d) line = first_quoted d line
 
 -- how many bytes come between the end of a field and the bytes in which the next one is searched
 abbrev pub gap : Fields → ℕ
-gap (Delimited d) = 1
 gap Blank = 0
-gap (Quoted d) = 1
+gap _ = 1
 
 -- a part that is n bytes further on
 abbrev pub moved : ℕ → Span → Span

@@ -3,8 +3,7 @@
 -- Words that are skipped.
 use Rattle.std.specs.Prelude.{◌≡◌, ℕ, zero, suc, ◌+◌, Bool, not, ◌&&◌, List, [], ◌∷◌, drop, slice_index, if◌then◌else◌}
 use Rattle.std.specs.Option.{option_map}
-use Rattle.restamp_place.specs.Fields.{is_blank, moved, nth_field}
-use Rattle.restamp_place.specs.declared.fields.Fields.TheVariants.{Blank}
+use Rattle.restamp_place.specs.Fields.{Blank, is_blank, moved, nth_field}
 use Rattle.restamp_place.specs.declared.fields.fast.Passed.{Passed}
 
 -- a word ends with this byte, by the bytes that follow it

@@ -29,10 +29,7 @@ impl Place<'_> {
     pub fn is_prefix(self) -> bool
         ensures { result ≡ is_prefix self.entry }
     {
-        match self {
-            Place::Front | Place::After(_) => true,
-            Place::Whole | Place::Field(..) | Place::Between(..) => false,
-        }
+        matches!(self, Place::Front | Place::After(_))
     }
 }
 

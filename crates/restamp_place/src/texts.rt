@@ -22,10 +22,7 @@ pub(crate) fn length_before(byte: u8, bytes: &[u8]) -> usize
     ensures value { result ≡ position_or_len (λ x. x == byte) bytes.now }
     ensures within { result ≤ length bytes.now }
 {
-    match memchr(byte, bytes) {
-        Some(i) => i,
-        None => bytes.len(),
-    }
+    memchr(byte, bytes).unwrap_or(bytes.len())
 }
 
 // How many of sixteen bytes come before the first occurrence of `byte`; 16 if it doesn't occur.

@@ -1,18 +1,14 @@
 -- The rest of bytes that are split into lines, and the laws of an input.
-use Rattle.std.specs.Bool.{MatchBool}
 use Rattle.std.specs.Io.KnownBytes.{Appends}
 use Rattle.std.specs.Fmt.{decimal}
-use Rattle.std.proofs.Common.{◌≡◌, ℕ, ◌-◌, ◌≤◌, suc, List, [], ◌∷◌, ◌++◌, length, drop, refl, ap, arith, ◌∙◌, append_assoc, zero, take, take-append-drop, Option, Some, Bool, false, ◌<◌, get_or, codes, Result, Ok, Err, OnOk}
+use Rattle.std.proofs.Common.{◌≡◌, ℕ, ◌-◌, ◌≤◌, suc, List, [], ◌∷◌, ◌++◌, length, drop, refl, ap, arith, ◌∙◌, append_assoc, zero, take, take-append-drop, Option, Some, Bool, false, ◌<◌, get_or, codes, Result, Ok, Err, OnOk, MatchBool}
 use Rattle.std.proofs.lemmas.List.{drop_at, length-append, take_all, length-drop}
 use Rattle.std.proofs.lemmas.Grind.{flat_map-append}
 use Rattle.std.proofs.KnownBytes.{Appends-trans, Appends-nil}
 use Rattle.byte_streams.specs.Lines.{Line, lines_of, joined}
 use Rattle.byte_streams.proofs.LinesLemmas.{joined-lines_of}
 use Rattle.restamp_stream.specs.Streams.{EndsWith, Job, front_of, text_of, IsNaming, AreAnswered, OneAnswer, OneResult, AreKept, KeptBytes}
-use Rattle.restamp_stream.specs.declared.action.LineAction.{LineAction}
-use Rattle.restamp_stream.specs.declared.settings.Output.TheVariants.{AllLines}
-use Rattle.restamp_stream.specs.declared.tally.Tally.{Tally}
-use Rattle.restamp_stream.specs.Reports.{count_action, is_named, report_of, unnamed, more_text, is_escaped, escaped_byte, displayed_as, reason_text, displayed_name, unread_text}
+use Rattle.restamp_stream.specs.Reports.{AllLines, Tally, Action, count_action, is_named, report_of, unnamed, more_text, is_escaped, escaped_byte, displayed_as, reason_text, displayed_name, unread_text}
 
 -- the bytes after a line
 pub EndsWith-line : (left line after : List ℕ) → left ≡ line ++ 10 ∷ after → EndsWith left after
@@ -37,7 +33,7 @@ left_fills bytes left n p h k = omega (arith, h, k, ap length p.1, length-append
 
 -- a front has one action, and is rejected at one column and for one reason
 abbrev pub OneFate : Job → Type 0
-OneFate job = (front : List ℕ) (a b : LineAction) → job.is_action front a → job.is_action front b → a ≡ b
+OneFate job = (front : List ℕ) (a b : Action) → job.is_action front a → job.is_action front b → a ≡ b
 
 abbrev pub OneReason : Job → Type 0
 OneReason job = (front : List ℕ) (column other : ℕ) (reason why : List ℕ)
@@ -88,11 +84,11 @@ one_result job fate_one reason_one bytes out log tally after other p q =
 kept_front : (job : Job) (line : Line) → take job.limit line.text ++ (drop job.limit line.text ++ line.ending) ≡ line.text ++ line.ending
 kept_front job line = rw (← append_assoc (take job.limit line.text) (drop job.limit line.text) line.ending, take-append-drop)
 
-kept_line : (job : Job) (line : Line) (f : LineAction) (fs : List LineAction) → job.settings.output ≡ AllLines → AreKept (f ∷ fs)
+kept_line : (job : Job) (line : Line) (f : Action) (fs : List Action) → job.settings.output ≡ AllLines → AreKept (f ∷ fs)
     → (text_of job line f ≡ line.text ++ line.ending) × AreKept fs
 kept_line job line f fs all k = grind (arith, kept_front job line)
 
-kept_lines : (job : Job) (t : Tally) (lines : List Line) (actions : List LineAction) (text reports : List ℕ) → job.settings.output ≡ AllLines
+kept_lines : (job : Job) (t : Tally) (lines : List Line) (actions : List Action) (text reports : List ℕ) → job.settings.output ≡ AllLines
     → AreAnswered job t lines actions text reports → AreKept actions → text ≡ joined lines
 kept_lines job t [] actions text reports all p k = p.1
 kept_lines job t (line ∷ lines) actions text reports all p k =

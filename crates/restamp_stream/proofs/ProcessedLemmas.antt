@@ -1,23 +1,16 @@
 -- Lines were processed, and then more lines.
 use Rattle.std.specs.Io.KnownBytes.{Appends}
-use Rattle.std.specs.Prelude.{Result, IfErr, IfSome}
-use Rattle.std.proofs.Common.{◌≡◌, ℕ, ◌+◌, ◌≤◌, List, ◌++◌, length, take, sym, arith, ◌∙◌, [], ◌∷◌, refl, append_assoc, append-nil, Option, zero, suc, ◌<◌, map, get_or, None, Some, Ok, Err, inl, inr, ◌⊎◌}
+use Rattle.std.proofs.Common.{◌≡◌, ℕ, ◌+◌, ◌≤◌, List, ◌++◌, length, take, sym, arith, ◌∙◌, [], ◌∷◌, refl, append_assoc, append-nil, Option, zero, suc, ◌<◌, map, get_or, None, Some, Ok, Err, inl, inr, ◌⊎◌, Result, IfErr, IfSome, OnOk}
 use Rattle.std.proofs.lemmas.List.{take-append-le, take_all, drop_all, drop-append-le, map_more}
 use Rattle.std.proofs.KnownBytes.{Appends-trans, Appends-nil, Appends-kept}
 use Rattle.byte_streams.specs.Faults.{Rises, IsCutOff}
-use Rattle.restamp_stream.specs.declared.action.LineAction.{LineAction}
-use Rattle.restamp_stream.specs.declared.action.TailAction.{TailAction}
-use Rattle.restamp_stream.specs.declared.tally.Tally.{Tally}
 use Rattle.byte_streams.specs.Lines.{Line, ended, unended}
-use Rattle.restamp_stream.specs.Streams.{Job, text_of, IsReport, IsAnswered, AreAnswered, State, Processed, job_of, AreProcessed, ProcessedCutOff, ProcessedFile, ProcessedFiles, StoppedIn, ProcessedBefore, ProcessedSome}
-use Rattle.restamp_stream.specs.Reports.{count_action, counted, front_text, tail_action_of, passed, IsAllowed}
+use Rattle.restamp_stream.specs.Streams.{Settings, Job, text_of, IsReport, IsAnswered, AreAnswered, State, Processed, job_of, Served, before_lines, AreProcessed, ProcessedFile, ProcessedFiles, StoppedIn, ProcessedBefore, ProcessedAll, ProcessedSome}
+use Rattle.restamp_stream.specs.Reports.{TailAction, Tally, Action, count_action, counted, front_text, tail_action_of, passed, IsAllowed}
 use Rattle.restamp_stream.specs.Buffered.{Flushes}
-use Rattle.restamp_stream.specs.declared.ending.Stop.{Stop}
-use Rattle.restamp_stream.specs.declared.ending.Stop.TheVariants.{Unread, Refused}
-use Rattle.restamp_stream.specs.declared.settings.Settings.{Settings}
-use Rattle.restamp_stream.specs.Causes.{HasWriteCause}
+use Rattle.restamp_stream.specs.Causes.{Stop, Unread, Refused, HasWriteCause}
 
-AreAnswered-then : (job : Job) (t : Tally) (lines more : List Line) (actions others : List LineAction) (text rest reports after : List ℕ)
+AreAnswered-then : (job : Job) (t : Tally) (lines more : List Line) (actions others : List Action) (text rest reports after : List ℕ)
     → AreAnswered job t lines actions text reports → AreAnswered job (counted t actions) more others rest after
     → AreAnswered job t (lines ++ more) (actions ++ others) (text ++ rest) (reports ++ after)
 AreAnswered-then job t [] more actions others text rest reports after p q = rw (p.0, p.1, p.2) (rw p.0 at q)
@@ -35,7 +28,7 @@ AreAnswered-then job t (line ∷ lines) more actions others text rest reports af
   rw (p.10, append_assoc),
 )
 
-counted-append : (t : Tally) (actions others : List LineAction) → counted t (actions ++ others) ≡ counted (counted t actions) others
+counted-append : (t : Tally) (actions others : List Action) → counted t (actions ++ others) ≡ counted (counted t actions) others
 counted-append t [] others = refl
 counted-append t (f ∷ actions) others = counted-append (count_action t f) actions others
 
@@ -43,31 +36,30 @@ pub Processed-none : {job : Job} {a : State} → Processed job a a [] []
 Processed-none {a = a} =
     record { text = []; reports = []; become = (refl, refl, refl); written = Appends-nil a.out; reported = Appends-nil a.log; tallied = refl }
 
-pub Processed-then : {job : Job} {a b c : State} {lines more : List Line} {actions others : List LineAction}
+pub Processed-then : {job : Job} {a b c : State} {lines more : List Line} {actions others : List Action}
     → Processed job a b lines actions → Processed job b c more others → Processed job a c (lines ++ more) (actions ++ others)
-Processed-then {job} {a} {lines = lines} {more} {actions} {others} p q =
-    record {
-      text = p.text ++ q.text;
-      reports = p.reports ++ q.reports;
-      become = AreAnswered-then job a.tally lines more actions others p.text q.text p.reports q.reports p.become (rw p.tallied at q.become);
-      written = Appends-trans _ _ _ _ _ p.written q.written;
-      reported = Appends-trans _ _ _ _ _ p.reported q.reported;
-      tallied = rw (counted-append, ← p.tallied) q.tallied;
-    }
+Processed-then {job} {a} {c = c} {lines} {more} {actions} {others} p q =
+    let tallied : c.tally ≡ counted a.tally (actions ++ others) = rw (counted-append, ← p.tallied) q.tallied in
+    search (
+      AreAnswered-then job a.tally lines more actions others p.text q.text p.reports q.reports p.become (rw p.tallied at q.become),
+      Appends-trans _ _ _ _ _ p.written q.written,
+      Appends-trans _ _ _ _ _ p.reported q.reported,
+      tallied,
+    )
 
 -- the buffered bytes are written
-pub Processed-settled : {job : Job} {a b c : State} {lines : List Line} {actions : List LineAction}
+pub Processed-settled : {job : Job} {a b c : State} {lines : List Line} {actions : List Action}
     → Flushes b c → Processed job a b lines actions → Processed job a c lines actions
 Processed-settled s p =
     search (p.become, Appends-kept _ _ _ _ p.written s.out, Appends-kept _ _ _ _ p.reported s.log, s.tally ∙ p.tallied)
 
 -- ---- one line
 
-AreAnswered-one : (job : Job) (t : Tally) (line : Line) (action : LineAction) (text report : List ℕ)
+AreAnswered-one : (job : Job) (t : Tally) (line : Line) (action : Action) (text report : List ℕ)
     → AreAnswered job t (line ∷ []) (action ∷ []) text report → IsAnswered job (count_action t action) line action text report
 AreAnswered-one job t line action text report p = grind (arith, append-nil {A = ℕ})
 
-AreAnswered-of : (job : Job) (t : Tally) (line : Line) (action : LineAction) (text report : List ℕ)
+AreAnswered-of : (job : Job) (t : Tally) (line : Line) (action : Action) (text report : List ℕ)
     → IsAnswered job (count_action t action) line action text report → AreAnswered job t (line ∷ []) (action ∷ []) text report
 AreAnswered-of job t line action text report p =
     (action, [], text, [], report, [], p, (refl, refl, refl), refl, sym (append-nil text), sym (append-nil report))
@@ -79,7 +71,7 @@ pub passed-append : (r : TailAction) (xs ys : List ℕ) → passed r (xs ++ ys) 
 passed-append r xs ys = grind arith
 
 -- a line is processed by its front
-pub Processed-started : (job : Job) (a b : State) (front : List ℕ) (action : LineAction) (report : List ℕ) → length front ≤ job.limit
+pub Processed-started : (job : Job) (a b : State) (front : List ℕ) (action : Action) (report : List ℕ) → length front ≤ job.limit
     → job.is_action front action
     → IsAllowed job.settings.strict action → Appends a.out b.out (front_text job.settings.output job.settings.suffix.now front action)
     → b.tally ≡ count_action a.tally action
@@ -89,14 +81,7 @@ Processed-started job a b front action report short is allowed p e r q =
     let whole : take job.limit front ≡ front = take_all job.limit front short in
     let answered : IsAnswered job (count_action a.tally action) (unended front) action text report =
     (rw whole is, allowed, rw (whole, drop_all job.limit front short, passed-nil, append-nil), rw whole (rw e at r)) in
-    record {
-      text = text;
-      reports = report;
-      become = AreAnswered-of job a.tally (unended front) action text report answered;
-      written = p;
-      reported = q;
-      tallied = e;
-    }
+    search (AreAnswered-of job a.tally (unended front) action text report answered, p, q, e)
 
 -- Between the two states those bytes were written to the writer, and nothing else was done.
 pub record Writes (before after : State) (bytes : List ℕ) : Type 0 where
@@ -105,31 +90,25 @@ pub record Writes (before after : State) (bytes : List ℕ) : Type 0 where
   pub tally : after.tally ≡ before.tally
 
 -- a line with an equal front, whose output is that text and more
-Processed-grown : {job : Job} {a b c : State} {line : Line} (new : Line) {action : LineAction} {more : List ℕ}
+Processed-grown : {job : Job} {a b c : State} {line : Line} (new : Line) {action : Action} {more : List ℕ}
     → take job.limit new.text ≡ take job.limit line.text → text_of job new action ≡ text_of job line action ++ more
     → Writes b c more → Processed job a b (line ∷ []) (action ∷ []) → Processed job a c (new ∷ []) (action ∷ [])
-Processed-grown {job} {a} {line = line} new {action} {more} same grown w p =
+Processed-grown {job} {a} {c = c} {line} new {action} {more} same grown w p =
     let was : IsAnswered job (count_action a.tally action) line action p.text p.reports = AreAnswered-one job a.tally line action p.text p.reports p.become in
     let text = p.text ++ more in
     let answered : IsAnswered job (count_action a.tally action) new action text p.reports =
     (rw same was.0, was.1, rw (grown, was.2), rw same was.3) in
-    record {
-      text = text;
-      reports = p.reports;
-      become = AreAnswered-of job a.tally new action text p.reports answered;
-      written = Appends-trans _ _ _ _ _ p.written w.out;
-      reported = rw w.log p.reported;
-      tallied = w.tally ∙ p.tallied;
-    }
+    let reported : Appends a.log c.log p.reports = rw w.log p.reported in
+    search (AreAnswered-of job a.tally new action text p.reports answered, Appends-trans _ _ _ _ _ p.written w.out, reported, w.tally ∙ p.tallied)
 
 -- the line ends
-pub Processed-ended : {job : Job} {a b c : State} {line : List ℕ} {action : LineAction}
+pub Processed-ended : {job : Job} {a b c : State} {line : List ℕ} {action : Action}
     → Writes b c (passed (tail_action_of job.settings.output action) (10 ∷ [])) → Processed job a b (unended line ∷ []) (action ∷ [])
     → Processed job a c (ended line ∷ []) (action ∷ [])
 Processed-ended {line = line} w p = Processed-grown (ended line) refl (simp (passed-append, append-nil, append_assoc)) w p
 
 -- the line goes on after its front, and may end
-pub Processed-more : {job : Job} {a b c : State} {text : List ℕ} (more ending : List ℕ) {action : LineAction} → job.limit ≤ length text
+pub Processed-more : {job : Job} {a b c : State} {text : List ℕ} (more ending : List ℕ) {action : Action} → job.limit ≤ length text
     → Writes b c (passed (tail_action_of job.settings.output action) (more ++ ending)) → Processed job a b (unended text ∷ []) (action ∷ [])
     → Processed job a c (record { text = text ++ more; ending = ending } ∷ []) (action ∷ [])
 Processed-more {job} {text = text} more ending long w p =
@@ -141,28 +120,28 @@ Processed-more {job} {text = text} more ending long w p =
 -- The bytes of a source are those of its file, if these are known.
 of_known : {job : Job} (bytes : Option (List ℕ)) {remaining left : Option (List ℕ)} {a b : State} → IfSome bytes (λ bs. remaining ≡ Some bs)
     → ProcessedSome job remaining left a b → ProcessedSome job bytes left a b
-of_known None known p = record {
-  rest = p.rest;
-  held = p.held;
-  answered = p.answered;
-  failed = p.failed;
-  served = record { read = p.served.read; consumed = tt; kept = p.served.kept; answered = p.served.answered };
-  fails = p.fails;
-  closed = p.closed;
-}
+of_known {job} None {left = left} {a} known p =
+    let served : Served job None left (before_lines a) p.answered p.rest p.held = search (p.served.kept, p.served.answered) in search (p, served)
 of_known (Some bs) known p = rw known at p
 
--- a file that was opened was cut off
-pub cut_off : (result : Result (Unit {0}) Stop) (job : Job) (bytes remaining left : Option (List ℕ)) (a b : State) (f0 f1 given n0 n1 n2 : ℕ)
-    → IfSome bytes (λ bs. remaining ≡ Some bs) → f0 ≡ 0 → n1 ≡ n0
-    → IfErr result (λ stop. stop ≡ Unread → ProcessedSome job remaining left a b)
-    → IfErr result (λ stop. stop ≡ Unread → IsCutOff f0 f1 given) → (IsCutOff 0 f1 given → Rises n1 n2)
-    → IfErr result (λ stop. stop ≡ Unread → ProcessedCutOff job bytes n0 n2 a b)
-cut_off (Ok done) job bytes remaining left a b f0 f1 given n0 n1 n2 known none kept processed is closed = tt
-cut_off (Err stop) job bytes remaining left a b f0 f1 given n0 n1 n2 known none kept processed is closed =
-    λ e. (rw (← kept) (closed (rw none at (is e))), inl (left, of_known bytes known (processed e)))
+known_all : (bytes remaining : Option (List ℕ)) (P : List ℕ → Type 0) → IfSome bytes (λ bs. remaining ≡ Some bs) → IfSome remaining P → IfSome bytes P
+known_all None remaining P known p = tt
+known_all (Some bs) remaining P known p = rw known at p
 
-module _ (is_action : List ℕ → LineAction → Type 0) (is_reason : List ℕ → ℕ → List ℕ → Type 0) (settings : Settings) (bytes_of : List ℕ → Option (List ℕ)) where
+-- a file that was opened was processed, or cut off
+pub file_done : (result served : Result (Unit {0}) Stop) (job : Job) (bytes remaining left : Option (List ℕ)) (a b : State)
+    (f0 f1 given n0 n1 n2 : ℕ) → OnOk result (IfErr served (λ stop. stop ≡ Unread))
+    → IfSome bytes (λ bs. remaining ≡ Some bs) → f0 ≡ 0 → n1 ≡ n0 → OnOk served (IfSome remaining (ProcessedAll job a b))
+    → IfErr served (λ stop. stop ≡ Unread → ProcessedSome job remaining left a b)
+    → IfErr served (λ stop. stop ≡ Unread → IsCutOff f0 f1 given) → (IsCutOff 0 f1 given → Rises n1 n2)
+    → OnOk result (ProcessedFile job bytes n0 n2 a b)
+file_done (Err stop) served job bytes remaining left a b f0 f1 given n0 n1 n2 on known none kept all some is closed = tt
+file_done (Ok done) (Ok whole) job bytes remaining left a b f0 f1 given n0 n1 n2 on known none kept all some is closed =
+    inl (known_all bytes remaining _ known all)
+file_done (Ok done) (Err stop) job bytes remaining left a b f0 f1 given n0 n1 n2 on known none kept all some is closed =
+    inr (rw (← kept) (closed (rw none at (is on))), inl (left, of_known bytes known (some on)))
+
+module _ (is_action : List ℕ → Action → Type 0) (is_reason : List ℕ → ℕ → List ℕ → Type 0) (settings : Settings) (bytes_of : List ℕ → Option (List ℕ)) where
   abbrev files_Did : ℕ → ℕ → State → State → List (List ℕ) → Type 0
   files_Did = ProcessedFiles is_action is_reason settings bytes_of
 

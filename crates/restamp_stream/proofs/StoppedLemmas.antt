@@ -3,51 +3,31 @@ use Rattle.std.specs.Io.KnownBytes.{Consumes, IsAtEnd}
 use Rattle.std.proofs.Common.{◌≡◌, ℕ, ◌<◌, ◌≤◌, List, [], ◌∷◌, ◌++◌, length, refl, arith, append_assoc, suc, append-nil, Option, None, Some, IfSome, ◌∙◌}
 use Rattle.std.proofs.KnownBytes.{Keeps-trans, Appends-kept, Consumes-nil, Consumes-trans, Consumes-whole}
 use Rattle.std.proofs.lemmas.List.{take_all, take_at}
-use Rattle.restamp_stream.specs.declared.action.TailAction.{TailAction}
-use Rattle.restamp_stream.specs.declared.action.TailAction.TheVariants.{Absent}
-use Rattle.restamp_stream.specs.declared.action.LineAction.{LineAction}
-use Rattle.restamp_stream.specs.declared.ending.Stop.{Stop}
-use Rattle.restamp_stream.specs.declared.ending.Stop.TheVariants.{Unread, Unwritten, Refused}
 use Rattle.byte_streams.specs.Lines.{Line, ended, unended, onto_first, lines_of, HasNoLf}
 use Rattle.byte_streams.proofs.LinesLemmas.{lines_of-joined, lines_of-ended, lines_of-last, past_lf}
-use Rattle.restamp_stream.specs.Streams.{Job, front_of, State, Processed, RefusedAt, Stopped, IsBuffered, Served}
+use Rattle.restamp_stream.specs.Streams.{IsReport, Job, front_of, State, Processed, RefusedAt, Stopped, IsBuffered, Served}
 use Rattle.restamp_stream.specs.Buffered.{Continues, Stops, StoppedBy, Flushes}
-use Rattle.restamp_stream.specs.Reports.{HasFront}
+use Rattle.restamp_stream.specs.Reports.{Refused, TailAction, Absent, Action, HasFront}
 use Rattle.restamp_stream.proofs.ProcessedLemmas.{Processed-none, Processed-then, Processed-settled}
 use Rattle.restamp_stream.proofs.AnsweredLemmas.{Processed-apart, whole-apart, Answered-none, Answered-read, IsDone, Answered-done}
+use Rattle.restamp_stream.specs.Causes.{Stop, Unread, Unwritten, Refused as StopRefused}
 
 -- the lines begin with one that has that front
 abbrev BeginsWith : Job → List ℕ → List Line → Type 0
 BeginsWith job front lines = (line : Line) × (others : List Line) × (lines ≡ line ∷ others) × (front_of job line ≡ front)
 
 -- lines were processed, and then the work stopped at the next one
-Stopped-at : {job : Job} {a b c : State} {lines : List Line} {actions : List LineAction} {front : List ℕ} (all : List Line)
+Stopped-at : {job : Job} {a b c : State} {lines : List Line} {actions : List Action} {front : List ℕ} (all : List Line)
     → Processed job a b lines actions → BeginsWith job front all → RefusedAt job b c front → Stopped job a c (lines ++ all)
-Stopped-at {b = b} {lines = lines} {actions} all processed first stopped =
-    record {
-      lines = lines;
-      line = first.0;
-      others = first.1;
-      whole = rw first.2;
-      actions = actions;
-      between = b;
-      processed = processed;
-      stopped = rw first.3 stopped;
-    }
+Stopped-at {job} {b = b} {c} {lines} all processed first stopped =
+    let whole : lines ++ all ≡ lines ++ first.0 ∷ first.1 = rw first.2 in
+    let here : RefusedAt job b c (front_of job first.0) = rw first.3 stopped in search (processed, whole, here)
 
-Stopped-then : {job : Job} {a b c : State} {lines : List Line} {actions : List LineAction} (all : List Line)
+Stopped-then : {job : Job} {a b c : State} {lines : List Line} {actions : List Action} (all : List Line)
     → Processed job a b lines actions → Stopped job b c all → Stopped job a c (lines ++ all)
-Stopped-then {lines = lines} {actions} all processed p =
-    record {
-      lines = lines ++ p.lines;
-      line = p.line;
-      others = p.others;
-      whole = rw (p.whole, append_assoc);
-      actions = actions ++ p.actions;
-      between = p.between;
-      processed = Processed-then processed p.processed;
-      stopped = p.stopped;
-    }
+Stopped-then {lines = lines} all processed p =
+    let whole : lines ++ all ≡ (lines ++ p.lines) ++ p.line ∷ p.others = rw (p.whole, append_assoc) in
+    search (Processed-then processed p.processed, whole, p.stopped)
 
 Stops-first : {job : Job} {b c : State} {held front : List ℕ} → ((more : List ℕ) → BeginsWith job front (lines_of (held ++ more)))
     → RefusedAt job b c front → Stops job b c Absent held
@@ -91,9 +71,9 @@ Stops-then p q before read more h = q before read more (p before read h)
 pub StoppedBy-map : (stop : Stop) {P Q : Type 0} → (P → Q) → StoppedBy stop P → StoppedBy stop Q
 StoppedBy-map Unread f p = p
 StoppedBy-map Unwritten f p = p
-StoppedBy-map Refused f p = f p
+StoppedBy-map StopRefused f p = f p
 
-pub StoppedBy-refused : {P Q : Type 0} (stop : Stop) → (P → Q) → StoppedBy stop P → stop ≡ Refused → Q
+pub StoppedBy-refused : {P Q : Type 0} (stop : Stop) → (P → Q) → StoppedBy stop P → stop ≡ StopRefused → Q
 StoppedBy-refused stop f p is = f (rw is at p)
 
 pub StoppedBy-then : {job : Job} {a b : State} (c : State) {r s : TailAction} {x y : List ℕ} (stop : Stop) → Continues job a b r x s y
@@ -102,16 +82,9 @@ StoppedBy-then c stop p q = StoppedBy-map stop (Stops-then p) q
 
 -- the buffered bytes are written
 RefusedAt-settled : {job : Job} {a b c : State} {front : List ℕ} → Flushes b c → RefusedAt job a b front → RefusedAt job a c front
-RefusedAt-settled s p =
-    record {
-      report = p.report;
-      strict = p.strict;
-      refused = p.refused;
-      reports = rw s.tally p.reports;
-      kept = Keeps-trans _ _ _ p.kept s.out;
-      reported = Appends-kept _ _ _ _ p.reported s.log;
-      tallied = s.tally ∙ p.tallied;
-    }
+RefusedAt-settled {job} {c = c} {front} s p =
+    let reports : IsReport job c.tally front (Refused tt) p.report = rw s.tally p.reports in
+    search (p, reports, Keeps-trans _ _ _ p.kept s.out, Appends-kept _ _ _ _ p.reported s.log, s.tally ∙ p.tallied)
 
 Stopped-settled : {job : Job} {a b c : State} {all : List Line} → Flushes b c → Stopped job a b all → Stopped job a c all
 Stopped-settled s p = search (RefusedAt-settled s p.stopped)
@@ -128,13 +101,13 @@ Stopped-last {job} {line = line} {rest} is e short s stopped =
 -- ---- What was read and processed, to the end
 
 -- no line is left
-pub finished-none : (job : Job) (a : State) (rest : List ℕ) → length rest ≡ 0 → (actions : List LineAction) × Processed job a a (lines_of rest) actions
+pub finished-none : (job : Job) (a : State) (rest : List ℕ) → length rest ≡ 0 → (actions : List Action) × Processed job a a (lines_of rest) actions
 finished-none job a [] e = ([], Processed-none)
 finished-none job a (x ∷ rest) e = absurd (omega arith)
 
 -- the last line has no LF
-pub finished : {job : Job} {a b c : State} {line rest : List ℕ} {action : LineAction} → 0 < length rest → HasNoLf rest → line ≡ rest
-    → Flushes b c → Processed job a b (unended line ∷ []) (action ∷ []) → (actions : List LineAction) × Processed job a c (lines_of rest) actions
+pub finished : {job : Job} {a b c : State} {line rest : List ℕ} {action : Action} → 0 < length rest → HasNoLf rest → line ≡ rest
+    → Flushes b c → Processed job a b (unended line ∷ []) (action ∷ []) → (actions : List Action) × Processed job a c (lines_of rest) actions
 finished {rest = rest} {action} some plain is s processed =
     (action ∷ [], rw (lines_of-last rest some plain, ← is) (Processed-settled s processed))
 
@@ -163,12 +136,7 @@ pub Served-more : {job : Job} {r0 r1 r2 : Option (List ℕ)} {a b c : State} {he
     → Served job r0 r1 a b rest held → new ≡ held ++ more → Consumes r1 r2 more → Continues job b c rest new rest1 left
     → IsBuffered job rest1 left → Served job r0 r2 a c rest1 left
 Served-more {a = a} more p e q next kept =
-    record {
-      read = p.read ++ more;
-      consumed = Consumes-trans _ _ _ _ _ p.consumed q;
-      kept = kept;
-      answered = next a (p.read ++ more) (Answered-read more e p.answered);
-    }
+    search (Consumes-trans _ _ _ _ _ p.consumed q, kept, next a (p.read ++ more) (Answered-read more e p.answered))
 
 -- the end of the input
 Served-done : {job : Job} {r0 r1 : Option (List ℕ)} {a b : State} {held new : List ℕ} (more : List ℕ) (rest : TailAction) → 0 < job.limit
@@ -178,8 +146,8 @@ Served-done {job} {held = held} {new} more rest some p e none =
 
 pub Served-all : {job : Job} {r0 r1 : Option (List ℕ)} (r2 : Option (List ℕ)) {a b c : State} {held new : List ℕ} (more : List ℕ) {rest : TailAction}
     → 0 < job.limit → Served job r0 r1 a b rest held → new ≡ held ++ more → more ≡ [] → Consumes r1 r2 more → IsAtEnd r2
-    → (actions : List LineAction) × Processed job b c (lines_of new) actions
-    → IfSome r0 (λ bytes. (actions : List LineAction) × Processed job a c (lines_of bytes) actions)
+    → (actions : List Action) × Processed job b c (lines_of new) actions
+    → IfSome r0 (λ bytes. (actions : List Action) × Processed job a c (lines_of bytes) actions)
 Served-all r2 more {rest} some p e none q end last =
     let done = Served-done more rest some p e none in
     Consumes-whole _ r2 (p.read ++ more) _ (Consumes-trans _ _ r2 p.read more p.consumed q) end

@@ -1,23 +1,19 @@
 -- No public contract rests on this file.
 --
 -- The effect of a step of a stream.
-use Rattle.std.specs.Prelude.{◌≡◌, ◌⊎◌, ℕ, ◌≤◌, List, [], ◌∷◌, ◌++◌, Option}
+use Rattle.std.specs.Prelude.{◌≡◌, ◌⊎◌, ℕ, ◌≤◌, List, [], ◌∷◌, ◌++◌, OnOk, Option, Result}
 use Rattle.std.specs.Io.KnownBytes.{Appends, Keeps, append_known}
-use Rattle.byte_streams.specs.Faults.{Rises, count_more}
+use Rattle.byte_streams.specs.Faults.{HasCause, Rises, count_more}
 use Rattle.byte_streams.specs.Lines.{HasNoLf, lines_of}
-use Rattle.restamp_stream.specs.declared.action.LineAction.{LineAction}
-use Rattle.restamp_stream.specs.declared.action.TailAction.{TailAction}
-use Rattle.restamp_stream.specs.declared.action.TailAction.TheVariants.{Absent, Passing, Dropping}
 use Rattle.restamp_stream.specs.declared.settings.File.{File}
-use Rattle.restamp_stream.specs.declared.ending.Stop.{Stop}
-use Rattle.restamp_stream.specs.declared.ending.Stop.TheVariants.{Unread, Unwritten, Refused}
-use Rattle.restamp_stream.specs.declared.stream.Stream.{Stream}
-use Rattle.restamp_stream.specs.Reports.{passed}
+use Rattle.restamp_stream.specs.Reports.{TailAction, Absent, Action, passed}
 use Rattle.restamp_stream.specs.Streams.{Job, job_of, State, state, Answered, Stopped}
+use Rattle.restamp_stream.specs.Causes.{Stop, Unread, Unwritten, Refused, Stream}
 
 -- the job of those relations for a file
-abbrev pub job_at : (List ℕ → LineAction → Type 0) → (List ℕ → ℕ → List ℕ → Type 0) → File → Job
-job_at is_action is_reason file = job_of is_action is_reason file.name.now file.settings
+abbrev pub job_at : {T : Type 0} → (T → List ℕ → Action → Type 0) → (T → List ℕ → ℕ → List ℕ → Type 0) → File T → Job
+job_at is_action is_reason file =
+    job_of (is_action file.rewriting.now) (is_reason file.rewriting.now) file.name.now file.settings
 
 -- the contents of a stream's writer once the buffered bytes are written
 abbrev pub buffered_out : {W L : Type 0} → (W → Option (List ℕ)) → Stream W L → Option (List ℕ)
@@ -26,6 +22,14 @@ buffered_out contents s = append_known (contents s.out.sink) s.out.buffer.items
 -- the state of a stream once the buffered bytes are written
 abbrev pub buffered_state : {W L : Type 0} → (W → Option (List ℕ)) → (L → Option (List ℕ)) → Stream W L → State
 buffered_state contents log_contents s = state (buffered_out contents s) (log_contents s.log) s.tally
+
+-- The bytes were written after the buffered ones, or a write failed. The log and the counts are unchanged.
+pub record Puts {W L E : Type 0} (contents : W → Option (List ℕ)) (faults : W → ℕ) (before after : Stream W L)
+    (result : Result (Unit {0}) E) (bytes : List ℕ) : Type 0 where
+  pub put : OnOk result (Appends (buffered_out contents before) (buffered_out contents after) bytes)
+  pub log : after.log ≡ before.log
+  pub tally : after.tally ≡ before.tally
+  pub cause : HasCause result (faults before.out.sink) (faults after.out.sink)
 
 -- If an input was processed up to the state `mid`, except for the bytes `held`, it was processed up to the state
 -- `after`, except for the bytes `held'`.
@@ -60,10 +64,8 @@ ContinuesLine out out' rest bytes = HasNoLf bytes × Appends out out' (passed re
 -- A line whose front was processed, if there is one, ends in the bytes, and the bytes `after` follow it.
 abbrev pub EndsLine : Option (List ℕ) → Option (List ℕ) → TailAction → List ℕ → List ℕ → Type 0
 EndsLine out out' Absent bytes after = (after ≡ bytes) × Keeps out out'
-EndsLine out out' Passing bytes after =
-    (line : List ℕ) × (bytes ≡ line ++ 10 ∷ after) × HasNoLf line × Appends out out' (line ++ 10 ∷ [])
-EndsLine out out' Dropping bytes after =
-    (line : List ℕ) × (bytes ≡ line ++ 10 ∷ after) × HasNoLf line × Appends out out' []
+EndsLine out out' rest bytes after =
+    (line : List ℕ) × (bytes ≡ line ++ 10 ∷ after) × HasNoLf line × Appends out out' (passed rest (line ++ 10 ∷ []))
 
 -- Between the two states the buffered bytes were written.
 pub record Flushes (before after : State) : Type 0 where

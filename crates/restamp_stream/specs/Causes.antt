@@ -1,10 +1,10 @@
 -- Why the work stopped.
 use Rattle.std.specs.Prelude.{◌≡◌, ◌⊎◌, ℕ, ◌+◌, Result, MatchResult, ◌<◌, Bool, IsTrue, IsSome, Option}
 use Rattle.byte_streams.specs.Faults.{Rises}
-use Rattle.restamp_stream.specs.declared.ending.Stop.{Stop}
-use Rattle.restamp_stream.specs.declared.ending.Stop.TheVariants.{Unread, Unwritten, Refused}
-use Rattle.restamp_stream.specs.declared.stream.Stream.{Stream}
-use Rattle.restamp_stream.specs.declared.tally.Tally.{Tally}
+pub use Rattle.restamp_stream.specs.declared.ending.Stop.{Stop}
+pub use Rattle.restamp_stream.specs.declared.ending.Stop.TheVariants.{Unread, Unwritten, Refused}
+pub use Rattle.restamp_stream.specs.declared.stream.Stream.{Stream}
+use Rattle.restamp_stream.specs.Reports.{Tally}
 
 -- how many calls of a stream's writer and of its log have failed
 abbrev pub faults_of : {W L : Type 0} → (W → ℕ) → (L → ℕ) → Stream W L → ℕ
@@ -12,9 +12,8 @@ faults_of faults log_faults s = faults s.out.sink + log_faults s.log
 
 -- That count rose if a failed write stopped the work, and is unchanged if the work stopped otherwise.
 abbrev pub IsCounted : Stop → ℕ → ℕ → Type 0
-IsCounted Unread before now = now ≡ before
 IsCounted Unwritten before now = Rises before now
-IsCounted Refused before now = now ≡ before
+IsCounted _ before now = now ≡ before
 
 -- That count rose if a failed write stopped the work, and otherwise is unchanged.
 abbrev pub HasWriteCause : {V : Type 0} → Result V Stop → ℕ → ℕ → Type 0

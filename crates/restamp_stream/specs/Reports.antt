@@ -3,15 +3,15 @@ use Rattle.std.specs.Char.{is_ascii_control}
 use Rattle.std.specs.Prelude.{ℕ, ◌+◌, ◌/◌, ◌%◌, Bool, false, ◌&&◌, ◌||◌, List, [], ◌∷◌, flat_map, if◌then◌else◌, nat_lt, nat_le, ◌≡◌, ⊤, ◌-◌, ◌^◌, ◌≤◌, min, ◌++◌, codes, length, take, drop, Option, ◌==◌}
 use Rattle.std.specs.Fmt.{decimal}
 use Rattle.std.specs.Io.KnownBytes.{Appends}
-use Rattle.restamp_stream.specs.declared.action.LineAction.{LineAction}
-use Rattle.restamp_stream.specs.declared.action.LineAction.TheVariants.{Without, Rewritten, Dropped, Refused}
-use Rattle.restamp_stream.specs.declared.settings.Output.{Output}
-use Rattle.restamp_stream.specs.declared.settings.Output.TheVariants.{AllLines, RewrittenLines, Times}
-use Rattle.restamp_stream.specs.declared.action.TailAction.{TailAction}
-use Rattle.restamp_stream.specs.declared.action.TailAction.TheVariants.{Absent, Passing, Dropping}
-use Rattle.restamp_stream.specs.declared.tally.Tally.{Tally}
-use Rattle.restamp_stream.specs.declared.settings.Reports.{Reports}
-use Rattle.restamp_stream.specs.declared.settings.Reports.TheVariants.{Quiet, First}
+pub use Rattle.restamp_stream.specs.declared.action.LineAction.{LineAction}
+pub use Rattle.restamp_stream.specs.declared.action.LineAction.TheVariants.{Without, Rewritten, Dropped, Refused}
+pub use Rattle.restamp_stream.specs.declared.settings.Output.{Output}
+pub use Rattle.restamp_stream.specs.declared.settings.Output.TheVariants.{AllLines, RewrittenLines, Times}
+pub use Rattle.restamp_stream.specs.declared.action.TailAction.{TailAction}
+pub use Rattle.restamp_stream.specs.declared.action.TailAction.TheVariants.{Absent, Passing, Dropping}
+pub use Rattle.restamp_stream.specs.declared.tally.Tally.{Tally}
+pub use Rattle.restamp_stream.specs.declared.settings.Reports.{Reports}
+pub use Rattle.restamp_stream.specs.declared.settings.Reports.TheVariants.{Quiet, First}
 
 -- ---- How a name is displayed
 
@@ -40,63 +40,56 @@ displayed_name name = displayed_as false name
 
 -- ---- How a line is processed by its front, and how it is counted
 
+-- the action of a line, without the content of a refusal
+abbrev pub Action : Type 0
+Action = LineAction (Unit {0})
+
+abbrev pub action_of : {R : Type 0} → LineAction R → Action
+action_of Without = Without
+action_of (Rewritten begin end text) = Rewritten begin end text
+action_of Dropped = Dropped
+action_of (Refused refusal) = Refused tt
+
 -- the replaced bytes are in the front
-abbrev pub IsWithin : LineAction → List ℕ → Type 0
-IsWithin Without front = ⊤
+abbrev pub IsWithin : Action → List ℕ → Type 0
 IsWithin (Rewritten begin end text) front = (begin ≤ end) × (end ≤ length front)
-IsWithin Dropped front = ⊤
-IsWithin Refused front = ⊤
+IsWithin _ front = ⊤
 
 -- The line isn't rejected, or the work continues after a rejected line.
-abbrev pub IsAllowed : Bool → LineAction → Type 0
-IsAllowed strict Without = ⊤
-IsAllowed strict (Rewritten begin end text) = ⊤
-IsAllowed strict Dropped = ⊤
-IsAllowed strict Refused = strict ≡ false
+abbrev pub IsAllowed : Bool → Action → Type 0
+IsAllowed strict (Refused _) = strict ≡ false
+IsAllowed strict _ = ⊤
 
 -- the front, with the new text and its suffix in place of the replaced bytes
-abbrev pub changed : List ℕ → List ℕ → LineAction → List ℕ
-changed suffix front Without = front
+abbrev pub changed : List ℕ → List ℕ → Action → List ℕ
 changed suffix front (Rewritten begin end text) = take begin front ++ (text.items ++ (suffix ++ drop end front))
 changed suffix front Dropped = []
-changed suffix front Refused = front
+changed suffix front _ = front
 
 -- The output for the front of a line, if new times have that suffix: all lines but the dropped ones, only those with a
 -- new time, or only the new times.
-abbrev pub front_text : Output → List ℕ → List ℕ → LineAction → List ℕ
+abbrev pub front_text : Output → List ℕ → List ℕ → Action → List ℕ
 front_text AllLines suffix front action = changed suffix front action
-front_text RewrittenLines suffix front Without = []
 front_text RewrittenLines suffix front (Rewritten begin end text) = changed suffix front (Rewritten begin end text)
-front_text RewrittenLines suffix front Dropped = []
-front_text RewrittenLines suffix front Refused = []
-front_text Times suffix front Without = []
 front_text Times suffix front (Rewritten begin end text) = text.items ++ (suffix ++ 10 ∷ [])
-front_text Times suffix front Dropped = []
-front_text Times suffix front Refused = []
+front_text _ suffix front _ = []
 
 -- whether the bytes after the front are copied or dropped
-abbrev pub tail_action_of : Output → LineAction → TailAction
-tail_action_of AllLines Without = Passing
-tail_action_of AllLines (Rewritten begin end text) = Passing
+abbrev pub tail_action_of : Output → Action → TailAction
 tail_action_of AllLines Dropped = Dropping
-tail_action_of AllLines Refused = Passing
-tail_action_of RewrittenLines Without = Dropping
+tail_action_of AllLines _ = Passing
 tail_action_of RewrittenLines (Rewritten begin end text) = Passing
-tail_action_of RewrittenLines Dropped = Dropping
-tail_action_of RewrittenLines Refused = Dropping
-tail_action_of Times action = Dropping
+tail_action_of _ _ = Dropping
 
 -- the output for bytes after the front
 abbrev pub passed : TailAction → List ℕ → List ℕ
-passed Absent bytes = bytes
-passed Passing bytes = bytes
 passed Dropping bytes = []
+passed _ bytes = bytes
 
 -- a front was processed
 abbrev pub HasFront : TailAction → Type 0
 HasFront Absent = ⊥
-HasFront Passing = ⊤
-HasFront Dropping = ⊤
+HasFront _ = ⊤
 
 -- why a line was rejected, as the log has it: the column, from 1, and the reason
 abbrev pub reason_text : ℕ → List ℕ → List ℕ
@@ -126,12 +119,12 @@ nothing_counted =
     }
 
 -- a tally after one more line with that action
-abbrev pub count_action : Tally → LineAction → Tally
+abbrev pub count_action : Tally → Action → Tally
 count_action t Without = record t { line = one_more t.line; lines = one_more t.lines; without = one_more t.without }
 count_action t (Rewritten begin end text) =
     record t { line = one_more t.line; lines = one_more t.lines; rewritten = one_more t.rewritten }
 count_action t Dropped = record t { line = one_more t.line; lines = one_more t.lines; dropped = one_more t.dropped }
-count_action t Refused =
+count_action t (Refused _) =
     record t {
       line = one_more t.line;
       refused_here = one_more t.refused_here;
@@ -140,7 +133,7 @@ count_action t Refused =
     }
 
 -- a tally after lines with those actions
-abbrev pub counted : Tally → List LineAction → Tally
+abbrev pub counted : Tally → List Action → Tally
 counted t [] = t
 counted t (action ∷ actions) = counted (count_action t action) actions
 
@@ -153,12 +146,9 @@ abbrev pub count_unread : Tally → Tally
 count_unread t = record t { unread = one_more t.unread }
 
 -- the log names the line that the tally counted last, if it has that action
-abbrev pub is_named : Reports → Tally → LineAction → Bool
-is_named reports t Without = false
-is_named reports t (Rewritten begin end text) = false
-is_named reports t Dropped = false
-is_named Quiet t Refused = false
-is_named (First most) t Refused = nat_le t.refused_here most
+abbrev pub is_named : Reports → Tally → Action → Bool
+is_named (First most) t (Refused _) = nat_le t.refused_here most
+is_named _ t _ = false
 
 -- how many rejected lines of the file the log doesn't name; 0 if it doesn't report their number
 abbrev pub unnamed : Reports → Tally → ℕ

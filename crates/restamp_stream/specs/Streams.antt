@@ -3,17 +3,10 @@ use Rattle.std.specs.Prelude.{◌≡◌, ◌<◌, ℕ, List, [], ◌∷◌, ◌+
 use Rattle.std.specs.Io.KnownBytes.{Appends, Keeps, Consumes}
 use Rattle.byte_streams.specs.Faults.{Rises}
 use Rattle.byte_streams.specs.Lines.{Line, unended, lines_of, joined, HasNoLf, AreEnded}
-use Rattle.restamp_stream.specs.declared.action.LineAction.{LineAction}
-use Rattle.restamp_stream.specs.declared.settings.Reports.{Reports}
-use Rattle.restamp_stream.specs.declared.settings.Settings.{Settings}
+pub use Rattle.restamp_stream.specs.declared.settings.Settings.{Settings}
 use Rattle.restamp_stream.specs.declared.block.TheConstants.{LIMIT}
-use Rattle.restamp_stream.specs.declared.tally.Tally.{Tally}
-use Rattle.restamp_stream.specs.Reports.{front_text, tail_action_of, passed, IsAllowed, count_action, counted, at_first_line, is_named, report_of, unnamed, more_text, count_unread, unread_text}
-use Rattle.restamp_stream.specs.declared.action.LineAction.TheVariants.{Refused, Without, Rewritten, Dropped}
-use Rattle.restamp_stream.specs.declared.action.TailAction.{TailAction}
-use Rattle.restamp_stream.specs.declared.action.TailAction.TheVariants.{Absent, Passing, Dropping}
-use Rattle.restamp_stream.specs.declared.stream.Stream.{Stream}
-use Rattle.restamp_stream.specs.declared.settings.Output.TheVariants.{AllLines}
+use Rattle.restamp_stream.specs.Reports.{Reports, Tally, Refused, Rewritten, Dropped, TailAction, Absent, AllLines, Action, front_text, tail_action_of, passed, IsAllowed, count_action, counted, at_first_line, is_named, report_of, unnamed, more_text, count_unread, unread_text}
+use Rattle.restamp_stream.specs.Causes.{Stream}
 
 -- The bytes end with those that are left.
 abbrev pub EndsWith : List ℕ → List ℕ → Type 0
@@ -24,14 +17,14 @@ EndsWith bytes left = (front : List ℕ) × (bytes ≡ front ++ left)
 -- How the lines of a file are processed: the action of a line by its front, and why a front is rejected; the greatest
 -- length of a front; the file's name, and the settings.
 pub record Job : Type 1 where
-  pub is_action : List ℕ → LineAction → Type 0
+  pub is_action : List ℕ → Action → Type 0
   pub is_reason : List ℕ → ℕ → List ℕ → Type 0
   pub limit : ℕ
   pub name : List ℕ
   pub settings : Settings
 
 -- the job of those relations for a file of that name
-abbrev pub job_of : (List ℕ → LineAction → Type 0) → (List ℕ → ℕ → List ℕ → Type 0) → List ℕ → Settings → Job
+abbrev pub job_of : (List ℕ → Action → Type 0) → (List ℕ → ℕ → List ℕ → Type 0) → List ℕ → Settings → Job
 job_of is_action is_reason name settings =
     record { is_action = is_action; is_reason = is_reason; limit = LIMIT; name = name; settings = settings }
 
@@ -41,7 +34,7 @@ front_of job line = take job.limit line.text
 
 -- The output for a line with that action: the output for its front, and then the bytes after the front, unless they are
 -- dropped.
-abbrev pub text_of : Job → Line → LineAction → List ℕ
+abbrev pub text_of : Job → Line → Action → List ℕ
 text_of job line action =
     front_text job.settings.output job.settings.suffix.now (front_of job line) action
     ++ passed (tail_action_of job.settings.output action) (drop job.limit line.text ++ line.ending)
@@ -54,21 +47,21 @@ IsNaming job t front report =
 
 -- The report of a line with that front and action, which the tally counted last; empty if the log doesn't name the
 -- line.
-abbrev pub IsReport : Job → Tally → List ℕ → LineAction → List ℕ → Type 0
+abbrev pub IsReport : Job → Tally → List ℕ → Action → List ℕ → Type 0
 IsReport job t front action report =
     MatchBool (is_named job.settings.reports t action) (IsNaming job t front report) (report ≡ [])
 
 -- A line has that action, that text as its output, and that report. It isn't a rejected line at which the work stops.
-abbrev pub IsAnswered : Job → Tally → Line → LineAction → List ℕ → List ℕ → Type 0
+abbrev pub IsAnswered : Job → Tally → Line → Action → List ℕ → List ℕ → Type 0
 IsAnswered job t line action text report =
     job.is_action (front_of job line) action × IsAllowed job.settings.strict action
     × (text ≡ text_of job line action) × IsReport job t (front_of job line) action report
 
 -- Lines have those actions, that text as their output, and those reports. The tally has counted the lines before them.
-abbrev pub AreAnswered : Job → Tally → List Line → List LineAction → List ℕ → List ℕ → Type 0
+abbrev pub AreAnswered : Job → Tally → List Line → List Action → List ℕ → List ℕ → Type 0
 AreAnswered job t [] actions text reports = (actions ≡ []) × (text ≡ []) × (reports ≡ [])
 AreAnswered job t (line ∷ lines) actions text reports =
-    (action : LineAction) × (others : List LineAction) × (first : List ℕ) × (rest : List ℕ) × (report : List ℕ)
+    (action : Action) × (others : List Action) × (first : List ℕ) × (rest : List ℕ) × (report : List ℕ)
     × (more : List ℕ)
     × IsAnswered job (count_action t action) line action first report
     × AreAnswered job (count_action t action) lines others rest more
@@ -88,7 +81,7 @@ abbrev pub before_lines : State → State
 before_lines s = state s.out s.log (at_first_line s.tally)
 
 -- Between the two states the lines, which have those actions, were processed, reported and counted.
-pub record Processed (job : Job) (before after : State) (lines : List Line) (actions : List LineAction) : Type 0 where
+pub record Processed (job : Job) (before after : State) (lines : List Line) (actions : List Action) : Type 0 where
   pub text : List ℕ
   pub reports : List ℕ
   pub become : AreAnswered job before.tally lines actions text reports
@@ -104,7 +97,7 @@ pub record Closes (name : List ℕ) (reports : Reports) (before after : State) :
 
 -- Between the two states all lines of an input were processed, and the rejected ones were reported.
 pub record ProcessedAll (job : Job) (before after : State) (bytes : List ℕ) : Type 0 where
-  pub actions : List LineAction
+  pub actions : List Action
   pub between : State
   pub processed : Processed job (before_lines before) between (lines_of bytes) actions
   pub closed : Closes job.name job.settings.reports between after
@@ -115,7 +108,7 @@ state_of contents log_contents s = state (contents s.out.sink) (log_contents s.l
 
 -- Between the two states a line was processed that has that text so far: at least its front, and no LF.
 pub record IsLong (job : Job) (before after : State) (text : List ℕ) (rest : TailAction) : Type 0 where
-  pub action : LineAction
+  pub action : Action
   pub rests : tail_action_of job.settings.output action ≡ rest
   pub started : HasNoLf text
   pub long : job.limit ≤ length text
@@ -124,15 +117,14 @@ pub record IsLong (job : Job) (before after : State) (text : List ℕ) (rest : T
 -- a line was processed that has that text so far, or no line has started and the states are equal
 abbrev pub IsStarted : Job → State → State → List ℕ → TailAction → Type 0
 IsStarted job before after text Absent = (text ≡ []) × (before ≡ after)
-IsStarted job before after text Passing = IsLong job before after text Passing
-IsStarted job before after text Dropping = IsLong job before after text Dropping
+IsStarted job before after text rest = IsLong job before after text rest
 
 -- The bytes read are lines that end, the text so far of a line that has started, and the bytes `held`. Between the two
 -- states all of them but `held` were processed.
 pub record Answered (job : Job) (before after : State) (read : List ℕ) (rest : TailAction) (held : List ℕ) : Type 0
   where
     pub lines : List Line
-    pub actions : List LineAction
+    pub actions : List Action
     pub between : State
     pub text : List ℕ
     pub whole : read ≡ joined lines ++ (text ++ held)
@@ -143,8 +135,7 @@ pub record Answered (job : Job) (before after : State) (read : List ℕ) (rest :
 -- The bytes that may be buffered before a read: fewer than a front has, and none of a line whose front was processed.
 abbrev pub IsBuffered : Job → TailAction → List ℕ → Type 0
 IsBuffered job Absent held = HasNoLf held × (length held < job.limit)
-IsBuffered job Passing held = held ≡ []
-IsBuffered job Dropping held = held ≡ []
+IsBuffered job _ held = held ≡ []
 
 -- The bytes read were processed, except for the bytes `held`.
 pub record Served (job : Job) (old new : Option (List ℕ)) (before after : State) (rest : TailAction)
@@ -158,11 +149,11 @@ pub record Served (job : Job) (old new : Option (List ℕ)) (before after : Stat
 pub record RefusedAt (job : Job) (before after : State) (front : List ℕ) : Type 0 where
   pub report : List ℕ
   pub strict : IsTrue job.settings.strict
-  pub refused : job.is_action front Refused
-  pub reports : IsReport job after.tally front Refused report
+  pub refused : job.is_action front (Refused tt)
+  pub reports : IsReport job after.tally front (Refused tt) report
   pub kept : Keeps before.out after.out
   pub reported : Appends before.log after.log report
-  pub tallied : after.tally ≡ count_action before.tally Refused
+  pub tallied : after.tally ≡ count_action before.tally (Refused tt)
 
 -- Between the two states the lines before a rejected one were processed, and then that one was rejected.
 pub record Stopped (job : Job) (before after : State) (all : List Line) : Type 0 where
@@ -170,7 +161,7 @@ pub record Stopped (job : Job) (before after : State) (all : List Line) : Type 0
   pub line : Line
   pub others : List Line
   pub whole : all ≡ lines ++ line ∷ others
-  pub actions : List LineAction
+  pub actions : List Action
   pub between : State
   pub processed : Processed job before between lines actions
   pub stopped : RefusedAt job between after (front_of job line)
@@ -213,7 +204,7 @@ ProcessedFile job bytes faults faults' before after =
     IfSome bytes (ProcessedAll job before after) ⊎ ProcessedCutOff job bytes faults faults' before after
 
 -- each of the files of those names was processed or cut off, one after the other
-abbrev pub ProcessedFiles : (List ℕ → LineAction → Type 0) → (List ℕ → ℕ → List ℕ → Type 0) → Settings
+abbrev pub ProcessedFiles : (List ℕ → Action → Type 0) → (List ℕ → ℕ → List ℕ → Type 0) → Settings
     → (List ℕ → Option (List ℕ))
     → ℕ → ℕ → State → State → List (List ℕ) → Type 0
 ProcessedFiles is_action is_reason settings bytes_of faults faults' before after [] =
@@ -226,7 +217,7 @@ ProcessedFiles is_action is_reason settings bytes_of faults faults' before after
 
 -- The work stopped at the first rejected line of one of the files of those names. The files before it were processed or
 -- cut off, and all lines before that line were processed. `bytes_of` is the bytes of each file, if they are known.
-abbrev pub StoppedIn : (List ℕ → LineAction → Type 0) → (List ℕ → ℕ → List ℕ → Type 0) → Settings
+abbrev pub StoppedIn : (List ℕ → Action → Type 0) → (List ℕ → ℕ → List ℕ → Type 0) → Settings
     → (List ℕ → Option (List ℕ))
     → ℕ → ℕ → State → State → List (List ℕ) → Type 0
 StoppedIn is_action is_reason settings bytes_of faults faults' before after [] = ⊥
@@ -239,7 +230,7 @@ StoppedIn is_action is_reason settings bytes_of faults faults' before after (nam
     × StoppedIn is_action is_reason settings bytes_of mid faults' between after names)
 
 -- Between the two states all lines of each of the files of those names were processed.
-abbrev pub AreProcessed : (List ℕ → LineAction → Type 0) → (List ℕ → ℕ → List ℕ → Type 0) → Settings
+abbrev pub AreProcessed : (List ℕ → Action → Type 0) → (List ℕ → ℕ → List ℕ → Type 0) → Settings
     → (List ℕ → Option (List ℕ))
     → State → State → List (List ℕ) → Type 0
 AreProcessed is_action is_reason settings bytes_of before after [] = before ≡ after
@@ -253,7 +244,7 @@ AreProcessed is_action is_reason settings bytes_of before after (name ∷ names)
 -- Lines have one output, one action each, and one text of reports.
 abbrev pub OneAnswer : Job → Type 0
 OneAnswer job =
-    (t : Tally) (lines : List Line) (actions others : List LineAction) (text other reports more : List ℕ)
+    (t : Tally) (lines : List Line) (actions others : List Action) (text other reports more : List ℕ)
     → AreAnswered job t lines actions text reports → AreAnswered job t lines others other more
     → (actions ≡ others) × (text ≡ other) × (reports ≡ more)
 
@@ -269,15 +260,14 @@ abbrev pub SameBytes : Type 0
 SameBytes = (bytes : List ℕ) → joined (lines_of bytes) ≡ bytes
 
 -- no line was rewritten or dropped
-abbrev pub AreKept : List LineAction → Type 0
+abbrev pub AreKept : List Action → Type 0
 AreKept [] = ⊤
-AreKept (Without ∷ actions) = AreKept actions
 AreKept (Rewritten begin end text ∷ actions) = ⊥
 AreKept (Dropped ∷ actions) = ⊥
-AreKept (Refused ∷ actions) = AreKept actions
+AreKept (_ ∷ actions) = AreKept actions
 
 -- If all lines are written, and no line of an input is rewritten or dropped, the output is the input, byte by byte.
 abbrev pub KeptBytes : Job → Type 0
 KeptBytes job =
-    (bytes : List ℕ) (before after : State) (actions : List LineAction) → job.settings.output ≡ AllLines
+    (bytes : List ℕ) (before after : State) (actions : List Action) → job.settings.output ≡ AllLines
     → Processed job before after (lines_of bytes) actions → AreKept actions → Appends before.out after.out bytes

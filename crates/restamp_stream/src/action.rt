@@ -1,13 +1,13 @@
 //! The action of a line, and of the bytes after its front.
 ghost use Rattle.std.specs.Prelude.{◌≡◌, IsTrue, false};
-ghost use Rattle.restamp_stream.specs.Reports.{tail_action_of, HasFront};
+ghost use Rattle.restamp_stream.specs.Reports.{action_of, tail_action_of, HasFront};
 
 use crate::settings::Output;
 use time_values::text::Text;
 
 /// The action of a line: unchanged, rewritten, dropped or rejected.
 #[derive(Drop)]
-pub enum LineAction {
+pub enum LineAction<R> {
     /// It has no place for a time, and is unchanged.
     Without,
     /// The text replaces the bytes of its front from `begin` to before `end`.
@@ -19,7 +19,7 @@ pub enum LineAction {
     /// It is dropped from the output.
     Dropped,
     /// It is rejected: it is unchanged, and reported.
-    Refused,
+    Refused(R),
 }
 
 /// Whether the bytes after the front of a processed line are copied or dropped.
@@ -35,21 +35,13 @@ pub enum TailAction {
 
 impl TailAction {
     /// Whether the bytes after a front with that action are copied or dropped.
-    pub fn of(output: Output, action: &LineAction) -> TailAction
-        ensures { result ≡ tail_action_of output action.now }
+    pub fn of<R>(output: Output, action: &LineAction<R>) -> TailAction
+        ensures { result ≡ tail_action_of output (action_of action.now) }
     {
-        match output {
-            Output::AllLines => match action {
-                LineAction::Dropped => TailAction::Dropping,
-                LineAction::Without | LineAction::Rewritten { .. } | LineAction::Refused =>
-                    TailAction::Passing,
-            },
-            Output::RewrittenLines => match action {
-                LineAction::Rewritten { .. } => TailAction::Passing,
-                LineAction::Without | LineAction::Dropped | LineAction::Refused =>
-                    TailAction::Dropping,
-            },
-            Output::Times => TailAction::Dropping,
+        match (output, action) {
+            (Output::Times, _) | (Output::AllLines, LineAction::Dropped) => TailAction::Dropping,
+            (Output::AllLines, _) | (_, LineAction::Rewritten { .. }) => TailAction::Passing,
+            (Output::RewrittenLines, _) => TailAction::Dropping,
         }
     }
 
@@ -58,9 +50,6 @@ impl TailAction {
         ensures absent { IsTrue result → self.now ≡ TailAction.Absent }
         ensures front { result ≡ false → HasFront self.now }
     {
-        match self {
-            TailAction::Absent => true,
-            TailAction::Passing | TailAction::Dropping => false,
-        }
+        matches!(self, TailAction::Absent)
     }
 }

@@ -3,6 +3,7 @@ ghost use Rattle.std.specs.Prelude.{◌≡◌, ◌<◌};
 ghost use Rattle.restamp_stream.specs.Causes.{HasFailed};
 
 use crate::tally::Tally;
+use byte_streams::Unwritten;
 
 /// The exit status of a program: 2 if the work stopped, a file wasn't read to its end, or a line was rejected and
 /// `strict` is set. Otherwise 0 if a time was rewritten, and 1 if none was.
@@ -26,4 +27,15 @@ pub enum Stop {
     Unwritten,
     /// A line was rejected, and `strict` is set.
     Refused,
+}
+
+impl From<Unwritten> for Stop {
+    ghost use Rattle.std.specs.Prelude.{◌≡◌};
+    ghost use Rattle.restamp_stream.specs.declared.ending.Stop.TheVariants.{Unwritten};
+
+    ghost from_gives = { λ _ stop. stop ≡ Unwritten };
+
+    fn from(_failed: Unwritten) -> Stop {
+        Stop::Unwritten
+    }
 }

@@ -1,5 +1,5 @@
 //! Processes several files, one after the other.
-ghost use Rattle.std.specs.Prelude.{◌≡◌, ◌≢◌, ◌≤◌, ℕ, List, IfErr, IfOk, IfSome, OnOk, map, Option, Some};
+ghost use Rattle.std.specs.Prelude.{◌≡◌, ◌≢◌, ◌≤◌, ℕ, List, Err, IfErr, IfOk, IfSome, OnOk, map, Option, Some};
 ghost use Rattle.byte_streams.specs.Faults.{HasCause, IsCutOff, Rises};
 ghost use Rattle.restamp_stream.specs.Streams.{ProcessedAll, job_of, ProcessedCutOff, ProcessedFile, ProcessedFiles, StoppedIn, state_of, ProcessedBefore};
 ghost use Rattle.restamp_stream.specs.Causes.{faults_of, HasWriteCause};
@@ -7,7 +7,7 @@ ghost use Rattle.restamp_stream.specs.Causes.{faults_of, HasWriteCause};
 use crate::block::Block;
 use crate::ending::Stop;
 use crate::rewriting::Rewriting;
-use crate::settings::{File, Settings};
+use crate::settings::Settings;
 use crate::stream::Stream;
 use byte_streams::{Sink, Source};
 use std::io;
@@ -29,7 +29,6 @@ pub trait Opening {
         ensures started { IfOk result (λ input. Self.Input.faults input ≡ 0) }
         ensures cause { HasCause result (faults self.old) (faults self.new) }
         ensures same { bytes_of self.new ≡ bytes_of self.old };
-
     /// Closes a file that it opened. Counts the file as cut off if one of its calls has failed, or if it has returned
     /// 18446744073709551615 bytes.
     fn close(&mut self, input: Self::Input)
@@ -39,39 +38,18 @@ pub trait Opening {
         ensures same { bytes_of self.new ≡ bytes_of self.old };
 }
 
-impl<W: Sink, L: Sink> Stream<W, L> {
-    // Opens a file, processes all its lines, and closes it.
-    fn serve_opened<T: Rewriting, O: Opening>(
-        &mut self,
-        rewriting: &T,
-        settings: Settings<'_>,
-        name: &[u8],
-        opening: &mut O,
-        block: &mut Block,
-    ) -> Result<(), Stop>
-        ensures all { OnOk result (IfSome (O.bytes_of opening.old name.now)
-            (ProcessedAll (job_of (T.is_action rewriting.now) (T.is_reason rewriting.now) name.now settings.entry)
-            (state_of W.contents L.contents self.old) (state_of W.contents L.contents self.new))) }
-        ensures unread { IfErr result (λ stop. stop ≡ Stop.Unread →
-            ProcessedCutOff (job_of (T.is_action rewriting.now) (T.is_reason rewriting.now) name.now settings.entry)
-            (O.bytes_of opening.old name.now) (O.faults opening.old) (O.faults opening.new)
-            (state_of W.contents L.contents self.old) (state_of W.contents L.contents self.new)) }
-        ensures refused { IfErr result (λ stop. stop ≡ Stop.Refused → IfSome (O.bytes_of opening.old name.now)
-            (ProcessedBefore (job_of (T.is_action rewriting.now) (T.is_reason rewriting.now) name.now settings.entry)
-            (state_of W.contents L.contents self.old) (state_of W.contents L.contents self.new))) }
-        ensures cause { HasWriteCause result (faults_of W.faults L.faults self.old) (faults_of W.faults L.faults self.new) }
-        ensures later { O.faults opening.old ≤ O.faults opening.new }
-        ensures same { O.bytes_of opening.new ≡ O.bytes_of opening.old }
-    {
-        let mut input = match opening.open(name) {
-            Ok(input) => input,
-            Err(e) => return Err(self.fail(&File { name, settings }, &e)),
-        };
-        let served = self.serve(rewriting, settings, name, &mut input, block);
-        opening.close(input);
-        served
+// A file that wasn't read to its end doesn't stop the work.
+fn go_on(served: Result<(), Stop>) -> Result<(), Stop>
+    ensures ok { OnOk result (IfErr served (λ stop. stop ≡ Stop.Unread)) }
+    ensures err { IfErr result (λ stop. (served ≡ Err stop) × (stop ≢ Stop.Unread)) }
+{
+    match served {
+        Ok(()) | Err(Stop::Unread) => Ok(()),
+        Err(stop) => Err(stop),
     }
+}
 
+impl<W: Sink, L: Sink> Stream<W, L> {
     // Opens a file, processes all its lines, and closes it. A file that isn't read to its end doesn't stop the work.
     fn serve_next<T: Rewriting, O: Opening>(
         &mut self,
@@ -83,8 +61,7 @@ impl<W: Sink, L: Sink> Stream<W, L> {
     ) -> Result<(), Stop>
         ensures ok { OnOk result
             (ProcessedFile (job_of (T.is_action rewriting.now) (T.is_reason rewriting.now) name.now settings.entry) (O.bytes_of opening.old name.now)
-            (O.faults opening.old) (O.faults opening.new)
-            (state_of W.contents L.contents self.old) (state_of W.contents L.contents self.new)) }
+            (O.faults opening.old) (O.faults opening.new) (state_of W.contents L.contents self.old) (state_of W.contents L.contents self.new)) }
         ensures unread { IfErr result (λ stop. stop ≢ Stop.Unread) }
         ensures refused { IfErr result (λ stop. stop ≡ Stop.Refused → IfSome (O.bytes_of opening.old name.now)
             (ProcessedBefore (job_of (T.is_action rewriting.now) (T.is_reason rewriting.now) name.now settings.entry)
@@ -93,10 +70,13 @@ impl<W: Sink, L: Sink> Stream<W, L> {
         ensures later { O.faults opening.old ≤ O.faults opening.new }
         ensures same { O.bytes_of opening.new ≡ O.bytes_of opening.old }
     {
-        match self.serve_opened(rewriting, settings, name, opening, block) {
-            Ok(()) | Err(Stop::Unread) => Ok(()),
-            Err(stop) => Err(stop),
-        }
+        let mut input = match opening.open(name) {
+            Ok(input) => input,
+            Err(e) => return go_on(Err(self.fail(name, &e))),
+        };
+        let served = self.serve(rewriting, settings, name, &mut input, block);
+        opening.close(input);
+        go_on(served)
     }
 
     /// Processes all lines of the files, one after the other, with one tally. Lines are numbered from 1 in each file.

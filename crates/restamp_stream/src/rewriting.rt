@@ -1,7 +1,7 @@
 //! Chooses the action of a line.
 ghost use Rattle.std.specs.Prelude.{◌≡◌, ℕ, List, OnOk};
 ghost use Rattle.byte_streams.specs.Faults.{HasCause};
-ghost use Rattle.restamp_stream.specs.Reports.{IsWithin, WritesReason};
+ghost use Rattle.restamp_stream.specs.Reports.{action_of, IsWithin, WritesReason};
 
 use crate::action::LineAction;
 use byte_streams::{Sink, Unwritten};
@@ -9,29 +9,32 @@ use byte_streams::{Sink, Unwritten};
 /// Chooses the action of a line by its front: the first [`LIMIT`](crate::LIMIT) bytes of the line, or all of a shorter
 /// one, without its LF.
 pub trait Rewriting {
-    ghost use Rattle.restamp_stream.specs.declared.action.LineAction.{LineAction};
+    ghost use Rattle.restamp_stream.specs.Reports.{Action};
     ghost use Rattle.restamp_stream.specs.declared.action.LineAction.TheVariants.{Refused};
 
+    /// Why a line is rejected, as far as its action says it. A stream doesn't read it.
+    type Refusal: Drop;
+
     // A line with that front has that action.
-    ghost is_action: { Self → List ℕ → LineAction → Type 0 };
+    ghost is_action: { Self → List ℕ → Action → Type 0 };
 
     // A front is rejected at that column, from 1, and for that reason.
     ghost is_reason: { Self → List ℕ → ℕ → List ℕ → Type 0 };
 
     /// The action of a line with that front.
-    fn action(&self, front: &[u8]) -> LineAction
-        ensures action { is_action self.now front.now result }
-        ensures within { IsWithin result front.now };
+    fn action(&self, front: &[u8]) -> LineAction<Self::Refusal>
+        ensures action { is_action self.now front.now (action_of result) }
+        ensures within { IsWithin (action_of result) front.now };
 
     /// Writes the column at which a front is rejected, a colon, a space and the reason, with no LF. It is called only
     /// if the log names the line.
     fn write_reason<L: Sink>(&self, front: &[u8], log: &mut L) -> Result<(), Unwritten>
-        requires { is_action self.now front.now Refused }
+        requires { is_action self.now front.now (Refused tt) }
         ensures reported { OnOk result (WritesReason (is_reason self.now front.now) (L.contents log.old) (L.contents log.new)) }
         ensures cause { HasCause result (L.faults log.old) (L.faults log.new) };
 
     // A front has one action.
-    ghost one_action: { (x : Self) (front : List ℕ) (a b : LineAction) → is_action x front a → is_action x front b → a ≡ b };
+    ghost one_action: { (x : Self) (front : List ℕ) (a b : Action) → is_action x front a → is_action x front b → a ≡ b };
 
     // A front is rejected at one column and for one reason.
     ghost one_reason: { (x : Self) (front : List ℕ) (column other : ℕ) (reason why : List ℕ)

@@ -1,6 +1,6 @@
 //! How the lines of a file are processed.
 ghost use Rattle.std.specs.Prelude.{◌≡◌, IsTrue, false};
-ghost use Rattle.restamp_stream.specs.Reports.{IsAllowed, is_named, unnamed};
+ghost use Rattle.restamp_stream.specs.Reports.{action_of, IsAllowed, is_named, unnamed};
 
 use crate::action::LineAction;
 use crate::tally::Tally;
@@ -27,12 +27,12 @@ pub enum Reports {
 
 impl Reports {
     /// Whether the log names the line that was counted last, if it has that action.
-    pub fn names(self, tally: &Tally, action: &LineAction) -> bool
-        ensures names { result ≡ is_named self tally.now action.now }
-        ensures refused { IsTrue result → action.now ≡ LineAction.Refused }
+    pub fn names<R>(self, tally: &Tally, action: &LineAction<R>) -> bool
+        ensures names { result ≡ is_named self tally.now (action_of action.now) }
+        ensures refused { IsTrue result → action_of action.now ≡ LineAction.Refused tt }
     {
         match (self, action) {
-            (Reports::First(most), LineAction::Refused) => tally.refused_here <= most,
+            (Reports::First(most), LineAction::Refused(_)) => tally.refused_here <= most,
             _ => false,
         }
     }
@@ -63,20 +63,19 @@ pub struct Settings<'a> {
 
 impl Settings<'_> {
     /// Whether the work stops at a line with that action.
-    pub fn stops_at(&self, action: &LineAction) -> bool
-        ensures stops { IsTrue result → IsTrue self.now.strict × (action.now ≡ LineAction.Refused) }
-        ensures goes_on { result ≡ false → IsAllowed self.now.strict action.now }
+    pub fn stops_at<R>(&self, action: &LineAction<R>) -> bool
+        ensures stops { IsTrue result → IsTrue self.now.strict × (action_of action.now ≡ LineAction.Refused tt) }
+        ensures goes_on { result ≡ false → IsAllowed self.now.strict (action_of action.now) }
     {
-        match action {
-            LineAction::Refused => self.strict,
-            LineAction::Without | LineAction::Rewritten { .. } | LineAction::Dropped => false,
-        }
+        self.strict && matches!(action, LineAction::Refused(_))
     }
 }
 
 /// A file that is read.
-#[derive(Clone, Copy)]
-pub struct File<'a> {
+#[derive(Drop)]
+pub struct File<'a, T> {
+    /// Chooses the action of each of its lines.
+    pub rewriting: &'a T,
     /// Its name, for reports.
     pub name: &'a [u8],
     /// How its lines are processed.

@@ -5,8 +5,8 @@ ghost use Rattle.byte_streams.specs.Faults.{HasCause};
 ghost use Rattle.byte_streams.specs.Lines.{unended};
 ghost use Rattle.restamp_stream.specs.Streams.{Processed, IsNaming, IsReport, Closes, RefusedAt, Fails, state_of};
 ghost use Rattle.restamp_stream.specs.Causes.{faults_of, HasWriteCause, IsCounted};
-ghost use Rattle.restamp_stream.specs.Reports.{IsWithin, front_text, passed, tail_action_of, nothing_counted, more_text, unread_text};
-ghost use Rattle.restamp_stream.specs.Buffered.{buffered_out, buffered_state, job_at, Flushes, StoppedBy, FailedBy};
+ghost use Rattle.restamp_stream.specs.Reports.{Action, action_of, IsWithin, front_text, passed, tail_action_of, nothing_counted, more_text, unread_text};
+ghost use Rattle.restamp_stream.specs.Buffered.{buffered_out, buffered_state, job_at, Flushes, Puts, StoppedBy, FailedBy};
 ghost use Rattle.restamp_stream.specs.declared.block.TheConstants.{LIMIT};
 
 use crate::action::{LineAction, TailAction};
@@ -58,10 +58,7 @@ impl<W: Sink, L: Sink> Stream<W, L> {
     // Writes bytes after the buffered ones.
     #[inline(always)]
     fn put(&mut self, bytes: &[u8]) -> Result<(), Unwritten>
-        ensures put { OnOk result (Appends (buffered_out W.contents self.old) (buffered_out W.contents self.new) bytes.now) }
-        ensures log { self.new.log ≡ self.old.log }
-        ensures tally { self.new.tally ≡ self.old.tally }
-        ensures cause { HasCause result (W.faults self.old.out.sink) (W.faults self.new.out.sink) }
+        ensures { Puts W.contents W.faults self.old self.new result bytes.now }
     {
         self.out.write_all(bytes)
     }
@@ -69,11 +66,7 @@ impl<W: Sink, L: Sink> Stream<W, L> {
     // Writes bytes that come after the front of a line, unless they are dropped.
     #[inline(always)]
     pub(crate) fn pass(&mut self, bytes: &[u8], rest: TailAction) -> Result<(), Unwritten>
-        ensures passed { OnOk result
-            (Appends (buffered_out W.contents self.old) (buffered_out W.contents self.new) (passed rest bytes.now)) }
-        ensures log { self.new.log ≡ self.old.log }
-        ensures tally { self.new.tally ≡ self.old.tally }
-        ensures cause { HasCause result (W.faults self.old.out.sink) (W.faults self.new.out.sink) }
+        ensures { Puts W.contents W.faults self.old self.new result (passed rest bytes.now) }
     {
         match rest {
             TailAction::Absent | TailAction::Passing => self.put(bytes),
@@ -99,8 +92,8 @@ impl<W: Sink, L: Sink> Stream<W, L> {
         }
     }
 
-    // EndsLine the reports of a file.
-    pub(crate) fn close(&mut self, file: &File<'_>) -> Result<(), Unwritten>
+    // Ends the reports of a file.
+    pub(crate) fn close<T>(&mut self, file: &File<'_, T>) -> Result<(), Unwritten>
         ensures closed { OnOk result (Closes file.now.name.now file.now.settings.reports
             (state_of W.contents L.contents self.old) (state_of W.contents L.contents self.new)) }
         ensures out { self.new.out ≡ self.old.out }
@@ -125,12 +118,12 @@ impl<W: Sink, L: Sink> Stream<W, L> {
     }
 
     // Reports to the log that a file wasn't read to its end, and why, and counts the file.
-    pub(crate) fn fail(&mut self, file: &File<'_>, error: &io::Error) -> Stop
-        ensures failed { FailedBy result (Fails file.now.name.now (state_of W.contents L.contents self.old) (state_of W.contents L.contents self.new)) }
+    pub(crate) fn fail(&mut self, name: &[u8], error: &io::Error) -> Stop
+        ensures failed { FailedBy result (Fails name.now (state_of W.contents L.contents self.old) (state_of W.contents L.contents self.new)) }
         ensures cause { IsCounted result (faults_of W.faults L.faults self.old) (faults_of W.faults L.faults self.new) }
     {
         self.tally.count_unread();
-        match self.report_unread(file.name, error) {
+        match self.report_unread(name, error) {
             Ok(()) => Stop::Unread,
             Err(_) => Stop::Unwritten,
         }
@@ -146,31 +139,6 @@ impl<W: Sink, L: Sink> Stream<W, L> {
         self.log.flush()
     }
 
-    // Writes a suffix. It isn't inlined, as most times have no suffix.
-    #[inline(never)]
-    fn put_some(&mut self, suffix: &[u8]) -> Result<(), Unwritten>
-        ensures put { OnOk result (Appends (buffered_out W.contents self.old) (buffered_out W.contents self.new) suffix.now) }
-        ensures log { self.new.log ≡ self.old.log }
-        ensures tally { self.new.tally ≡ self.old.tally }
-        ensures cause { HasCause result (W.faults self.old.out.sink) (W.faults self.new.out.sink) }
-    {
-        self.put(suffix)
-    }
-
-    // Writes the suffix of new times, if they have one.
-    #[inline(always)]
-    fn put_suffix(&mut self, suffix: &[u8]) -> Result<(), Unwritten>
-        ensures put { OnOk result (Appends (buffered_out W.contents self.old) (buffered_out W.contents self.new) suffix.now) }
-        ensures log { self.new.log ≡ self.old.log }
-        ensures tally { self.new.tally ≡ self.old.tally }
-        ensures cause { HasCause result (W.faults self.old.out.sink) (W.faults self.new.out.sink) }
-    {
-        if suffix.is_empty() {
-            return Ok(());
-        }
-        self.put_some(suffix)
-    }
-
     // Writes the front of a line with a text and its suffix in place of the bytes from `begin` to before `end`. It
     // isn't inlined, as most times have no suffix.
     #[inline(never)]
@@ -184,11 +152,7 @@ impl<W: Sink, L: Sink> Stream<W, L> {
     ) -> Result<(), Unwritten>
         requires order { begin ≤ end }
         requires within { end ≤ length front.now }
-        ensures put { OnOk result (Appends (buffered_out W.contents self.old) (buffered_out W.contents self.new)
-            (take begin front.now ++ (text.now ++ (suffix.now ++ drop end front.now)))) }
-        ensures log { self.new.log ≡ self.old.log }
-        ensures tally { self.new.tally ≡ self.old.tally }
-        ensures cause { HasCause result (W.faults self.old.out.sink) (W.faults self.new.out.sink) }
+        ensures { Puts W.contents W.faults self.old self.new result (take begin front.now ++ (text.now ++ (suffix.now ++ drop end front.now))) }
     {
         self.put(&front[..begin])?;
         self.put(text)?;
@@ -209,11 +173,7 @@ impl<W: Sink, L: Sink> Stream<W, L> {
     ) -> Result<(), Unwritten>
         requires order { begin ≤ end }
         requires within { end ≤ length front.now }
-        ensures put { OnOk result (Appends (buffered_out W.contents self.old) (buffered_out W.contents self.new)
-            (take begin front.now ++ (text.now ++ (suffix.now ++ drop end front.now)))) }
-        ensures log { self.new.log ≡ self.old.log }
-        ensures tally { self.new.tally ≡ self.old.tally }
-        ensures cause { HasCause result (W.faults self.old.out.sink) (W.faults self.new.out.sink) }
+        ensures { Puts W.contents W.faults self.old self.new result (take begin front.now ++ (text.now ++ (suffix.now ++ drop end front.now))) }
     {
         if suffix.is_empty() {
             return self.out.write_spliced(front, begin, end, text);
@@ -221,48 +181,26 @@ impl<W: Sink, L: Sink> Stream<W, L> {
         self.put_suffixed(suffix, front, begin, end, text)
     }
 
-    // Writes the text of a time alone on a line, with its suffix.
-    #[inline(always)]
-    fn put_time(&mut self, suffix: &[u8], text: &[u8]) -> Result<(), Unwritten>
-        ensures put { OnOk result (Appends (buffered_out W.contents self.old) (buffered_out W.contents self.new)
-            (text.now ++ (suffix.now ++ 10 ∷ []))) }
-        ensures log { self.new.log ≡ self.old.log }
-        ensures tally { self.new.tally ≡ self.old.tally }
-        ensures cause { HasCause result (W.faults self.old.out.sink) (W.faults self.new.out.sink) }
-    {
-        self.put(text)?;
-        self.put_suffix(suffix)?;
-        self.put(b"\n")
-    }
-
     // Writes the output for the front of a line.
     #[inline(always)]
-    fn put_front(
+    fn put_front<R>(
         &mut self,
         settings: &Settings<'_>,
         front: &[u8],
-        action: &LineAction,
+        action: &LineAction<R>,
     ) -> Result<(), Unwritten>
-        requires { IsWithin action.now front.now }
-        ensures put { OnOk result
-            (Appends (buffered_out W.contents self.old) (buffered_out W.contents self.new)
-            (front_text settings.now.output settings.now.suffix.now front.now action.now)) }
-        ensures log { self.new.log ≡ self.old.log }
-        ensures tally { self.new.tally ≡ self.old.tally }
-        ensures cause { HasCause result (W.faults self.old.out.sink) (W.faults self.new.out.sink) }
+        requires { IsWithin (action_of action.now) front.now }
+        ensures { Puts W.contents W.faults self.old self.new result (front_text settings.now.output settings.now.suffix.now front.now (action_of action.now)) }
     {
-        match action {
-            LineAction::Rewritten { begin, end, text } => match settings.output {
-                Output::Times => self.put_time(settings.suffix, text.as_bytes()),
-                Output::AllLines | Output::RewrittenLines => {
-                    self.put_changed(settings.suffix, front, *begin, *end, text.as_bytes())
-                }
-            },
-            LineAction::Without | LineAction::Refused => match settings.output {
-                Output::AllLines => self.put(front),
-                Output::RewrittenLines | Output::Times => Ok(()),
-            },
-            LineAction::Dropped => Ok(()),
+        match (action, settings.output) {
+            (LineAction::Rewritten { text, .. }, Output::Times) => {
+                self.put_changed(settings.suffix, b"\n", 0, 0, text.as_bytes())
+            }
+            (LineAction::Rewritten { begin, end, text }, _) => {
+                self.put_changed(settings.suffix, front, *begin, *end, text.as_bytes())
+            }
+            (LineAction::Without | LineAction::Refused(_), Output::AllLines) => self.put(front),
+            _ => Ok(()),
         }
     }
 
@@ -270,13 +208,11 @@ impl<W: Sink, L: Sink> Stream<W, L> {
     #[inline(never)]
     fn write_report<T: Rewriting>(
         &mut self,
-        rewriting: &T,
-        file: &File<'_>,
+        file: &File<'_, T>,
         front: &[u8],
     ) -> Result<(), Unwritten>
-        requires { T.is_action rewriting.now front.now LineAction.Refused }
-        ensures reported { OnOk result ((report : List ℕ)
-            × IsNaming (job_at (T.is_action rewriting.now) (T.is_reason rewriting.now) file.now) self.old.tally front.now report
+        requires { T.is_action file.now.rewriting.now front.now (LineAction.Refused tt) }
+        ensures reported { OnOk result ((report : List ℕ) × IsNaming (job_at T.is_action T.is_reason file.now) self.old.tally front.now report
             × Appends (L.contents self.old.log) (L.contents self.new.log) report) }
         ensures out { self.new.out ≡ self.old.out }
         ensures tally { self.new.tally ≡ self.old.tally }
@@ -284,7 +220,7 @@ impl<W: Sink, L: Sink> Stream<W, L> {
     {
         write_name(file.name, &mut self.log)?;
         write!(self.log, ":{}:", self.tally.line)?;
-        rewriting.write_reason(front, &mut self.log)?;
+        file.rewriting.write_reason(front, &mut self.log)?;
         self.log.write_all(b"\n")
     }
 
@@ -293,14 +229,13 @@ impl<W: Sink, L: Sink> Stream<W, L> {
     #[tactic(auto, using(crate::proofs::LinesLemmas::log_writes))]
     fn report<T: Rewriting>(
         &mut self,
-        rewriting: &T,
-        file: &File<'_>,
+        file: &File<'_, T>,
         front: &[u8],
-        action: &LineAction,
+        action: &LineAction<T::Refusal>,
     ) -> Result<(), Unwritten>
-        requires { T.is_action rewriting.now front.now action.now }
+        requires { T.is_action file.now.rewriting.now front.now (action_of action.now) }
         ensures reported { OnOk result ((report : List ℕ)
-            × IsReport (job_at (T.is_action rewriting.now) (T.is_reason rewriting.now) file.now) self.old.tally front.now action.now report
+            × IsReport (job_at T.is_action T.is_reason file.now) self.old.tally front.now (action_of action.now) report
             × Appends (L.contents self.old.log) (L.contents self.new.log) report) }
         ensures out { self.new.out ≡ self.old.out }
         ensures tally { self.new.tally ≡ self.old.tally }
@@ -309,38 +244,31 @@ impl<W: Sink, L: Sink> Stream<W, L> {
         if !file.settings.reports.names(&self.tally, action) {
             return Ok(());
         }
-        self.write_report(rewriting, file, front)
+        self.write_report(file, front)
     }
 
     // Processes, reports and counts a line by its front. Returns whether the bytes after it are copied or dropped.
     #[inline(always)]
     pub(crate) fn begin<T: Rewriting>(
         &mut self,
-        rewriting: &T,
-        file: &File<'_>,
+        file: &File<'_, T>,
         front: &[u8],
     ) -> Result<TailAction, Stop>
         requires { length front.now ≤ LIMIT }
-        ensures ok { IfOk result (λ rest. (action : LineAction) × (tail_action_of file.now.settings.output action ≡ rest)
-            × Processed (job_at (T.is_action rewriting.now) (T.is_reason rewriting.now) file.now)
-            (buffered_state W.contents L.contents self.old) (buffered_state W.contents L.contents self.new)
-            (unended front.now ∷ []) (action ∷ [])) }
-        ensures err { IfErr result (λ stop. StoppedBy stop
-            (RefusedAt (job_at (T.is_action rewriting.now) (T.is_reason rewriting.now) file.now)
+        ensures ok { IfOk result (λ rest. (action : Action) × (tail_action_of file.now.settings.output action ≡ rest)
+            × Processed (job_at T.is_action T.is_reason file.now)
+            (buffered_state W.contents L.contents self.old) (buffered_state W.contents L.contents self.new) (unended front.now ∷ []) (action ∷ [])) }
+        ensures err { IfErr result (λ stop. StoppedBy stop (RefusedAt (job_at T.is_action T.is_reason file.now)
             (buffered_state W.contents L.contents self.old) (buffered_state W.contents L.contents self.new) front.now)) }
         ensures cause { HasWriteCause result (faults_of W.faults L.faults self.old) (faults_of W.faults L.faults self.new) }
     {
-        let action = rewriting.action(front);
+        let action = file.rewriting.action(front);
         self.tally.count(&action);
-        let Ok(()) = self.report(rewriting, file, front, &action) else {
-            return Err(Stop::Unwritten);
-        };
+        self.report(file, front, &action)?;
         if file.settings.stops_at(&action) {
             return Err(Stop::Refused);
         }
-        let Ok(()) = self.put_front(&file.settings, front, &action) else {
-            return Err(Stop::Unwritten);
-        };
+        self.put_front(&file.settings, front, &action)?;
         Ok(TailAction::of(file.settings.output, &action))
     }
 }

@@ -1,6 +1,6 @@
 //! Counts lines by action.
 ghost use Rattle.std.specs.Prelude.{◌≡◌};
-ghost use Rattle.restamp_stream.specs.Reports.{nothing_counted, count_action, at_first_line, count_unread};
+ghost use Rattle.restamp_stream.specs.Reports.{action_of, nothing_counted, count_action, at_first_line, count_unread};
 
 use crate::action::LineAction;
 
@@ -43,8 +43,8 @@ impl Tally {
     }
 
     /// Counts a line with that action.
-    pub fn count(&mut self, action: &LineAction)
-        ensures { self.new ≡ count_action self.old action.now }
+    pub fn count<R>(&mut self, action: &LineAction<R>)
+        ensures { self.new ≡ count_action self.old (action_of action.now) }
     {
         self.line = self.line.saturating_add(1);
         self.lines = self.lines.saturating_add(1);
@@ -52,7 +52,7 @@ impl Tally {
             LineAction::Without => self.without = self.without.saturating_add(1),
             LineAction::Rewritten { .. } => self.rewritten = self.rewritten.saturating_add(1),
             LineAction::Dropped => self.dropped = self.dropped.saturating_add(1),
-            LineAction::Refused => {
+            LineAction::Refused(_) => {
                 self.refused_here = self.refused_here.saturating_add(1);
                 self.refused = self.refused.saturating_add(1);
             }

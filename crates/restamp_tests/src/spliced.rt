@@ -17,13 +17,15 @@ struct At {
 }
 
 impl Rewriting for At {
+    type Refusal = ();
+
     ghost use Rattle.std.specs.Prelude.{◌≡◌, ◌+◌, codes, length, nat_lt, if◌then◌else◌};
     ghost use Rattle.std.proofs.Common.{sym, ◌∙◌};
     ghost use Rattle.restamp_stream.specs.declared.action.LineAction.TheVariants.{Without, Rewritten, Refused};
 
     ghost is_action = { λ at front action. action ≡ (
         if nat_lt at.place (length front) then
-        if nat_lt (length at.text.now) 36 then Rewritten at.place (at.place + 1) (record { items = at.text.now }) else Refused
+        if nat_lt (length at.text.now) 36 then Rewritten at.place (at.place + 1) (record { items = at.text.now }) else Refused tt
         else Without) };
 
     ghost is_reason = { λ at front column reason. (column ≡ 1) × (reason ≡ codes "bad") };
@@ -32,12 +34,12 @@ impl Rewriting for At {
 
     ghost one_reason = { λ x front column other reason why p q. (p.0 ∙ sym q.0, p.1 ∙ sym q.1) };
 
-    fn action(&self, front: &[u8]) -> LineAction {
+    fn action(&self, front: &[u8]) -> LineAction<()> {
         if front.len() <= self.place {
             return LineAction::Without;
         }
         if 35 < self.text.len() {
-            return LineAction::Refused;
+            return LineAction::Refused(());
         }
         let mut text = Text::new();
         text.append(self.text);

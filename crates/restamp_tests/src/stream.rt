@@ -13,6 +13,8 @@ use time_values::text::Text;
 pub struct Marks;
 
 impl Rewriting for Marks {
+    type Refusal = ();
+
     ghost use Rattle.std.specs.Prelude.{◌≡◌, length, slice_index, codes, if◌then◌else◌, ◌==◌};
     ghost use Rattle.std.proofs.Common.{sym, ◌∙◌};
     ghost use Rattle.restamp_stream.specs.declared.action.LineAction.TheVariants.{Without, Rewritten, Dropped, Refused};
@@ -22,7 +24,7 @@ impl Rewriting for Marks {
         if b == 64 then Rewritten 0 1 (record { items = codes "now" }) else
         if b == 61 then Rewritten (length front) (length front) (record { items = codes "now" }) else
         if b == 35 then Dropped else
-        if b == 33 then Refused else Without) };
+        if b == 33 then Refused tt else Without) };
 
     ghost is_reason = { λ marks front column reason. (column ≡ 1) × (reason ≡ codes "bad") };
 
@@ -30,7 +32,7 @@ impl Rewriting for Marks {
 
     ghost one_reason = { λ x front column other reason why p q. (p.0 ∙ sym q.0, p.1 ∙ sym q.1) };
 
-    fn action(&self, front: &[u8]) -> LineAction {
+    fn action(&self, front: &[u8]) -> LineAction<()> {
         if front.is_empty() {
             return LineAction::Without;
         }
@@ -49,7 +51,7 @@ impl Rewriting for Marks {
                 text,
             },
             b'#' => LineAction::Dropped,
-            b'!' => LineAction::Refused,
+            b'!' => LineAction::Refused(()),
             _ => LineAction::Without,
         }
     }

@@ -1,23 +1,16 @@
 use Rattle.restamp_in_place.specs.Phases.{Kept, Ready, TempRemovable}
 use Rattle.restamp_in_place.proofs.PhaseLemmas.{Same-removable}
-use Rattle.restamp_in_place.proofs.StepLemmas.{runs-ok, runs-any, did_store}
+use Rattle.restamp_in_place.proofs.StepLemmas.{call_failed, runs-ok, either_way, did_store}
+use Rattle.std.proofs.Common.{arith}
 use Rattle.restamp_in_place.proofs.replacing.prepare.Goals as goal
 
-pub returns-in-Err : goal.returns-in-Err
-returns-in-Err g c aim plan written =
-    runs-any _ _ _ _ (Kept aim) (TempRemovable aim) c.in-Err.ensures
-    (λ done more k s. Same-removable aim (did_store aim _ _ plan.temporary written done more k s).kept.untouched) (λ _ done k. Same-removable aim k.untouched)
-
-pub returns-in-Ok-true : goal.returns-in-Ok-true
-returns-in-Ok-true g c aim plan written =
-    runs-ok _ _ _ (Kept aim) (Ready aim) c.in-Ok.ensures (did_store aim _ _ plan.temporary written)
-
-pub returns-in-Ok-false : goal.returns-in-Ok-false
-returns-in-Ok-false g c aim plan written =
-    runs-ok _ _ _ (Kept aim) (TempRemovable aim) c.in-Ok.ensures
+pub returns-in_err-map_err : goal.returns-in_err-map_err
+returns-in_err-map_err g c aim plan written =
+    call_failed _ _ c.store-stored.result c.from_residual.result _ (Kept aim) _ (TempRemovable aim) (grind arith) c.store-stored.ensures
     (λ done more k s. Same-removable aim (did_store aim _ _ plan.temporary written done more k s).kept.untouched)
+    (λ done k. Same-removable aim k.untouched)
 
-pub returns-in-Err-is_at : goal.returns-in-Err-is_at
-returns-in-Err-is_at g c aim plan written =
-    runs-ok _ _ _ (Kept aim) (TempRemovable aim) c.in-Ok.ensures
-    (λ done more k s. Same-removable aim (did_store aim _ _ plan.temporary written done more k s).kept.untouched)
+pub returns : goal.returns
+returns g c aim plan written =
+    either_way _ _ c.unchanged.result (Kept aim) (Ready aim) (TempRemovable aim) (λ done r. Same-removable aim r.kept.untouched)
+    (runs-ok _ _ c.store-stored.result _ _ _ (grind arith) c.store-stored.ensures (did_store aim _ _ plan.temporary written))

@@ -1,13 +1,11 @@
-use Rattle.std.specs.Prelude.{IfSome}
 use Rattle.std.specs.Io.KnownBytes.{Appends}
-use Rattle.std.proofs.Common.{◌≡◌, ℕ, List, [], refl, Option, Some}
+use Rattle.std.proofs.Common.{◌≡◌, ℕ, List, [], refl, Option, Some, IfSome}
 use Rattle.std.proofs.lemmas.Option.{IfSome_then}
 use Rattle.std.proofs.lemmas.Result.{IfOk-at_ok}
 use Rattle.restamp_stream.specs.declared.tally.Tally.{Tally}
 use Rattle.restamp_stream.specs.Reports.{nothing_counted}
 use Rattle.restamp_stream.specs.Streams.{Job, state, ProcessedAll}
-use Rattle.restamp_in_place.specs.declared.lines.Made.{Made}
-use Rattle.restamp_in_place.specs.Replacing.{bytes_made, Makes, made_of}
+use Rattle.restamp_in_place.specs.Replacing.{Made, bytes_made, Makes, made_of}
 use Rattle.restamp_in_place.proofs.lines.LinesFileTransform.make.Goals as goal
 
 -- ---- The bytes that a stream makes of a file

@@ -8,10 +8,10 @@ pub loop-line-preserved : goal.loop-line-preserved
 loop-line-preserved g c =
     let cut = c.in-Some.ensures in
     let begun = c.in_ok-rest.ensures in
-    let passed = c.in-Ok.ensures in (
+    let passed = c.in_ok-pass.ensures in (
       EndsWith-then c.args.bytes.now c.loop-line.left.now c.in-Some.after.now c.loop-line.invariant.0 (EndsWith-line _ _ _ cut.0),
       Continues-then c.loop-line.invariant.1 (Continues-line cut.0 cut.1 begun.ok.1 begun.ok.2
-          (record { out = passed.passed; log = ap g.L.Sink.contents passed.log; tally = passed.tally })),
+          (record { out = passed.put; log = ap g.L.Sink.contents passed.log; tally = passed.tally })),
       ap₂ ◌+◌ passed.cause (ap g.L.Sink.faults passed.log) ∙ begun.cause ∙ c.loop-line.invariant.2,
     )
 

@@ -3,13 +3,13 @@ use Rattle.std.proofs.Common.{◌≡◌, length}
 use Rattle.restamp_stream.specs.Causes.{faults_of}
 use Rattle.restamp_stream.specs.Buffered.{Continues, buffered_state, job_at}
 use Rattle.restamp_stream.specs.Streams.{EndsWith}
-use Rattle.restamp_stream.specs.declared.action.TailAction.TheVariants.{Absent}
+use Rattle.restamp_stream.specs.Reports.{Absent}
 use Rattle.restamp_stream.proofs.stream.Stream.answer_lines.Given as goal
 
 abbrev pub invariant-loop-line : goal.invariant-loop-line
 invariant-loop-line g l =
     EndsWith l.bytes l.left
-    × Continues (job_at (g.T.Rewriting.is_action l.rewriting) (g.T.Rewriting.is_reason l.rewriting) l.file)
+    × Continues (job_at g.T.Rewriting.is_action g.T.Rewriting.is_reason l.file)
     (buffered_state g.W.Sink.contents g.L.Sink.contents l.initial.self) (buffered_state g.W.Sink.contents g.L.Sink.contents l.self)
     Absent l.bytes Absent l.left
     × (faults_of g.W.Sink.faults g.L.Sink.faults l.self ≡ faults_of g.W.Sink.faults g.L.Sink.faults l.initial.self)

@@ -9,5 +9,5 @@ returns-clause-line g c =
       refl,
       EndsWith-line _ _ _ cut.0,
       EndsLine-front _ _ c.args.rest.now c.args.bytes.now c.in-Some.line.now c.in-Some.after.now (c.if-is_absent.ensures.front refl) cut.0 cut.1
-          c.in_ok-pass-2.ensures.passed,
+          c.in_ok-pass-2.ensures.put,
     )

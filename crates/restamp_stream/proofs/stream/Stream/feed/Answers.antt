@@ -5,10 +5,10 @@ use Rattle.restamp_stream.proofs.stream.Stream.feed.Goals as goal
 
 pub returns-clause-ok : goal.returns-clause-ok
 returns-clause-ok g c =
-    on_ok_weaker c.answer_block-answered.result (Continues-settled c.in-Ok.ensures.written)
+    on_ok_weaker c.answer_block-answered.result (Continues-settled c.in_ok-flush_all.ensures.written)
     (rw (c.requires, append_known-nil) at c.answer_block-answered.ensures.ok)
 
 pub returns-clause-err : goal.returns-clause-err
 returns-clause-err g c =
-    IfErr-weaker c.answer_block-answered.result _ _ (λ stop. StoppedBy-map stop (Stops-settled c.in-Ok.ensures.written))
+    IfErr-weaker c.answer_block-answered.result _ _ (λ stop. StoppedBy-map stop (Stops-settled c.in_ok-flush_all.ensures.written))
     (rw (c.requires, append_known-nil) at c.answer_block-answered.ensures.err)

@@ -1,25 +1,26 @@
 use Rattle.std.proofs.Common.{◌-◌, ◌^◌, ◌≤◌, refl, ◌∙◌, arith, lit<, ◌≡◌, Err, rules}
 use Rattle.restamp_stream.specs.Buffered.{job_at}
-use Rattle.restamp_stream.proofs.StoppedLemmas.{Served-none, Served-more, Served-all, Served-stopped, Served-stopped_at_end}
-use Rattle.restamp_stream.proofs.StoppedLemmas.{StoppedBy-refused, IsBuffered-short, HasNoLf-same}
+use Rattle.restamp_stream.proofs.StoppedLemmas.{Served-none, Served-more, Served-all, Served-stopped, Served-stopped_at_end, StoppedBy-refused, IsBuffered-short, HasNoLf-same}
 use Rattle.std.proofs.lemmas.Result.{on_ok_weaker, IfErr-weaker}
 use Rattle.restamp_stream.proofs.stream.Stream.serve_lines.Goals as goal
 
 pub loop-turn-init : goal.loop-turn-init
-loop-turn-init g c = (Served-none (job_at _ _ c.args.file.now) _ _ _ (lit< tt) c.requires.block, c.requires.buffer, refl, grind arith)
+loop-turn-init g c =
+    let job = job_at g.T.Rewriting.is_action g.T.Rewriting.is_reason c.args.file.now in
+    (Served-none job _ _ _ (lit< tt) c.requires.block, c.requires.buffer, refl, grind arith)
 
 pub fill-requires : goal.fill-requires
 fill-requires g c = (
   lit< tt,
   IsBuffered-short
-      (job_at (g.T.Rewriting.is_action c.args.rewriting.now) (g.T.Rewriting.is_reason c.args.rewriting.now) c.args.file.now)
+      (job_at g.T.Rewriting.is_action g.T.Rewriting.is_reason c.args.file.now)
       c.loop-turn.rest c.loop-turn.block.items (lit< tt) c.loop-turn.invariant.0.kept,
 )
 
 pub finish-requires-clause-started : goal.finish-requires-clause-started
 finish-requires-clause-started g c =
     let read = c.in-Ok-false.ensures.read in
-    let job = job_at (g.T.Rewriting.is_action c.args.rewriting.now) (g.T.Rewriting.is_reason c.args.rewriting.now) c.args.file.now in
+    let job = job_at g.T.Rewriting.is_action g.T.Rewriting.is_reason c.args.file.now in
     HasNoLf-same job c.loop-turn.rest _ _ read.0 c.loop-turn.invariant.0.kept read.1 (read.3 c.in-Ok-false.field-0-test).0
 
 pub loop-turn-preserved : goal.loop-turn-preserved

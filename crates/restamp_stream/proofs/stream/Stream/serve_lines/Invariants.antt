@@ -7,7 +7,7 @@ use Rattle.restamp_stream.proofs.stream.Stream.serve_lines.Given as goal
 
 abbrev pub invariant-loop-turn : goal.invariant-loop-turn
 invariant-loop-turn g l =
-    Served (job_at (g.T.Rewriting.is_action l.rewriting) (g.T.Rewriting.is_reason l.rewriting) l.file)
+    Served (job_at g.T.Rewriting.is_action g.T.Rewriting.is_reason l.file)
     (g.R.Source.remaining l.initial.input) (g.R.Source.remaining l.input)
     (state_of g.W.Sink.contents g.L.Sink.contents l.initial.self) (state_of g.W.Sink.contents g.L.Sink.contents l.self) l.rest l.block.items
     × (l.self.out.buffer.items ≡ [])

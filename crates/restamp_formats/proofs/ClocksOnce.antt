@@ -1,34 +1,15 @@
 -- A text that is a local time in a zone needs only one parse.
-use Rattle.std.proofs.Common.{◌≡◌, ◌-◌, ◌∙◌, ◌==◌, ◌∷◌, ℕ, ℤ, Bool, true, false, List, [], length, Option, None, Some, Result, Ok, Err, refl, sym, ap, subst, inl, inr, arith, is_some, if◌then◌else◌}
-use Rattle.std.specs.Prelude.{MatchResult}
-use Rattle.std.proofs.lemmas.Bool.{false≢true}
-use Rattle.std.proofs.lemmas.Bool.Decides.{nat_tests}
-use Rattle.time_values.specs.Moments.{offset_date, offset_of, offset_time, plain_date, plain_time}
+use Rattle.std.proofs.Common.{◌≡◌, ◌-◌, ◌∙◌, ◌==◌, ◌∷◌, ℕ, ℤ, Bool, true, false, List, [], length, Option, None, Some, Result, Ok, Err, refl, sym, ap, subst, inl, inr, arith, is_some, if◌then◌else◌, MatchResult}
+use Rattle.std.proofs.lemmas.Bool.{false≢true, Decides.nat_tests}
+use Rattle.time_record.specs.Resolution.{IsDated}
 use Rattle.time_values.specs.Offsets as Offsets
-use Rattle.time_values.specs.Offsets.{IsUtc}
-use Rattle.time_values.specs.Refusal.{Refusal, insufficient}
-use Rattle.time_values.specs.declared.date.Date.{Date}
-use Rattle.time_values.specs.declared.time.Time.{Time}
-use Rattle.time_values.specs.declared.utc_offset.UtcOffset.{UtcOffset}
-use Rattle.time_values.specs.declared.offset_date_time.OffsetDateTime.{OffsetDateTime}
-use Rattle.time_values.specs.declared.plain_date_time.PlainDateTime.{PlainDateTime}
-use Rattle.time_components.specs.Tree.{steps_shape}
 use Rattle.time_record.specs.Reading as Description
-use Rattle.time_record.specs.Record.{Record, empty}
-use Rattle.time_record.specs.Resolution.{IsDated, IsMoment, IsPlain, IsMomentOfParts, IsOffset, IsTimed, is_leap_second}
 use Rattle.time_parsing.specs.Iso8601 as Iso8601
 use Rattle.time_parsing.specs.Outcome as Outcome
-use Rattle.time_parsing.specs.Outcome.{Refusing}
+use Rattle.restamp_formats.specs.Common.{offset_date, offset_of, offset_time, plain_date, plain_time, IsUtc, Refusal, insufficient, Date, Time, UtcOffset, OffsetDateTime, PlainDateTime, steps_shape, Record, empty, IsMoment, IsPlain, IsMomentOfParts, IsOffset, IsTimed, is_leap_second, Refusing, Clocks, Match, Defaults, Reading}
 use Rattle.restamp_formats.specs.Reading.{IsGuarded, IsReadWith, ReadsRecord, ParsesAs, ParsesLocally, ParsesInZone, at_offset, completed, said, with_offset, with_year}
-use Rattle.restamp_formats.specs.Reason.{Reason, unread}
-use Rattle.restamp_formats.specs.Zoned.{IsOffsetWhen}
-use Rattle.restamp_formats.specs.declared.local.Clocks.{Clocks}
-use Rattle.restamp_formats.specs.declared.reading.Match.{Match}
-use Rattle.restamp_formats.specs.declared.reading.Defaults.{Defaults}
-use Rattle.restamp_formats.specs.declared.reading.Reading.{Reading}
-use Rattle.restamp_formats.specs.declared.reading.Reading.TheVariants as reading
-use Rattle.restamp_formats.proofs.ComponentValueLemmas.{offset_made}
-use Rattle.restamp_formats.proofs.ParseLemmas.{on_none, on_some}
+use Rattle.restamp_formats.specs.{Reason.Reason, Reason.unread, Zoned.IsOffsetWhen}
+use Rattle.restamp_formats.proofs.{ComponentValueLemmas.offset_made, ParseLemmas.on_none, ParseLemmas.on_some}
 
 -- the record with the parts of an offset
 abbrev placed : UtcOffset → Record → Record
@@ -115,23 +96,23 @@ module _ (Y : ℕ) (text rest : List ℕ) (r : Record) where
 
   no_rules : (format : Reading) → ReadsRecord Y format text empty rest r → (is_prefix : Bool) (result : Result Match Refusal)
       → MatchResult result (λ s. IsGuarded format is_prefix text s (reasoned result)) (λ e. reasoned result ≡ Err (unread e))
-  no_rules reading.Iso8601 read is_prefix (Ok s) = refl
-  no_rules (reading.Described e) read is_prefix (Ok s) = refl
+  no_rules Reading.Iso8601 read is_prefix (Ok s) = refl
+  no_rules (Reading.Described e) read is_prefix (Ok s) = refl
   no_rules format read is_prefix (Err e) = refl
   no_rules format read is_prefix (Ok s) = absurd read
 
   says : (format : Reading) → ReadsRecord Y format text empty rest r → (is_prefix : Bool) (defaults : Defaults)
       → (is_prefix ≡ false → rest ≡ []) → (result : Result OffsetDateTime Refusal) → IsMoment Y (completed Y defaults r) result
       → ParsesAs Y format is_prefix text defaults (reasoned (before text rest result))
-  says reading.Iso8601 read is_prefix defaults all result moment = (
+  says Reading.Iso8601 read is_prefix defaults all result moment = (
     before text rest result,
     by_record (Iso8601.Reads Y) (Iso8601.Refuses Y) read is_prefix defaults all result moment,
-    no_rules reading.Iso8601 read is_prefix (before text rest result),
+    no_rules Reading.Iso8601 read is_prefix (before text rest result),
   )
-  says (reading.Described e) read is_prefix defaults all result moment = (
+  says (Reading.Described e) read is_prefix defaults all result moment = (
     before text rest result,
     by_record (Description.Reads Y (steps_shape e)) (Description.Refuses Y (steps_shape e)) read is_prefix defaults all result moment,
-    no_rules (reading.Described e) read is_prefix (before text rest result),
+    no_rules (Reading.Described e) read is_prefix (before text rest result),
   )
   says format read is_prefix defaults all result moment = absurd read
 

@@ -1,39 +1,18 @@
 -- The timestamps of access logs parse back.
-use Rattle.std.specs.Prelude.{Option, MatchOption, bytes_eq, unsigned_abs}
-use Rattle.std.proofs.Common.{◌≡◌, ◌≢◌, ℕ, List, [], Bool, true, false, None, Some, Ok, Err, ap, sym, ◌∙◌, refl, subst, codes, Decides, pos, ◌∷◌, arith}
-use Rattle.std.proofs.lemmas.Slice.Eq.{bytes_eq-Decides}
-use Rattle.time_values.specs.Dates as Dates
-use Rattle.time_values.specs.Moments.{offset_date, offset_time, offset_of}
-use Rattle.time_values.specs.Offsets as Offsets
-use Rattle.time_values.specs.Calendar.{greatest_year}
-use Rattle.time_values.specs.Shown.{is_behind}
-use Rattle.time_values.specs.Times as Times
-use Rattle.time_values.specs.declared.offset_date_time.OffsetDateTime.{OffsetDateTime}
-use Rattle.time_digits.specs.Digits.{NoDigitFirst}
-use Rattle.time_digits.specs.declared.Padding.TheVariants.{Zero}
-use Rattle.time_components.specs.Tree.{Tree, sequence, steps_shape}
-use Rattle.time_components.specs.declared.inspect.Step.{Step}
-use Rattle.time_components.specs.declared.format_description.Component.TheVariants as part
-use Rattle.time_descriptions.specs.Components.{Read, modifier, modifiers, bracketed}
-use Rattle.time_descriptions.specs.Description.{shape, version_of}
-use Rattle.time_descriptions.specs.Grammar.{Describes, leaf, group_word, items_by, item}
+use Rattle.std.proofs.Common.{Option, MatchOption, bytes_eq, unsigned_abs, ◌≡◌, ◌≢◌, ℕ, List, [], true, false, None, Some, Ok, Err, ap, sym, ◌∙◌, refl, subst, codes, pos, ◌∷◌, arith}
+use Rattle.std.proofs.lemmas.{Bool.false_from_ne_true, Slice.Eq.bytes_eq-Decides}
+use Rattle.time_digits.specs.{Digits.NoDigitFirst, declared.Padding.TheVariants.Zero}
 use Rattle.time_descriptions.specs.Items.{Item, items_of, trees_of, literal, component}
-use Rattle.time_descriptions.specs.Strftime.{DescribesStrftime}
-use Rattle.time_descriptions.specs.declared.leaf.Version.{Version}
-use Rattle.time_descriptions.specs.declared.description.Description.{Description}
-use Rattle.time_descriptions.specs.Modifiers.{component_of}
 use Rattle.time_descriptions.specs.Values.{component_names, modifier_keys, representations, signs, look_up}
-use Rattle.time_formatting.specs.Components.{SignedStops, PaddedStops}
-use Rattle.time_formatting.specs.Numbers.{year_sign}
-use Rattle.time_record.specs.Record.{Record, empty}
-use Rattle.restamp_formats.specs.Laws.{OneTree, CommonReadsBack}
+use Rattle.time_descriptions.specs.{Components.Read, Components.modifier, Components.modifiers, Components.bracketed, Grammar.leaf, Grammar.group_word, Grammar.items_by, Grammar.item, declared.leaf.Version.Version, Modifiers.component_of}
+use Rattle.time_formatting.specs.{Components.SignedStops, Components.PaddedStops, Numbers.year_sign}
+use Rattle.time_values.specs.Dates as Dates
+use Rattle.time_values.specs.Offsets as Offsets
+use Rattle.time_values.specs.Times as Times
+use Rattle.restamp_formats.specs.Common.{offset_date, offset_time, offset_of, greatest_year, is_behind, OffsetDateTime, Tree, sequence, steps_shape, Step, shape, version_of, Describes, DescribesStrftime, Description, Record, empty, Named, Reading, MOST_STEPS, Component, Writing}
 use Rattle.restamp_formats.specs.Naming.{FormatName, counted, complete, brackets, strftime, unknown, format_name_of, description_name, writing_named, meaning_of, as_tree, Means, common_text, as_complete}
-use Rattle.restamp_formats.specs.declared.form.Named.{Named}
-use Rattle.restamp_formats.specs.declared.form.Writing.TheVariants as writing
-use Rattle.restamp_formats.specs.declared.reading.Reading.{Reading}
-use Rattle.restamp_formats.specs.declared.reading.Reading.TheVariants as reading
-use Rattle.restamp_formats.specs.declared.reading.TheConstants.{MOST_STEPS}
 use Rattle.restamp_formats.specs.ComponentValues.{pieces, AllStop, DeterminesMoment, ReadsTree, no_defaults, clock, HasAll}
+use Rattle.restamp_formats.specs.Laws.{OneTree, CommonReadsBack}
 use Rattle.restamp_formats.proofs.ComponentValueLemmas.{says_all_told, signs_tell}
 
 -- ---- A text that names both a format to parse by and a description to write by has one tree
@@ -53,10 +32,10 @@ one_strftime text a b x y = x.1 ∙ sym y.1
 
 -- the format with a tree as its meaning
 abbrev ByTree : Reading → Tree → Type 0
-ByTree format tree = (e : List Step) × (format ≡ reading.Described e) × (steps_shape e ≡ tree)
+ByTree format tree = (e : List Step) × (format ≡ Reading.Described e) × (steps_shape e ≡ tree)
 
 by_tree : (format : Reading) (tree : Tree) → meaning_of format ≡ as_tree tree → ByTree format tree
-by_tree (reading.Described d) tree e = let same : steps_shape d ≡ tree = cc in (d, refl, same)
+by_tree (Reading.Described d) tree e = let same : steps_shape d ≡ tree = cc in (d, refl, same)
 by_tree format tree e = absurd cc
 
 pub same_as_tree : (a b : Tree) → as_tree a ≡ as_tree b → a ≡ b
@@ -75,11 +54,8 @@ one_format_name way format tree means writes = absurd cc
 
 -- a text with a description isn't that name
 not_that : (text name : List ℕ) → description_name text ≢ unknown → description_name name ≡ unknown → bytes_eq text name ≡ false
-not_that text name known none = by_test (bytes_eq text name) (bytes_eq-Decides text name)
-  where
-    by_test : (test : Bool) → Decides test (text ≡ name) → test ≡ false
-    by_test true same = absurd (known (ap description_name (same.0 refl) ∙ none))
-    by_test false other = refl
+not_that text name known none =
+    false_from_ne_true _ (λ e. known (ap description_name ((bytes_eq-Decides text name).0 e) ∙ none))
 
 module _ (text : List ℕ) (known : description_name text ≢ unknown) (unnamed : writing_named text ≡ None) where
   same_way : format_name_of text ≡ description_name text
@@ -91,8 +67,8 @@ module _ (text : List ℕ) (known : description_name text ≢ unknown) (unnamed 
 by_name : (text : List ℕ) (format : Reading) (d : Description MOST_STEPS) (name : Option Named) → writing_named text ≡ name
     → Means (format_name_of text) (meaning_of format)
     → MatchOption name
-    ((e : Description MOST_STEPS) × Means (description_name text) (as_tree (shape e)) × (writing.Described d ≡ writing.Described e))
-    (λ n. writing.Described d ≡ writing.Named n)
+    ((e : Description MOST_STEPS) × Means (description_name text) (as_tree (shape e)) × (Writing.Described d ≡ Writing.Described e))
+    (λ n. Writing.Described d ≡ Writing.Named n)
     → ByTree format (shape d)
 by_name text format d None unnamed means (e, writes, same) =
     let way = same_way text (λ none. subst (λ (w : FormatName). Means w (as_tree (shape e))) none writes) unnamed in
@@ -104,26 +80,26 @@ by_name text format d (Some n) unnamed means is = absurd cc
 pub one_tree : OneTree
 one_tree text format d means writes = by_name text format d (writing_named text) refl means writes
 
-same_described : (d e : Description MOST_STEPS) → writing.Described d ≡ writing.Described e → d ≡ e
+same_described : (d e : Description MOST_STEPS) → Writing.Described d ≡ Writing.Described e → d ≡ e
 same_described d e same = cc
 
 -- the items of the description of access logs
 abbrev common_items : List Item
 common_items =
-    component (part.Day (record { padding = Zero }))
+    component (Component.Day (record { padding = Zero }))
     ∷ literal 47 []
-    ∷ component (part.MonthShort (record { case_sensitive = true }))
+    ∷ component (Component.MonthShort (record { case_sensitive = true }))
     ∷ literal 47 []
-    ∷ component (part.CalendarYearFullExtendedRange (record { padding = Zero; sign_is_mandatory = false }))
+    ∷ component (Component.CalendarYearFullExtendedRange (record { padding = Zero; sign_is_mandatory = false }))
     ∷ literal 58 []
-    ∷ component (part.Hour24 (record { padding = Zero }))
+    ∷ component (Component.Hour24 (record { padding = Zero }))
     ∷ literal 58 []
-    ∷ component (part.Minute (record { padding = Zero }))
+    ∷ component (Component.Minute (record { padding = Zero }))
     ∷ literal 58 []
-    ∷ component (part.Second (record { padding = Zero }))
+    ∷ component (Component.Second (record { padding = Zero }))
     ∷ literal 32 []
-    ∷ component (part.OffsetHour (record { padding = Zero; sign_is_mandatory = true }))
-    ∷ component (part.OffsetMinute (record { padding = Zero }))
+    ∷ component (Component.OffsetHour (record { padding = Zero; sign_is_mandatory = true }))
+    ∷ component (Component.OffsetMinute (record { padding = Zero }))
     ∷ []
 
 abbrev common_tree : Tree
@@ -169,8 +145,8 @@ module _ (v : OffsetDateTime) (none : Times.nanosecond (offset_time v) ≡ 0) (m
 
 -- the format of that name
 complete_tree : (format : Reading) (tree : Tree) → meaning_of format ≡ as_complete tree
-    → (e : List Step) × (format ≡ reading.Complete e) × (steps_shape e ≡ tree)
-complete_tree (reading.Complete d) tree e = let same : steps_shape d ≡ tree = cc in (d, refl, same)
+    → (e : List Step) × (format ≡ Reading.Complete e) × (steps_shape e ≡ tree)
+complete_tree (Reading.Complete d) tree e = let same : steps_shape d ≡ tree = cc in (d, refl, same)
 complete_tree format tree e = absurd cc
 
 pub common_reads_back : CommonReadsBack greatest_year

@@ -1,39 +1,17 @@
 -- A tree that determines a moment.
-use Rattle.std.proofs.Common.{◌≡◌, ◌≤◌, ◌<◌, ◌-◌, ◌^◌, ℕ, ℤ, pos, neg_ℤ, unsigned_abs, true, false, List, [], ◌∷◌, None, Some, Ok}
-use Rattle.std.proofs.Common.{Err, inr, refl, sym, ap, ◌∙◌, subst, arith}
-use Rattle.std.specs.Prelude.{◌==◌, if◌then◌else◌, Option, MatchOption, option_and_then, nat_le}
+use Rattle.std.proofs.Common.{◌≡◌, ◌≤◌, ◌<◌, ◌-◌, ◌^◌, ℕ, ℤ, pos, neg_ℤ, unsigned_abs, true, false, List, [], ◌∷◌, None, Some, Ok, Err, inr, refl, sym, ap, ◌∙◌, subst, arith, ◌==◌, if◌then◌else◌, Option, MatchOption, option_and_then, nat_le}
+use Rattle.std.proofs.{lemmas.Bool.le-leb, lemmas.Bool.Decides.nat_tests, Math.Nat.div-mul-le_self, lemmas.Option.same_Some, lemmas.Option.none-some, lemmas.Option.option_and_then_some}
 use Rattle.std.specs.Option.{option_map_or, option_or}
-use Rattle.std.proofs.lemmas.Bool.{le-leb}
-use Rattle.std.proofs.lemmas.Bool.Decides.{nat_tests}
-use Rattle.std.proofs.Math.Nat.{div-mul-le_self}
-use Rattle.std.proofs.lemmas.Option.{same_Some, none-some, option_and_then_some}
-use Rattle.time_values.specs.Calendar.{IsBetween, month_length, year_length, greatest_year}
-use Rattle.time_values.specs.Dates.{is_within}
-use Rattle.time_values.specs.Names.{month_number}
-use Rattle.time_values.specs.Refusal.{insufficient}
-use Rattle.time_values.specs.declared.date.Date.{Date}
-use Rattle.time_values.specs.declared.month.Month.{Month}
-use Rattle.time_values.specs.declared.time.Time.{Time}
-use Rattle.time_values.specs.declared.utc_offset.UtcOffset.{UtcOffset}
-use Rattle.time_values.specs.Dates as Dates
-use Rattle.time_values.specs.Moments.{offset_date, offset_of, offset_time}
-use Rattle.time_values.specs.Offsets as Offsets
-use Rattle.time_values.specs.Offsets.{offset_refusal}
-use Rattle.time_values.specs.Times.{HasClock, time_refusal}
-use Rattle.time_values.specs.declared.offset_date_time.OffsetDateTime.{OffsetDateTime}
-use Rattle.time_values.proofs.InstantLemmas.{ordinal_in}
-use Rattle.time_values.proofs.YearLemmas.{abs_within, year_length-leap_day}
+use Rattle.time_values.specs.{Calendar.IsBetween, Calendar.month_length, Calendar.year_length, Dates.is_within, Names.month_number, declared.month.Month.Month, Offsets.offset_refusal, Times.HasClock, Times.time_refusal}
+use Rattle.time_values.proofs.{InstantLemmas.ordinal_in, YearLemmas.abs_within, YearLemmas.year_length-leap_day}
 use Rattle.time_formatting.proofs.SameTexts.{signed-minutes, signed-seconds}
-use Rattle.time_components.specs.declared.format_description.Component.{Component}
-use Rattle.time_components.specs.declared.format_description.Component.TheVariants as component
-use Rattle.time_formatting.specs.Components.{count_of, hour_12, kept, value_of}
-use Rattle.time_record.specs.Components.{put_value}
-use Rattle.time_record.specs.Record.{Record, empty}
-use Rattle.time_record.specs.Resolution.{IsMoment, IsMomentOfParts, IsDated, IsTimed, IsOffset, IsConstructed, clock_at, clock_of, hour_of}
-use Rattle.time_record.specs.Resolution.{is_leap_second, stand_in, Row, by_ordinal, by_month_and_day, row_of_two, row_of_three, full_year, IsRowDate}
-use Rattle.restamp_formats.specs.Laws.{AllValuesDetermine, SignsDetermine}
-use Rattle.restamp_formats.specs.Reading.{completed}
+use Rattle.time_formatting.specs.Components.{count_of, kept}
+use Rattle.time_record.specs.Resolution.{IsDated, IsConstructed, clock_at, clock_of, hour_of, Row, IsRowDate}
+use Rattle.time_values.specs.Dates as Dates
+use Rattle.time_values.specs.Offsets as Offsets
+use Rattle.restamp_formats.specs.Common.{greatest_year, insufficient, Date, Time, UtcOffset, offset_date, offset_of, offset_time, OffsetDateTime, Component, hour_12, value_of, put_value, Record, empty, IsMoment, IsMomentOfParts, IsTimed, IsOffset, is_leap_second, stand_in, by_ordinal, by_month_and_day, row_of_two, row_of_three, full_year}
 use Rattle.restamp_formats.specs.ComponentValues.{Piece, verbatim, part, pieces, put_values, with_value_of, with_values_of, clock, HasAll}
+use Rattle.restamp_formats.specs.{Laws.AllValuesDetermine, Laws.SignsDetermine, Reading.completed}
 use Rattle.restamp_formats.proofs.ParseLemmas.{on_none, on_some}
 
 month_short : (y : ℤ) (m : ℕ) → month_length y m ≤ 31
@@ -75,27 +53,27 @@ module _ (v : OffsetDateTime) where
   -- setting a component's value gives the record with that value
   put_told : (c : Component) (r q : Record) → with_value_of greatest_year v c r ≡ Some q
       → put_value greatest_year c (value_of greatest_year v c) r ≡ Some q
-  put_told (component.Day m) r q e = rw (day_fits d) e
-  put_told (component.MonthShort m) r q e = e
-  put_told (component.MonthLong m) r q e = e
-  put_told (component.MonthNumerical m) r q e = e
-  put_told (component.Ordinal m) r q e = rw (ordinal_fits d) e
-  put_told (component.WeekdayShort m) r q e = e
-  put_told (component.WeekdayLong m) r q e = e
-  put_told (component.WeekdaySunday m) r q e = e
-  put_told (component.WeekdayMonday m) r q e = e
-  put_told (component.CalendarYearFullExtendedRange m) r q e = rw (size_fits greatest_year year d.year_in) e
-  put_told (component.CalendarYearFullStandardRange m) r q e = rw (size_fits greatest_year year d.year_in) e
-  put_told (component.Hour12 m) r q e = rw (half_fits t.hour) e
-  put_told (component.Hour24 m) r q e = rw (le-leb t.hour 23 (omega (arith, t.hour_in))) e
-  put_told (component.Minute m) r q e = rw (le-leb t.minute 59 (omega (arith, t.minute_in))) e
-  put_told (component.Period m) r q e = e
-  put_told (component.Second m) r q e = rw (le-leb t.second 60 (omega (arith, t.second_in))) e
-  put_told (component.Subsecond m) r q e = rw (kept_fits (count_of m.digits t.nanosecond) t.nanosecond t.nanosecond_in) e
-  put_told (component.OffsetHour m) r q e = rw (size_fits 25 o.hours o.hours_in) e
-  put_told (component.OffsetMinute m) r q e = rw (size_fits 59 o.minutes o.minutes_in) e
-  put_told (component.OffsetSecond m) r q e = rw (size_fits 59 o.seconds o.seconds_in) e
-  put_told (component.End m) r q e = e
+  put_told (Component.Day m) r q e = rw (day_fits d) e
+  put_told (Component.MonthShort m) r q e = e
+  put_told (Component.MonthLong m) r q e = e
+  put_told (Component.MonthNumerical m) r q e = e
+  put_told (Component.Ordinal m) r q e = rw (ordinal_fits d) e
+  put_told (Component.WeekdayShort m) r q e = e
+  put_told (Component.WeekdayLong m) r q e = e
+  put_told (Component.WeekdaySunday m) r q e = e
+  put_told (Component.WeekdayMonday m) r q e = e
+  put_told (Component.CalendarYearFullExtendedRange m) r q e = rw (size_fits greatest_year year d.year_in) e
+  put_told (Component.CalendarYearFullStandardRange m) r q e = rw (size_fits greatest_year year d.year_in) e
+  put_told (Component.Hour12 m) r q e = rw (half_fits t.hour) e
+  put_told (Component.Hour24 m) r q e = rw (le-leb t.hour 23 (omega (arith, t.hour_in))) e
+  put_told (Component.Minute m) r q e = rw (le-leb t.minute 59 (omega (arith, t.minute_in))) e
+  put_told (Component.Period m) r q e = e
+  put_told (Component.Second m) r q e = rw (le-leb t.second 60 (omega (arith, t.second_in))) e
+  put_told (Component.Subsecond m) r q e = rw (kept_fits (count_of m.digits t.nanosecond) t.nanosecond t.nanosecond_in) e
+  put_told (Component.OffsetHour m) r q e = rw (size_fits 25 o.hours o.hours_in) e
+  put_told (Component.OffsetMinute m) r q e = rw (size_fits 59 o.minutes o.minutes_in) e
+  put_told (Component.OffsetSecond m) r q e = rw (size_fits 59 o.seconds o.seconds_in) e
+  put_told (Component.End m) r q e = e
   put_told c r q e = absurd (none-some q e)
 
   put_all_told : (ps : List Piece) (r q : Record) → with_values_of greatest_year v ps r ≡ Some q

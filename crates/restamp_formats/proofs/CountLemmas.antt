@@ -1,13 +1,9 @@
 -- Units since 1970 have few digits.
-use Rattle.std.specs.Prelude.{neg_ℤ, ◌≤ℤ◌}
-use Rattle.std.specs.Fmt.{signed_decimal}
-use Rattle.std.specs.Int.{w128, cast_signed as to_z, cast_unsigned as of_z}
-use Rattle.std.proofs.Common.{suc, ◌≤◌, ℤ, pos, negsuc, length, arith}
-use Rattle.std.proofs.lemmas.Fmt.{length-decimal-le_wide}
-use Rattle.std.proofs.lemmas.Int.{ints, to_z-of_z}
-use Rattle.time_values.specs.Instants.{IsInstant, IsWhole}
-use Rattle.time_values.specs.Calendar.{greatest_year}
+use Rattle.std.proofs.Common.{neg_ℤ, ◌≤ℤ◌, suc, ◌≤◌, ℤ, pos, negsuc, length, arith}
+use Rattle.std.proofs.lemmas.{Fmt.length-decimal-le_wide, Int.ints, Int.to_z-of_z}
+use Rattle.std.specs.{Fmt.signed_decimal, Int.w128, Int.cast_signed as to_z, Int.cast_unsigned as of_z}
 use Rattle.time_values.proofs.InstantLemmas.{first_instant_is, last_instant_is}
+use Rattle.restamp_formats.specs.Common.{IsInstant, IsWhole, greatest_year}
 
 -- a number of 33 digits
 wide : (z : ℤ) → neg_ℤ (pos 1_000_000_000_000_000_000_000_000_000_000_000) ≤ℤ z → z ≤ℤ pos 1_000_000_000_000_000_000_000_000_000_000_000

@@ -1,33 +1,13 @@
 -- A moment's text by a tree parses back by the tree. `Y` is the greatest year.
-use Rattle.std.specs.Prelude.{Option, MatchOption, is_some, if◌then◌else◌, Result, option_and_then}
-use Rattle.std.proofs.Common.{arith, ◌≡◌, ℕ, ℤ, Bool, true, false, None, Some, Ok, Err, inl, inr, refl, sym, ap, subst, ◌∙◌, List, [], ◌∷◌, ◌++◌, length, nat_le, append-nil, append_assoc}
-use Rattle.std.proofs.lemmas.Option.{option_and_then_some, same_Some}
-use Rattle.std.proofs.Math.Seq.{take-length}
-use Rattle.time_values.specs.declared.date.Date.{Date}
-use Rattle.time_values.specs.declared.offset_date_time.OffsetDateTime.{OffsetDateTime}
-use Rattle.time_values.specs.declared.utc_offset.UtcOffset.{UtcOffset}
-use Rattle.time_values.specs.Calendar.{greatest_year}
-use Rattle.time_values.specs.Shown.{Items}
-use Rattle.time_components.specs.Tree.{Tree, Trees, literal, component, sequence, optional, first_of, none, more, steps_shape}
-use Rattle.time_components.specs.declared.inspect.Step.{Step}
-use Rattle.time_formatting.specs.Components.{component_text, value_of}
-use Rattle.time_formatting.specs.Texts.{ComponentSpelled, text_after, texts_after, text_of, joined, and_then}
-use Rattle.time_formatting.specs.declared.walk.Unformattable.{Unformattable}
-use Rattle.time_formatting.specs.declared.walk.Unformattable.TheVariants.{TooLong}
+use Rattle.std.proofs.Common.{Option, MatchOption, is_some, if◌then◌else◌, Result, option_and_then, arith, ◌≡◌, ℕ, ℤ, Bool, true, false, None, Some, Ok, Err, inl, inr, refl, sym, ap, subst, ◌∙◌, List, [], ◌∷◌, ◌++◌, length, nat_le, append-nil, append_assoc}
+use Rattle.std.proofs.{lemmas.Option.option_and_then_some, lemmas.Option.same_Some, Math.Seq.take-length}
+use Rattle.time_formatting.specs.Texts.{ComponentSpelled, text_after, texts_after, joined, and_then}
 use Rattle.time_formatting.proofs.Spelled.{component_spelled}
-use Rattle.time_record.specs.Record.{Record, put, empty}
-use Rattle.time_record.specs.Resolution.{IsDated, IsOffset, IsMoment, IsMomentOfParts}
-use Rattle.time_record.specs.Components.{put_value}
-use Rattle.time_record.specs.Reading.{Reads, ReadsAll, ReadsSome, Refuses}
-use Rattle.time_parsing.specs.Outcome.{IsOutcome}
-use Rattle.restamp_formats.specs.Laws.{KeepsMoment}
+use Rattle.time_record.specs.{Resolution.IsDated, Reading.ReadsAll, Reading.Refuses}
+use Rattle.restamp_formats.specs.Common.{Date, OffsetDateTime, UtcOffset, greatest_year, Items, Tree, Trees, literal, component, sequence, optional, first_of, none, more, steps_shape, Step, component_text, value_of, text_of, Unformattable, Record, put, empty, IsOffset, IsMoment, IsMomentOfParts, put_value, Reads, ReadsSome, IsOutcome, Defaults, Reading}
 use Rattle.restamp_formats.specs.Reading.{has_year, completed, ParsesAs, said, is_negative_fraction, guarded, IsCompleted}
-use Rattle.restamp_formats.specs.declared.reading.Defaults.{Defaults}
-use Rattle.restamp_formats.specs.Form.{described}
 use Rattle.restamp_formats.specs.ComponentValues.{Piece, verbatim, part, pieces, all_pieces, whole_text, AllStop, or_nothing, put_values, DeterminesMoment, ReadsTree, no_defaults}
-use Rattle.restamp_formats.specs.Reason.{negative_fraction}
-use Rattle.restamp_formats.specs.declared.reading.Reading.{Reading}
-use Rattle.restamp_formats.specs.declared.reading.Reading.TheVariants as reading
+use Rattle.restamp_formats.specs.{Laws.KeepsMoment, Form.described, Reason.negative_fraction}
 use Rattle.restamp_formats.proofs.MissingFieldRecords.{CountedAt, count_stays, counted_moment, dated_parts, found, fraction_stays}
 
 -- ---- Defaults change no record that has all of a moment. `Y` is the greatest year.
@@ -101,10 +81,10 @@ module _ (Y : ℕ) (v : OffsetDateTime) where
     text_is : (t : Tree) (before bytes : List ℕ) → text_after Y v before t ≡ Ok bytes
         → bytes ≡ before ++ whole_text Y v (pieces t)
     text_is (literal text) before bytes e =
-        rw (append-nil text) (joined_is (nat_le (length (before ++ text)) 35) bytes (before ++ text) TooLong e)
+        rw (append-nil text) (joined_is (nat_le (length (before ++ text)) 35) bytes (before ++ text) Unformattable.TooLong e)
     text_is (component whole c) before bytes e =
         let (text, is, put) = and_then_ok (component_text Y v c) (joined before) bytes e in
-        rw (is, append-nil text) (joined_is (nat_le (length (before ++ text)) 35) bytes (before ++ text) TooLong put)
+        rw (is, append-nil text) (joined_is (nat_le (length (before ++ text)) 35) bytes (before ++ text) Unformattable.TooLong put)
     text_is (sequence ts) before bytes e = texts_are ts before bytes e
     text_is (optional t) before bytes e = text_is t before bytes e
     text_is (first_of none) before bytes e = nothing_is before bytes e
@@ -188,18 +168,18 @@ module _ (d : List Step) (t : Tree) (v : OffsetDateTime) (bytes : List ℕ) (sam
       subst (λ u. Back u bytes defaults) (sym same) (says.after, back, says.is)
 
   not_guarded : is_negative_fraction text ≡ false
-      → Ok (said v (length bytes)) ≡ guarded (reading.Counted d) bytes (said v (length bytes))
+      → Ok (said v (length bytes)) ≡ guarded (Reading.Counted d) bytes (said v (length bytes))
   not_guarded plain =
       let none = ap is_negative_fraction (take-length bytes ∙ sym same_text) ∙ plain in
       sym (ap (λ refused. if refused then Err negative_fraction else Ok (said v (length bytes))) none)
 
 tree_says : (format : Reading) (defaults : Defaults) (t : Tree) (v : OffsetDateTime) (bytes : List ℕ)
     → ReadsTree greatest_year format defaults t v → text_of greatest_year v t ≡ Ok bytes → SaysAll format defaults v bytes
-tree_says (reading.Described d) defaults t v bytes (same, says) e =
+tree_says (Reading.Described d) defaults t v bytes (same, says) e =
     (Ok (said v (length bytes)), (Ok v, outcome d t v bytes same e defaults says, refl), refl)
-tree_says (reading.Complete d) defaults t v bytes (same, says) e =
+tree_says (Reading.Complete d) defaults t v bytes (same, says) e =
     (Ok (said v (length bytes)), (Ok v, outcome d t v bytes same e no_defaults says, refl), refl)
-tree_says (reading.Counted d) defaults t v bytes (same, says, plain) e = (
+tree_says (Reading.Counted d) defaults t v bytes (same, says, plain) e = (
   Ok (said v (length bytes)),
   (Ok v, outcome d t v bytes same e defaults says, refl),
   not_guarded d t v bytes same e plain,

@@ -1,26 +1,11 @@
 -- Formats whose tables of zones differ only in names that a text doesn't have parse it alike.
-use Rattle.std.proofs.Common.{◌≡◌, ℕ, zero, suc, ℤ, pos, Bool, true, false, List, [], ◌∷◌, ◌++◌, ◌+◌, ◌-◌, take, drop, sym, ap, subst, refl, ◌∙◌, None, Some, Ok, Err, append_assoc, append-nil, inl, inr}
-use Rattle.std.proofs.lemmas.List.{take-append-drop}
-use Rattle.std.proofs.lemmas.Result.{MatchResult-weaker}
-use Rattle.std.specs.Prelude.{Option, Result, ◌-ℤ◌, MatchOption, MatchResult, MatchBool, slice_range}
-use Rattle.time_values.specs.Moments.{offset_of}
-use Rattle.time_values.specs.Refusal.{Refusal}
-use Rattle.time_values.specs.declared.offset_date_time.OffsetDateTime.{OffsetDateTime}
-use Rattle.time_values.specs.declared.utc_offset.UtcOffset.{UtcOffset}
-use Rattle.time_zones.specs.Suffix.{Checked, GoesWith, GoesWithNamed, GoesWithZone, IsSuffix, Zone, ZoneTag, Tag, IsZoneText, at_offset as by_offset, bracketed, critical_key, named, tags_text, StandsIn, IsNameIn}
-use Rattle.time_zones.specs.declared.checking.SuffixFault.TheVariants.{UnknownZone}
-use Rattle.time_zones.specs.declared.finding.NamedZone.{NamedZone}
-use Rattle.time_zones.specs.Finding.{zone_named}
-use Rattle.time_zones.specs.declared.zones.Zones.{Zones}
+use Rattle.std.proofs.Common.{◌≡◌, ℕ, zero, suc, ℤ, pos, Bool, true, false, List, [], ◌∷◌, ◌++◌, ◌+◌, ◌-◌, take, drop, sym, ap, subst, refl, ◌∙◌, None, Some, Ok, Err, append_assoc, append-nil, inl, inr, Option, Result, ◌-ℤ◌, MatchOption, MatchResult, MatchBool, slice_range}
+use Rattle.std.proofs.lemmas.{List.take-append-drop, Result.MatchResult-weaker}
+use Rattle.time_zones.specs.{Suffix.at_offset as by_offset, Suffix.tags_text, Suffix.StandsIn, declared.checking.SuffixFault.TheVariants.UnknownZone}
+use Rattle.restamp_formats.specs.Common.{offset_of, Refusal, OffsetDateTime, UtcOffset, Checked, GoesWith, GoesWithNamed, GoesWithZone, IsSuffix, Zone, ZoneTag, Tag, IsZoneText, bracketed, critical_key, named, IsNameIn, NamedZone, zone_named, Zones, Clocks, Defaults, Reading, Match}
 use Rattle.restamp_formats.specs.Zoned.{IsChecked, IsLongestSuffix, IsSuffixed, Suffix, has_tail, tells_offset}
-use Rattle.restamp_formats.specs.Laws.{SameZones, AreEquivalent, AllEquivalent}
 use Rattle.restamp_formats.specs.Reading.{IsReadInFront, ParsesAs, ParsesInZone, ParsesLocally, undated, at_offset, in_year, is_after, year_after, AreYearsTried, IsDated, AreTried, IsReadInTurn}
-use Rattle.restamp_formats.specs.Reason.{Reason, unread, is_local_time_error}
-use Rattle.restamp_formats.specs.declared.local.Clocks.{Clocks}
-use Rattle.restamp_formats.specs.declared.reading.Defaults.{Defaults}
-use Rattle.restamp_formats.specs.declared.reading.Reading.{Reading}
-use Rattle.restamp_formats.specs.declared.reading.Reading.TheVariants as reading
-use Rattle.restamp_formats.specs.declared.reading.Match.{Match}
+use Rattle.restamp_formats.specs.{Laws.SameZones, Laws.AreEquivalent, Laws.AllEquivalent, Reason.Reason, Reason.unread, Reason.is_local_time_error}
 use Rattle.restamp_formats.proofs.FrontLemmas.{EndsBefore, front_ends}
 
 -- a part of a part is a part of the whole
@@ -28,11 +13,7 @@ pub deeper : (name part bytes : List ℕ) → StandsIn name part → StandsIn pa
 deeper name part bytes p q = record {
   before = q.before ++ p.before;
   after = p.after ++ q.after;
-  whole =
-      q.whole ∙ ap (λ l. q.before ++ (l ++ q.after)) p.whole
-      ∙ ap (λ l. q.before ++ l) (append_assoc p.before (name ++ p.after) q.after)
-      ∙ ap (λ l. q.before ++ (p.before ++ l)) (append_assoc name p.after q.after)
-      ∙ sym (append_assoc q.before p.before (name ++ (p.after ++ q.after)));
+  whole = q.whole ∙ ap (λ l. q.before ++ (l ++ q.after)) p.whole ∙ simp append_assoc;
 }
 
 pub of_take : (n : ℕ) (bytes : List ℕ) → StandsIn (take n bytes) bytes
@@ -96,11 +77,11 @@ goes None None zones other tells m a same p = p
 goes (Some z) None zones other tells m a same p = goes_zone z.zone zones other tells m a (λ name e. same z name refl e) p
 
 -- what follows from each value, or from each truth value, follows from any
-option_weaker : {V : Type 0} (o : Option V) (P : Type 0) {Q R : V → Type 0} → MatchOption o P Q → ((v : V) → Q v → R v) → MatchOption o P R
+pub option_weaker : {V : Type 0} (o : Option V) (P : Type 0) {Q R : V → Type 0} → MatchOption o P Q → ((v : V) → Q v → R v) → MatchOption o P R
 option_weaker None P h f = h
 option_weaker (Some v) P h f = f v h
 
-bool_weaker : (b : Bool) {P P' Q Q' : Type 0} → MatchBool b P Q → (P → P') → (Q → Q') → MatchBool b P' Q'
+pub bool_weaker : (b : Bool) {P P' Q Q' : Type 0} → MatchBool b P Q → (P → P') → (Q → Q') → MatchBool b P' Q'
 bool_weaker true h f g = f h
 bool_weaker false h f g = g h
 
@@ -132,8 +113,8 @@ Alike Y is_prefix text format other =
 says_alike : (Y : ℕ) (is_prefix : Bool) (text : List ℕ) (format other : Reading) → AreEquivalent text format other → Alike Y is_prefix text format other
 says_alike Y is_prefix text format other (inl e) d a p = subst (λ (f : Reading). ParsesAs Y f is_prefix text d a) e p
 says_alike Y is_prefix text format other (inr (zones, same, e, f, h)) d a p =
-    let q : ParsesAs Y (reading.Zoned zones) is_prefix text d a = subst (λ (r : Reading). ParsesAs Y r is_prefix text d a) e p in
-    let r : ParsesAs Y (reading.Zoned same) is_prefix text d a = (q.0, q.1, told_alike zones same text h Y is_prefix q.0 a q.1 q.2) in
+    let q : ParsesAs Y (Reading.Zoned zones) is_prefix text d a = subst (λ (r : Reading). ParsesAs Y r is_prefix text d a) e p in
+    let r : ParsesAs Y (Reading.Zoned same) is_prefix text d a = (q.0, q.1, told_alike zones same text h Y is_prefix q.0 a q.1 q.2) in
     subst (λ (r : Reading). ParsesAs Y r is_prefix text d a) (sym f) r
 
 -- equal matches have equal results: in zones, with years, by several formats

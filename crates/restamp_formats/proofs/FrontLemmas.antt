@@ -1,37 +1,21 @@
 -- A moment of RFC 3339 that is all of some bytes is also a prefix of more.
+use Rattle.std.proofs.Common.{◌≡◌, ◌≤◌, ◌-◌, ◌∙◌, ℕ, Bool, IsTrue, true, false, List, [], ◌∷◌, ◌++◌, length, take, drop, length-drop, take-append-drop, ap, refl, subst, inl, inr, arith, append_assoc, Option, Some, None, Ok, ◌+◌, Err, sym, length-append, nat_lt, ◌&&◌}
+use Rattle.std.proofs.{Math.Seq.take-length, Math.Seq.take-append_seam, Math.Seq.drop-append_seam, lemmas.Bool.and_parts, lemmas.Bool.Decides.nat_tests}
 use Rattle.std.specs.Char.{to_ascii_lowercase}
-use Rattle.std.proofs.Common.{◌≡◌, ◌≤◌, ◌-◌, ◌∙◌, ℕ, Bool, IsTrue, true, false, List, [], ◌∷◌, ◌++◌, length, take, drop, length-drop, take-append-drop, ap, refl, subst, inl, inr, arith, append_assoc, Option, Some, None, Ok, ◌+◌, Err, sym, length-append, nat_lt}
-use Rattle.std.proofs.Math.Seq.{take-length, take-append_seam, drop-append_seam}
-use Rattle.std.proofs.lemmas.Bool.{and_parts}
-use Rattle.std.proofs.lemmas.Bool.Decides.{nat_tests}
-use Rattle.std.specs.Prelude.{◌&&◌}
-use Rattle.time_values.specs.Calendar.{greatest_year}
-use Rattle.time_values.specs.declared.offset_date_time.OffsetDateTime.{OffsetDateTime}
-use Rattle.time_zones.specs.Suffix.{GoesWith, IsSuffix, Tag, ZoneTag, critical_key, is_time_end}
-use Rattle.time_zones.specs.declared.zones.Zones.{Zones}
+use Rattle.time_zones.specs.Suffix.{is_time_end}
 use Rattle.time_digits.specs.Digits.{Cut, IsDigit, IsDigitRun, NoDigitFirst, sign_byte}
-use Rattle.time_readers.specs.Readers.{Stand}
 use Rattle.time_readers.specs.Rfc3339.{Asks, HasForm, IsOffsetColon, IsOffsetMinute, IsSubsecond, NoDotFirst, date_places, nothing_read, offset_places, time_places, to_second_places}
-use Rattle.time_readers.specs.declared.rfc3339.Numbers.{Numbers}
-use Rattle.time_readers.specs.declared.rfc3339.Place.{Place}
-use Rattle.time_readers.specs.declared.rfc3339.Place.TheVariants as place
-use Rattle.time_readers.specs.Direct.{RefusesRfc3339}
+use Rattle.time_readers.specs.{Readers.Stand, declared.rfc3339.Numbers.Numbers, declared.rfc3339.Place.Place}
 use Rattle.time_readers.proofs.Walking.{Stand-append, Stand-ends, Stand-split}
-use Rattle.time_record.specs.Record.{empty}
-use Rattle.time_record.specs.Resolution.{IsMoment}
 use Rattle.time_parsing.specs.Rfc3339.{Reads, Refuses}
-use Rattle.time_parsing.specs.Outcome.{IsOutcome, IsFront, direct}
-use Rattle.restamp_formats.specs.Reading.{IsReadBy, IsReadInFront, said, ParsesAs}
-use Rattle.restamp_formats.specs.Laws.{ReadsSuffixedBack}
+use Rattle.restamp_formats.specs.Common.{greatest_year, OffsetDateTime, GoesWith, IsSuffix, Tag, ZoneTag, critical_key, Zones, RefusesRfc3339, empty, IsMoment, IsOutcome, IsFront, direct, Defaults, Match, Reading}
 use Rattle.restamp_formats.specs.Zoned.{IsLongestSuffix, IsSuffixed, Suffix, has_tail, tells_offset}
-use Rattle.restamp_formats.specs.declared.reading.Defaults.{Defaults}
-use Rattle.restamp_formats.specs.declared.reading.Reading.TheVariants as reading
-use Rattle.restamp_formats.specs.declared.reading.Match.{Match}
+use Rattle.restamp_formats.specs.{Reading.IsReadBy, Reading.IsReadInFront, Reading.said, Reading.ParsesAs, Laws.ReadsSuffixedBack}
 use Rattle.restamp_formats.proofs.OneReading.{one_has}
 
 -- places without a fraction
 abbrev is_plain : Place → Bool
-is_plain place.Subsecond = false
+is_plain Place.Subsecond = false
 is_plain p = true
 
 abbrev are_plain : List Place → Bool
@@ -70,15 +54,15 @@ module _ (tail : List ℕ) where
   -- a place keeps its syntax if more bytes follow
   asked : (p : Place) (n m : Numbers) (text xs : List ℕ) → (is_plain p ≡ false → 1 ≤ length xs) → Asks true p n text xs m
       → Asks true p n text (xs ++ tail) m
-  asked place.Year n m text xs some h = (h.0, run 4 text xs h.0 h.1, h.2)
-  asked place.Month n m text xs some h = (h.0, (run 2 text xs h.0 h.1.0, h.1.1), h.2, h.3)
-  asked place.Day n m text xs some h = (h.0, (run 2 text xs h.0 h.1.0, h.1.1), h.2)
-  asked place.Hour n m text xs some h = (h.0, (run 2 text xs h.0 h.1.0, h.1.1), h.2)
-  asked place.Minute n m text xs some h = (h.0, (run 2 text xs h.0 h.1.0, h.1.1), h.2)
-  asked place.Second n m text xs some h = (h.0, (run 2 text xs h.0 h.1.0, h.1.1), h.2)
-  asked place.Subsecond n m text xs some h = (h.0, subsecond text xs h.0 (some refl) h.1, h.2)
-  asked place.OffsetHour n m text xs some (inl utc) = inl utc
-  asked place.OffsetHour n m text xs some (inr signed) = inr (record {
+  asked Place.Year n m text xs some h = (h.0, run 4 text xs h.0 h.1, h.2)
+  asked Place.Month n m text xs some h = (h.0, (run 2 text xs h.0 h.1.0, h.1.1), h.2, h.3)
+  asked Place.Day n m text xs some h = (h.0, (run 2 text xs h.0 h.1.0, h.1.1), h.2)
+  asked Place.Hour n m text xs some h = (h.0, (run 2 text xs h.0 h.1.0, h.1.1), h.2)
+  asked Place.Minute n m text xs some h = (h.0, (run 2 text xs h.0 h.1.0, h.1.1), h.2)
+  asked Place.Second n m text xs some h = (h.0, (run 2 text xs h.0 h.1.0, h.1.1), h.2)
+  asked Place.Subsecond n m text xs some h = (h.0, subsecond text xs h.0 (some refl) h.1, h.2)
+  asked Place.OffsetHour n m text xs some (inl utc) = inl utc
+  asked Place.OffsetHour n m text xs some (inr signed) = inr (record {
     sign = signed.sign;
     digits = signed.digits;
     hour = signed.hour;
@@ -86,7 +70,7 @@ module _ (tail : List ℕ) where
     run = (run 2 signed.digits xs signed.hour signed.run.0, signed.run.1);
     says = signed.says;
   })
-  asked place.OffsetMinute n m text xs some h = offset_minute n.is_utc n m text xs h
+  asked Place.OffsetMinute n m text xs some h = offset_minute n.is_utc n m text xs h
   asked p n m text xs some h = h
 
   cut : (p : Place) (n m : Numbers) (bytes xs : List ℕ) → (is_plain p ≡ false → 1 ≤ length xs) → Cut (Asks true p n) bytes xs m
@@ -103,7 +87,7 @@ module _ (tail : List ℕ) where
       (s.0 ++ tail, s.1, cut p n s.1 bytes s.0 (λ is. absurd (let plain = parts.0 in cc)) s.2, stand ps s.1 m s.0 rest parts.1 s.3)
 
   -- an offset has at least one byte
-  offset_long : (n m : Numbers) (bytes rest : List ℕ) → Cut (Asks true place.OffsetHour n) bytes rest m → 1 ≤ length bytes
+  offset_long : (n m : Numbers) (bytes rest : List ℕ) → Cut (Asks true Place.OffsetHour n) bytes rest m → 1 ≤ length bytes
   offset_long n m bytes rest (text, is, inl utc) =
       let long : length bytes ≡ length (utc.0.0 ∷ rest) = ap length (is ∙ ap (λ x. x ++ rest) utc.0.1) in omega (arith, long)
   offset_long n m bytes rest (text, is, inr signed) =
@@ -112,14 +96,14 @@ module _ (tail : List ℕ) where
   form : (bytes : List ℕ) (n : Numbers) → HasForm true bytes [] n → HasForm true (bytes ++ tail) tail n
   unfolding Stand
   form bytes n h =
-      let first = Stand-split (Asks true) to_second_places (place.Subsecond ∷ offset_places) nothing_read n bytes [] h in
+      let first = Stand-split (Asks true) to_second_places (Place.Subsecond ∷ offset_places) nothing_read n bytes [] h in
       let mid = first.0 in
       let k = first.1.0 in
       let s = first.1.2 in
       let long = offset_long s.1 s.3.1 s.0 s.3.0 s.3.2 in
-      Stand-append (Asks true) to_second_places (place.Subsecond ∷ offset_places) nothing_read k n (bytes ++ tail) (mid ++ tail) tail
+      Stand-append (Asks true) to_second_places (Place.Subsecond ∷ offset_places) nothing_read k n (bytes ++ tail) (mid ++ tail) tail
       (stand to_second_places nothing_read k bytes mid refl first.1.1)
-      (s.0 ++ tail, s.1, cut place.Subsecond k s.1 mid s.0 (λ is. long) s.2, stand offset_places s.1 n s.0 [] refl s.3)
+      (s.0 ++ tail, s.1, cut Place.Subsecond k s.1 mid s.0 (λ is. long) s.2, stand offset_places s.1 n s.0 [] refl s.3)
 
 -- The moment of all the bytes is that of a prefix of more.
 pub front-moment : (bytes tail : List ℕ) (v : OffsetDateTime)
@@ -169,7 +153,7 @@ run_ends (a ∷ []) after rest v h = absurd (omega (arith, h.enough))
 run_ends (a ∷ b ∷ []) after rest v h = record { before = a ∷ []; end = b; is_end = digit_ends b h.digits.1.0; whole = refl }
 run_ends (a ∷ b ∷ c ∷ text) after rest v h = absurd (omega (arith, h.within))
 
-hour_ends : (n m : Numbers) (bytes rest : List ℕ) → Cut (Asks true place.OffsetHour n) bytes rest m → EndsBefore bytes rest
+hour_ends : (n m : Numbers) (bytes rest : List ℕ) → Cut (Asks true Place.OffsetHour n) bytes rest m → EndsBefore bytes rest
 hour_ends n m bytes rest (text, e, inl utc) = record {
   before = [];
   end = utc.0.0;
@@ -220,7 +204,7 @@ front_ends Y text s (Err f, front, e) = absurd cc
 
 -- the moment of a whole text
 whole-moment : (text : List ℕ) (defaults : Defaults) (v : OffsetDateTime)
-    → ParsesAs greatest_year reading.Rfc3339 false text defaults (Ok (said v (length text)))
+    → ParsesAs greatest_year Reading.Rfc3339 false text defaults (Ok (said v (length text)))
     → IsOutcome (IsMoment greatest_year) (Reads greatest_year) (Refuses greatest_year) text empty (Ok v)
 whole-moment text defaults v (Ok s, (Ok w, outcome, zoned_whole), is) =
     let same : said v (length text) ≡ said w (length text) = cc in
@@ -261,5 +245,5 @@ reads_suffixed_back zones defaults v text behind zone tags read says is goes rea
     let moment = subst (λ (front : List ℕ). IsOutcome (IsMoment greatest_year) (Reads greatest_year) (Refuses greatest_year) front empty (Ok v))
     (sym (take-append_seam text behind)) (whole-moment text defaults v says) in
     let front = front_said (text ++ behind) (length text) v (omega (arith, length-append text behind)) moment in
-    one_has (reading.Zoned zones) false (text ++ behind) defaults read (Ok (said v (length (text ++ behind)))) reads
+    one_has (Reading.Zoned zones) false (text ++ behind) defaults read (Ok (said v (length (text ++ behind)))) reads
     (Ok (said v (length text)), front, suffixed zones v text behind zone tags is goes)

@@ -1,9 +1,6 @@
 -- Results whose error is what a caller keeps of a reason.
-use Rattle.std.proofs.Common.{◌≡◌, Ok, Err, subst, sym}
-use Rattle.std.specs.Prelude.{Result}
-use Rattle.restamp_formats.specs.Reason.{Gives, Reason, erased_read, seen}
-use Rattle.restamp_formats.specs.declared.reading.Match.{Match}
-use Rattle.restamp_formats.specs.declared.reason.Reason.{Reason as Whole}
+use Rattle.std.proofs.Common.{◌≡◌, Ok, Err, subst, sym, Result}
+use Rattle.restamp_formats.specs.{Common.Match, Reason.Gives, Reason.Reason, Reason.erased, Reason.seen, declared.reason.Reason.Reason as Whole}
 
 -- A result that satisfies a stronger relation satisfies a weaker one.
 pub gives_so : {V E : Type 0} (IsOf : Reason → E → Type 0) {P Q : Result V Reason → Type 0} (result : Result V E)
@@ -13,6 +10,6 @@ gives_so IsOf (Err e) f p = (p.0, p.1, f (Err p.0) p.2)
 
 -- If all of a reason is kept, the result with its reason erased satisfies the relation.
 pub of_reason : (P : Result Match Reason → Type 0) (result : Result Match Whole)
-    → Gives (λ reason kept. seen kept ≡ reason) P result → P (erased_read result)
+    → Gives (λ reason kept. seen kept ≡ reason) P result → P (erased result)
 of_reason P (Ok found) p = p
 of_reason P (Err e) p = subst (λ (why : Reason). P (Err why)) (sym p.1) p.2

@@ -1,31 +1,11 @@
 -- No text parses as a moment by a format with a missing part. `Y` is the greatest year.
-use Rattle.std.proofs.Common.{arith, ◌≡◌, ℕ, zero, suc, ℤ, pos, Bool, true, false, List, [], None, Some, Ok, Err, inl, inr, refl, sym, ap, ◌∙◌}
-use Rattle.std.specs.Prelude.{Option, MatchOption, ◌-ℤ◌, ◌||◌, ◌&&◌, not, is_some, if◌then◌else◌, MatchBool}
-use Rattle.time_components.specs.Tree.{steps_shape, Tree}
-use Rattle.time_values.specs.Refusal.{Refusal}
-use Rattle.time_values.specs.declared.time.Time.{Time}
-use Rattle.time_values.specs.declared.offset_date_time.OffsetDateTime.{OffsetDateTime}
-use Rattle.time_values.specs.declared.utc_offset.UtcOffset.{UtcOffset}
-use Rattle.time_parsing.specs.Outcome.{over_record}
-use Rattle.time_record.specs.Reading.{Reads}
-use Rattle.time_record.specs.Record.{Record, empty}
-use Rattle.time_record.specs.Resolution.{IsMoment, IsMomentOfParts, IsTimed, stand_in, full_year, full_iso_year}
-use Rattle.restamp_formats.specs.MissingField.{always, format_missing_field, is_of, missing_field_of, says, has_day, has_iso_day, has_whole_iso_year, has_whole_year, ParsesNoMoment, has_default_year}
+use Rattle.std.proofs.Common.{arith, ◌≡◌, ℕ, zero, suc, ℤ, pos, Bool, true, false, List, [], None, Some, Ok, Err, inl, inr, refl, sym, ap, ◌∙◌, Option, MatchOption, ◌-ℤ◌, ◌||◌, ◌&&◌, not, is_some, if◌then◌else◌, MatchBool}
+use Rattle.std.proofs.lemmas.Bool.{false_from_ne_true, or_left, or_right}
+use Rattle.restamp_formats.specs.Common.{steps_shape, Tree, Refusal, Time, OffsetDateTime, UtcOffset, over_record, Reads, Record, empty, IsMoment, IsMomentOfParts, IsTimed, stand_in, full_year, full_iso_year, Kind, MissingField, Clocks, Defaults, Reading, Match, Part}
+use Rattle.restamp_formats.specs.MissingField.{always, format_missing_field, is_of, missing_field_of, has_kind, has_day, has_iso_day, has_whole_iso_year, has_whole_year, ParsesNoMoment, has_default_year}
 use Rattle.restamp_formats.specs.Reading.{AreYearsTried, IsCompleted, IsRead, IsReadBy, IsReadWith, ParsesAs, ParsesLocally, ParsesInZone, at_offset, completed, has_year, in_year, undated, year_after}
-use Rattle.restamp_formats.specs.ComponentValues.{no_defaults}
-use Rattle.restamp_formats.specs.Reason.{Reason}
-use Rattle.restamp_formats.specs.declared.missing_field.Kind.{Kind}
-use Rattle.restamp_formats.specs.declared.missing_field.Kind.TheVariants as kind
-use Rattle.restamp_formats.specs.declared.missing_field.MissingField.{MissingField}
-use Rattle.restamp_formats.specs.declared.missing_field.MissingField.TheVariants as missing_field
-use Rattle.restamp_formats.specs.declared.missing_field.Part.TheVariants as part
-use Rattle.restamp_formats.specs.declared.local.Clocks.{Clocks}
-use Rattle.restamp_formats.specs.declared.reading.Defaults.{Defaults}
-use Rattle.restamp_formats.specs.declared.reading.Reading.{Reading}
-use Rattle.restamp_formats.specs.declared.reading.Reading.TheVariants as reading
-use Rattle.restamp_formats.specs.declared.reading.Match.{Match}
-use Rattle.restamp_formats.proofs.MissingFieldRecords.{dated_parts, day_of, iso_day_of, said}
-use Rattle.restamp_formats.proofs.MissingFieldTrees.{only, or_left, or_right, part_said}
+use Rattle.restamp_formats.specs.{ComponentValues.no_defaults, Reason.Reason}
+use Rattle.restamp_formats.proofs.{MissingFieldRecords.dated_parts, MissingFieldRecords.day_of, MissingFieldRecords.iso_day_of, MissingFieldRecords.said, MissingFieldTrees.only, MissingFieldTrees.part_said}
 
 -- the parts that give an hour and its half of the day
 abbrev hours_of : Record → Bool
@@ -61,9 +41,9 @@ module _ (Y : ℕ) (defaults : Defaults) (r : Record) where
   iso_year_parts is = grind arith
 
 -- a record with a part that gives a year, and without a count from 1970, has a part of a year
-pub part_of_year : (k : Kind) (r : Record) → is_of part.Year k ≡ true → said k r ≡ true → is_some r.unix_timestamp_nanos ≡ false
+pub part_of_year : (k : Kind) (r : Record) → is_of Part.Year k ≡ true → said k r ≡ true → is_some r.unix_timestamp_nanos ≡ false
     → has_year r ≡ true
-part_of_year kind.Year r i s none = grind arith
+part_of_year Kind.Year r i s none = grind arith
 part_of_year k r i s none = grind arith
 
 -- nothing is missing from a tree that gives all parts of a record with a moment
@@ -71,60 +51,57 @@ nothing_missing : (given count day iso_day year may_lack iso_year hour of_half h
     → ((r_day && r_year) || (r_iso_day && r_iso_year)) ≡ true → (r_day ≡ true → day ≡ true) → (r_year ≡ true → (year || (given && may_lack)) ≡ true)
     → (r_iso_day ≡ true → iso_day ≡ true) → (r_iso_year ≡ true → iso_year ≡ true) → ((hour || of_half) && (hour || half)) ≡ true
     → (if count then None else
-    if not (day || iso_day) then Some missing_field.Day else
-    if not ((day && (year || may_lack)) || (iso_day && iso_year)) then Some missing_field.WholeYear else
-    if not ((day && (year || (given && may_lack))) || (iso_day && iso_year)) then Some missing_field.Year else
-    if not (hour || of_half) then Some missing_field.Hour else
-    if not (hour || half) then Some missing_field.Half else None) ≡ None
+    if not (day || iso_day) then Some MissingField.Day else
+    if not ((day && (year || may_lack)) || (iso_day && iso_year)) then Some MissingField.WholeYear else
+    if not ((day && (year || (given && may_lack))) || (iso_day && iso_year)) then Some MissingField.Year else
+    if not (hour || of_half) then Some MissingField.Hour else
+    if not (hour || half) then Some MissingField.Half else None) ≡ None
 nothing_missing given count day iso_day year may_lack iso_year hour of_half half r_day r_year r_iso_day r_iso_year is d y i iy hours = grind arith
 
 module _ (Y : ℕ) (t : Tree) (given : Bool) (b rest : List ℕ) (r : Record) (reads : Reads Y t b empty rest r) where
   -- a part of the record comes from the tree
-  told : (k : Kind) → said k empty ≡ false → said k r ≡ true → says k t ≡ true
+  told : (k : Kind) → said k empty ≡ false → said k r ≡ true → has_kind k t ≡ true
   told k begin s = let from = only Y k t b empty rest r reads s in grind arith
 
   day_told : day_of r ≡ true → has_day t ≡ true
   day_told is = grind (
     arith,
-    told kind.Ordinal refl,
-    told kind.Month refl,
-    told kind.Day refl,
-    told kind.Weekday refl,
-    told kind.SundayWeek refl,
-    told kind.MondayWeek refl,
+    told Kind.Ordinal refl,
+    told Kind.Month refl,
+    told Kind.Day refl,
+    told Kind.Weekday refl,
+    told Kind.SundayWeek refl,
+    told Kind.MondayWeek refl,
   )
 
   iso_day_told : iso_day_of r ≡ true → has_iso_day t ≡ true
-  iso_day_told is = grind (arith, told kind.IsoWeek refl, told kind.Weekday refl)
+  iso_day_told is = grind (arith, told Kind.IsoWeek refl, told Kind.Weekday refl)
 
-  hours_told : hours_of r ≡ true → ((says kind.Hour t || says kind.HourOfHalf t) && (says kind.Hour t || says kind.Half t)) ≡ true
-  hours_told is = grind (arith, told kind.Hour refl, told kind.HourOfHalf refl, told kind.Half refl)
+  hours_told : hours_of r ≡ true → ((has_kind Kind.Hour t || has_kind Kind.HourOfHalf t) && (has_kind Kind.Hour t || has_kind Kind.Half t)) ≡ true
+  hours_told is = grind (arith, told Kind.Hour refl, told Kind.HourOfHalf refl, told Kind.Half refl)
 
   -- if a text has no part of a year, not every reading of its tree has one
-  may_lack_year : is_some r.unix_timestamp_nanos ≡ false → has_year r ≡ false → not (always part.Year t) ≡ true
-  may_lack_year none bare = ap not (not_always (always part.Year t) refl)
-    where
-      not_always : (a : Bool) → a ≡ always part.Year t → a ≡ false
-      not_always false e = refl
-      not_always true e =
-          let s = part_said Y part.Year t b empty rest r (sym e) reads in
-          let clash : has_year r ≡ true = part_of_year s.of r s.is s.said none in
-          absurd cc
+  may_lack_year : is_some r.unix_timestamp_nanos ≡ false → has_year r ≡ false → not (always Part.Year t) ≡ true
+  may_lack_year none bare =
+      ap not (false_from_ne_true (always Part.Year t) (λ e.
+      let s = part_said Y Part.Year t b empty rest r e reads in
+      let clash : has_year r ≡ true = part_of_year s.of r s.is s.said none in
+      absurd cc))
 
   module _ (defaults : Defaults) (year_given : is_some defaults.year ≡ true → given ≡ true) where
     abbrev q : Record
     q = completed Y defaults r
 
     module _ (none : is_some r.unix_timestamp_nanos ≡ false) where
-      year_told : is_some (full_year q) ≡ true → (has_whole_year t || (given && not (always part.Year t))) ≡ true
+      year_told : is_some (full_year q) ≡ true → (has_whole_year t || (given && not (always Part.Year t))) ≡ true
       year_told is =
           let parts = year_parts Y defaults r is in
-          grind (arith, told kind.Year refl, told kind.YearCentury refl, told kind.YearLastTwo refl, may_lack_year none, year_given)
+          grind (arith, told Kind.Year refl, told Kind.YearCentury refl, told Kind.YearLastTwo refl, may_lack_year none, year_given)
 
       iso_year_told : is_some (full_iso_year q) ≡ true → has_whole_iso_year t ≡ true
       iso_year_told is =
           let parts = iso_year_parts Y defaults r is in
-          grind (arith, told kind.IsoYear refl, told kind.IsoYearCentury refl, told kind.IsoYearLastTwo refl)
+          grind (arith, told Kind.IsoYear refl, told Kind.IsoYearCentury refl, told Kind.IsoYearLastTwo refl)
 
       -- a text with a moment has no missing part
       nothing_lacks : (v : OffsetDateTime) → IsMomentOfParts Y q (Ok v) → missing_field_of given t ≡ None
@@ -132,8 +109,8 @@ module _ (Y : ℕ) (t : Tree) (given : Bool) (b rest : List ℕ) (r : Record) (r
       nothing_lacks v (inl (e, first, clash)) = absurd cc
       nothing_lacks v (inr (d, dated, inl (e, first, clash))) = absurd cc
       nothing_lacks v (inr (d, dated, inr (time, timed, last))) =
-          nothing_missing given (says kind.Count t) (has_day t) (has_iso_day t) (has_whole_year t) (not (always part.Year t)) (has_whole_iso_year t)
-          (says kind.Hour t) (says kind.HourOfHalf t) (says kind.Half t)
+          nothing_missing given (has_kind Kind.Count t) (has_day t) (has_iso_day t) (has_whole_year t) (not (always Part.Year t)) (has_whole_iso_year t)
+          (has_kind Kind.Hour t) (has_kind Kind.HourOfHalf t) (has_kind Kind.Half t)
           (day_of q) (is_some (full_year q)) (iso_day_of q) (is_some (full_iso_year q)) (dated_parts Y q d dated)
           (λ a. day_told (sym (ap day_of same) ∙ a)) year_told (λ a. iso_day_told (sym (ap iso_day_of same) ∙ a)) iso_year_told
           (hours_told (sym (ap hours_of same) ∙ timed_parts q time timed))
@@ -146,7 +123,7 @@ module _ (Y : ℕ) (t : Tree) (given : Bool) (b rest : List ℕ) (r : Record) (r
     moment_lacks v is = by_count r.unix_timestamp_nanos refl is
       where
         by_count : (count : Option ℤ) → count ≡ r.unix_timestamp_nanos → IsMoment Y q (Ok v) → missing_field_of given t ≡ None
-        by_count (Some n) e p = let counts = told kind.Count refl (ap is_some (sym e)) in rw counts
+        by_count (Some n) e p = let counts = told Kind.Count refl (ap is_some (sym e)) in rw counts
         by_count None e p = nothing_lacks (ap is_some (sym e)) v (uncounted q.unix_timestamp_nanos _ _ (grind arith) p)
           where
             uncounted : (count : Option ℤ) (P : Type 0) (Q : ℤ → Type 0) → count ≡ None → MatchOption count P Q → P
@@ -177,9 +154,9 @@ some_only s why (Some v) Q none h = none v refl h
 module _ (Y : ℕ) (given : Bool) (l : MissingField) (is_prefix : Bool) (text : List ℕ) where
   unread : (format : Reading) (defaults : Defaults) → (is_some defaults.year ≡ true → given ≡ true) → (s : Match)
       → format_missing_field given format ≡ Some l → IsRead Y format is_prefix text defaults (Ok s) → ⊥
-  unread (reading.Described d) defaults year s lacks h = no_text Y (steps_shape d) given l lacks text defaults year _ is_prefix s h
-  unread (reading.Complete d) defaults year s lacks h = bare_text Y (steps_shape d) given l lacks text _ is_prefix s h
-  unread (reading.Counted d) defaults year s lacks h = no_text Y (steps_shape d) given l lacks text defaults year _ is_prefix s h
+  unread (Reading.Described d) defaults year s lacks h = no_text Y (steps_shape d) given l lacks text defaults year _ is_prefix s h
+  unread (Reading.Complete d) defaults year s lacks h = bare_text Y (steps_shape d) given l lacks text _ is_prefix s h
+  unread (Reading.Counted d) defaults year s lacks h = no_text Y (steps_shape d) given l lacks text defaults year _ is_prefix s h
   unread format defaults year s lacks h = absurd cc
 
   unsaid : (format : Reading) (defaults : Defaults) → (is_some defaults.year ≡ true → given ≡ true) → (s : Match)

@@ -1,67 +1,55 @@
 -- The parts that a record has, component by component. `Y` is the greatest year.
-use Rattle.std.proofs.Common.{Ok, Err, arith, ◌≡◌, ℕ, ℤ, Bool, true, None, Some}
-use Rattle.std.specs.Prelude.{Option, Result, MatchOption, IsOkAnd, ◌||◌, ◌&&◌, is_some}
+use Rattle.std.proofs.Common.{Ok, Err, arith, ◌≡◌, ℕ, ℤ, Bool, true, None, Some, Option, Result, MatchOption, IsOkAnd, ◌||◌, ◌&&◌, is_some}
 use Rattle.std.specs.Option.{option_or}
-use Rattle.time_values.specs.Moments.{offset_date, offset_of, offset_time}
-use Rattle.time_values.specs.Offsets.{IsUtc}
-use Rattle.time_values.specs.Refusal.{Refusal, insufficient}
-use Rattle.time_values.specs.declared.date.Date.{Date}
-use Rattle.time_values.specs.declared.offset_date_time.OffsetDateTime.{OffsetDateTime}
-use Rattle.time_record.specs.Resolution.{IsDated, IsMoment, IsMomentOfParts, IsStamped, by_ordinal, by_month_and_day, by_iso_week, by_sunday_week, by_monday_week, row_of_two, row_of_three, first_row, full_year, full_iso_year}
-use Rattle.restamp_formats.specs.Reading.{completed}
-use Rattle.restamp_formats.specs.declared.reading.Defaults.{Defaults}
+use Rattle.time_record.specs.Resolution.{IsDated, IsStamped, by_iso_week, by_sunday_week, by_monday_week, first_row}
+use Rattle.time_record.specs.Record.{Entry, put_here, year_century_is, year_last_two_is, iso_year_is, iso_year_century_is, iso_year_last_two_is, month_is, sunday_week_number_is, monday_week_number_is, iso_week_number_is, weekday_is, ordinal_is, day_is, hour_24_is, hour_12_is, hour_12_is_pm_is, offset_hour_is, unix_timestamp_nanos_is}
 use Rattle.time_components.specs.Spelling.{Value}
-use Rattle.time_components.specs.declared.format_description.Component.{Component}
-use Rattle.time_components.specs.declared.format_description.Component.TheVariants as part
-use Rattle.time_record.specs.Components.{put_value}
-use Rattle.time_record.specs.Record.{Record, Entry, put_here, year_is, year_century_is, year_last_two_is, iso_year_is, iso_year_century_is, iso_year_last_two_is, month_is, sunday_week_number_is, monday_week_number_is, iso_week_number_is, weekday_is, ordinal_is, day_is, hour_24_is, hour_12_is, hour_12_is_pm_is, offset_hour_is, unix_timestamp_nanos_is}
-use Rattle.restamp_formats.specs.MissingField.{kind_of, same}
-use Rattle.restamp_formats.specs.declared.missing_field.Kind.{Kind}
-use Rattle.restamp_formats.specs.declared.missing_field.Kind.TheVariants as kind
+use Rattle.restamp_formats.specs.Common.{offset_date, offset_of, offset_time, IsUtc, Refusal, insufficient, Date, OffsetDateTime, IsMoment, IsMomentOfParts, by_ordinal, by_month_and_day, row_of_two, row_of_three, full_year, full_iso_year, Defaults, Component, put_value, Record, year_is, Kind}
+use Rattle.restamp_formats.specs.{Reading.completed, MissingField.kind_of, MissingField.same}
 
 -- the record has that part
 abbrev pub said : Kind → Record → Bool
-said kind.Year r = is_some r.year
-said kind.YearCentury r = is_some r.year_century
-said kind.YearLastTwo r = is_some r.year_last_two
-said kind.IsoYear r = is_some r.iso_year
-said kind.IsoYearCentury r = is_some r.iso_year_century
-said kind.IsoYearLastTwo r = is_some r.iso_year_last_two
-said kind.Month r = is_some r.month
-said kind.Day r = is_some r.day
-said kind.Ordinal r = is_some r.ordinal
-said kind.Weekday r = is_some r.weekday
-said kind.IsoWeek r = is_some r.iso_week_number
-said kind.SundayWeek r = is_some r.sunday_week_number
-said kind.MondayWeek r = is_some r.monday_week_number
-said kind.Hour r = is_some r.hour_24
-said kind.HourOfHalf r = is_some r.hour_12
-said kind.Half r = is_some r.hour_12_is_pm
-said kind.OffsetHour r = is_some r.offset_hour
-said kind.Count r = is_some r.unix_timestamp_nanos
-said kind.Other r = true
+said Kind.Year r = is_some r.year
+said Kind.YearCentury r = is_some r.year_century
+said Kind.YearLastTwo r = is_some r.year_last_two
+said Kind.IsoYear r = is_some r.iso_year
+said Kind.IsoYearCentury r = is_some r.iso_year_century
+said Kind.IsoYearLastTwo r = is_some r.iso_year_last_two
+said Kind.Month r = is_some r.month
+said Kind.Day r = is_some r.day
+said Kind.Ordinal r = is_some r.ordinal
+said Kind.Weekday r = is_some r.weekday
+said Kind.IsoWeek r = is_some r.iso_week_number
+said Kind.SundayWeek r = is_some r.sunday_week_number
+said Kind.MondayWeek r = is_some r.monday_week_number
+said Kind.Hour r = is_some r.hour_24
+said Kind.HourOfHalf r = is_some r.hour_12
+said Kind.Half r = is_some r.hour_12_is_pm
+said Kind.OffsetHour r = is_some r.offset_hour
+said Kind.Count r = is_some r.unix_timestamp_nanos
+said Kind.Other r = true
 
 -- the part of an entry
 abbrev entry_kind : Entry → Kind
-entry_kind (year_is v) = kind.Year
-entry_kind (year_century_is v minus) = kind.YearCentury
-entry_kind (year_last_two_is v) = kind.YearLastTwo
-entry_kind (iso_year_is v) = kind.IsoYear
-entry_kind (iso_year_century_is v minus) = kind.IsoYearCentury
-entry_kind (iso_year_last_two_is v) = kind.IsoYearLastTwo
-entry_kind (month_is v) = kind.Month
-entry_kind (sunday_week_number_is v) = kind.SundayWeek
-entry_kind (monday_week_number_is v) = kind.MondayWeek
-entry_kind (iso_week_number_is v) = kind.IsoWeek
-entry_kind (weekday_is v) = kind.Weekday
-entry_kind (ordinal_is v) = kind.Ordinal
-entry_kind (day_is v) = kind.Day
-entry_kind (hour_24_is v) = kind.Hour
-entry_kind (hour_12_is v) = kind.HourOfHalf
-entry_kind (hour_12_is_pm_is v) = kind.Half
-entry_kind (offset_hour_is v) = kind.OffsetHour
-entry_kind (unix_timestamp_nanos_is v) = kind.Count
-entry_kind e = kind.Other
+entry_kind (year_is v) = Kind.Year
+entry_kind (year_century_is v minus) = Kind.YearCentury
+entry_kind (year_last_two_is v) = Kind.YearLastTwo
+entry_kind (iso_year_is v) = Kind.IsoYear
+entry_kind (iso_year_century_is v minus) = Kind.IsoYearCentury
+entry_kind (iso_year_last_two_is v) = Kind.IsoYearLastTwo
+entry_kind (month_is v) = Kind.Month
+entry_kind (sunday_week_number_is v) = Kind.SundayWeek
+entry_kind (monday_week_number_is v) = Kind.MondayWeek
+entry_kind (iso_week_number_is v) = Kind.IsoWeek
+entry_kind (weekday_is v) = Kind.Weekday
+entry_kind (ordinal_is v) = Kind.Ordinal
+entry_kind (day_is v) = Kind.Day
+entry_kind (hour_24_is v) = Kind.Hour
+entry_kind (hour_12_is v) = Kind.HourOfHalf
+entry_kind (hour_12_is_pm_is v) = Kind.Half
+entry_kind (offset_hour_is v) = Kind.OffsetHour
+entry_kind (unix_timestamp_nanos_is v) = Kind.Count
+entry_kind e = Kind.Other
 
 -- setting an entry adds its part, and changes no other
 said-put_here : (k : Kind) (e : Entry) (r : Record) → said k (put_here e r) ≡ (same (entry_kind e) k || said k r)
@@ -69,7 +57,7 @@ said-put_here k e r = grind arith
 
 -- setting a component's value adds the component's part, and changes no other
 pub put_tells : (Y : ℕ) (k : Kind) (c : Component) (v : Value) (r q : Record) → put_value Y c v r ≡ Some q → said k q ≡ (same (kind_of c) k || said k r)
-put_tells Y k (part.Day m) v r q is = grind (arith, said-put_here)
+put_tells Y k (Component.Day m) v r q is = grind (arith, said-put_here)
 put_tells Y k c v r q is = grind (arith, said-put_here)
 
 -- ---- The parts of a record with a date, and with a count from 1970

@@ -1,22 +1,14 @@
 -- The record of a reading has the parts that the tree's components give. `Y` is the greatest year.
-use Rattle.std.specs.Prelude.{◌||◌, ◌&&◌, ◌⊎◌}
+use Rattle.std.proofs.Common.{◌||◌, ◌&&◌, ⊎_elim, ◌≡◌, ℕ, zero, suc, ◌≤◌, Bool, true, false, List, [], ◌∷◌, length, get_or, take, drop, refl, ap, sym, ◌∙◌, arith, length-take, length-drop, inl, inr, subst}
+use Rattle.std.proofs.lemmas.{List.Folds.list_any-append, List.take-append-drop, Bool.and_parts, Bool.or_cases, Bool.or_left, Bool.or_right}
 use Rattle.std.specs.List.{list_any}
-use Rattle.std.proofs.Common.{◌≡◌, ℕ, zero, suc, ◌≤◌, Bool, true, false, List, [], ◌∷◌, length, get_or, take, drop, refl, ap, sym, ◌∙◌, arith, length-take, length-drop, inl, inr, subst}
-use Rattle.std.proofs.lemmas.List.Folds.{list_any-append}
-use Rattle.std.proofs.lemmas.List.{take-append-drop}
-use Rattle.std.proofs.lemmas.Bool.{and_parts, or_cases}
-use Rattle.time_components.specs.Tree.{further, group_tree, steps_after, steps_trees, tree_at, trees_in, Trees, first_of, Tree, literal as tree_literal, component, sequence, optional, none as tree_none, more}
+use Rattle.time_components.specs.Tree.{group_tree, steps_after, steps_trees, tree_at, trees_in}
 use Rattle.time_components.specs.declared.inspect.Group.{Group}
-use Rattle.time_components.specs.declared.inspect.Group.TheVariants as groups
-use Rattle.time_components.specs.declared.inspect.Step.{Step}
-use Rattle.time_components.specs.declared.inspect.Step.TheVariants as step
-use Rattle.time_record.specs.Reading.{Reads, ReadsAll, ReadsSome}
-use Rattle.time_record.specs.Record.{Record}
+use Rattle.time_record.specs.Reading.{ReadsAll}
 use Rattle.time_record.proofs.WalkSteps.{behind_first, first_item, steps_trees-end}
-use Rattle.restamp_formats.specs.MissingField.{always, each_always, one_always, one_has, says, is_of, kind_of, same}
+use Rattle.restamp_formats.specs.Common.{further, Trees, first_of, Tree, literal as tree_literal, component, sequence, optional, none as tree_none, more, Step, Reads, ReadsSome, Record, Kind, Part}
+use Rattle.restamp_formats.specs.MissingField.{always, each_always, one_always, one_has, has_kind, is_of, kind_of, same}
 use Rattle.restamp_formats.specs.MissingFieldSteps.{step_has}
-use Rattle.restamp_formats.specs.declared.missing_field.Kind.{Kind}
-use Rattle.restamp_formats.specs.declared.missing_field.Part.{Part}
 use Rattle.restamp_formats.proofs.MissingFieldRecords.{put_tells, said}
 
 -- ---- The parts of a row of steps, step by step
@@ -25,41 +17,41 @@ module _ (k : Kind) where
   -- the further bytes of a literal give nothing
   further_silent : (steps : List Step) → list_any (step_has k) (drop (length (further steps)) steps) ≡ list_any (step_has k) steps
   further_silent [] = refl
-  further_silent (step.Literal b ∷ steps) = refl
-  further_silent (step.More b ∷ steps) = further_silent steps
-  further_silent (step.Component c ∷ steps) = refl
-  further_silent (step.Group g len ∷ steps) = refl
+  further_silent (Step.Literal b ∷ steps) = refl
+  further_silent (Step.More b ∷ steps) = further_silent steps
+  further_silent (Step.Component c ∷ steps) = refl
+  further_silent (Step.Group g len ∷ steps) = refl
 
   -- a group gives what its items give
-  group_says : (g : Group) (ts : Trees) → says k (group_tree g ts) ≡ one_has k ts
-  group_says groups.Optional ts = refl
-  group_says groups.First ts = refl
-  group_says groups.List ts = refl
+  group_has_kind : (g : Group) (ts : Trees) → has_kind k (group_tree g ts) ≡ one_has k ts
+  group_has_kind Group.Optional ts = refl
+  group_has_kind Group.First ts = refl
+  group_has_kind Group.List ts = refl
 
   in_two : (n : ℕ) (steps : List Step)
       → (list_any (step_has k) (take n steps) || list_any (step_has k) (drop n steps)) ≡ list_any (step_has k) steps
   in_two n steps = rw (← list_any-append (step_has k) (take n steps) (drop n steps), take-append-drop n steps)
 
-  steps_say : (n : ℕ) (steps : List Step) → length steps ≤ n → one_has k (trees_in n steps) ≡ list_any (step_has k) steps
+  steps_have_kind : (n : ℕ) (steps : List Step) → length steps ≤ n → one_has k (trees_in n steps) ≡ list_any (step_has k) steps
   unfolding trees_in
-  steps_say zero [] fits = refl
-  steps_say zero (s ∷ steps) fits = absurd (omega arith)
-  steps_say (suc n) [] fits = refl
-  steps_say (suc n) (step.Literal b ∷ steps) fits =
-      steps_say n (drop (length (further steps)) steps) (omega (arith, length-drop (length (further steps)) steps)) ∙ further_silent steps
-  steps_say (suc n) (step.More b ∷ steps) fits =
-      steps_say n (drop (length (further steps)) steps) (omega (arith, length-drop (length (further steps)) steps)) ∙ further_silent steps
-  steps_say (suc n) (step.Component c ∷ steps) fits = rw (steps_say n steps (omega arith))
-  steps_say (suc n) (step.Group g len ∷ steps) fits =
+  steps_have_kind zero [] fits = refl
+  steps_have_kind zero (s ∷ steps) fits = absurd (omega arith)
+  steps_have_kind (suc n) [] fits = refl
+  steps_have_kind (suc n) (Step.Literal b ∷ steps) fits =
+      steps_have_kind n (drop (length (further steps)) steps) (omega (arith, length-drop (length (further steps)) steps)) ∙ further_silent steps
+  steps_have_kind (suc n) (Step.More b ∷ steps) fits =
+      steps_have_kind n (drop (length (further steps)) steps) (omega (arith, length-drop (length (further steps)) steps)) ∙ further_silent steps
+  steps_have_kind (suc n) (Step.Component c ∷ steps) fits = rw (steps_have_kind n steps (omega arith))
+  steps_have_kind (suc n) (Step.Group g len ∷ steps) fits =
       rw (
-        group_says g (trees_in n (take len steps)),
-        steps_say n (take len steps) (omega (arith, length-take len steps)),
-        steps_say n (drop len steps) (omega (arith, length-drop len steps)),
+        group_has_kind g (trees_in n (take len steps)),
+        steps_have_kind n (take len steps) (omega (arith, length-take len steps)),
+        steps_have_kind n (drop len steps) (omega (arith, length-drop len steps)),
       ) (in_two len steps)
 
   -- a row gives what one of its steps gives
-  pub row_says : (steps : List Step) → one_has k (steps_trees steps) ≡ list_any (step_has k) steps
-  row_says steps = steps_say (length steps) steps (omega arith)
+  pub row_has_kind : (steps : List Step) → one_has k (steps_trees steps) ≡ list_any (step_has k) steps
+  row_has_kind steps = steps_have_kind (length steps) steps (omega arith)
 
 -- a row without steps, and the first step of another row
 module _ (p : Part) (steps : List Step) where
@@ -92,17 +84,6 @@ choice_always-some p (s ∷ steps) some = refl
 pub choice_always-none : (p : Part) (steps : List Step) → length steps ≤ 0 → false ≡ always p (first_of (steps_trees steps))
 choice_always-none p steps none = rw (steps_trees-end steps none)
 
-pub or_left : (a b : Bool) → a ≡ true → (a || b) ≡ true
-or_left a b e = ap (λ (x : Bool). x || b) e
-
-pub or_right : (a b : Bool) → b ≡ true → (a || b) ≡ true
-or_right true b e = refl
-or_right false b e = e
-
-pub either : {A B C : Type 0} → A ⊎ B → (A → C) → (B → C) → C
-either (inl a) f g = f a
-either (inr b) f g = g b
-
 -- the later trees give a part, or it was in the record after the first, which gives it or found it in the record before
 from_either : (first later between before : Bool) → (later || between) ≡ true → (between ≡ true → (first || before) ≡ true)
     → ((first || later) || before) ≡ true
@@ -114,12 +95,12 @@ module _ (Y : ℕ) (k : Kind) where
 
     -- a part of the record after a reading was in it before, or the tree gives it
     pub only : (t : Tree) (b : List ℕ) (r : Record) (rest : List ℕ) (q : Record) → Reads Y t b r rest q → said k q ≡ true
-        → (says k t || said k r) ≡ true
+        → (has_kind k t || said k r) ≡ true
     only (tree_literal text) b r rest q h s = ap (said k) (sym h.1) ∙ s
     only (component w c) b r rest q h s = sym (put_tells Y k c h.value r q h.puts) ∙ s
     only (sequence ts) b r rest q h s = only_all ts b r rest q h s
     only (optional t) b r rest q (inl h) s = only t b r rest q h s
-    only (optional t) b r rest q (inr h) s = or_right (says k t) (said k r) (ap (said k) (sym h.2) ∙ s)
+    only (optional t) b r rest q (inr h) s = or_right (has_kind k t) (said k r) (ap (said k) (sym h.2) ∙ s)
     only (first_of tree_none) b r rest q h s = ap (said k) (sym h.1) ∙ s
     only (first_of (more t ts)) b r rest q h s = only_some (more t ts) b r rest q h s
 
@@ -127,15 +108,15 @@ module _ (Y : ℕ) (k : Kind) where
         → (one_has k ts || said k r) ≡ true
     only_all tree_none b r rest q h s = ap (said k) (sym h.1) ∙ s
     only_all (more t ts) b r rest q (mid, p, h, hs) s =
-        from_either (says k t) (one_has k ts) (said k p) (said k r) (only_all ts mid p rest q hs s) (only t b r mid p h)
+        from_either (has_kind k t) (one_has k ts) (said k p) (said k r) (only_all ts mid p rest q hs s) (only t b r mid p h)
 
     only_some : (ts : Trees) (b : List ℕ) (r : Record) (rest : List ℕ) (q : Record) → ReadsSome Y ts b r rest q → said k q ≡ true
         → (one_has k ts || said k r) ≡ true
     only_some tree_none b r rest q h s = absurd h
     only_some (more t ts) b r rest q (inl h) s =
-        from_either (says k t) (one_has k ts) true (said k r) (or_right (one_has k ts) true refl) (λ e. only t b r rest q h s)
+        from_either (has_kind k t) (one_has k ts) true (said k r) (or_right (one_has k ts) true refl) (λ e. only t b r rest q h s)
     only_some (more t ts) b r rest q (inr h) s =
-        from_either (says k t) (one_has k ts) (said k r) (said k r) (only_some ts b r rest q h.1 s) (or_right (says k t) (said k r))
+        from_either (has_kind k t) (one_has k ts) (said k r) (said k r) (only_some ts b r rest q h.1 s) (or_right (has_kind k t) (said k r))
 
 -- the record has a value that gives the part
 pub record SaysPart (p : Part) (r : Record) : Type 0 where
@@ -193,8 +174,8 @@ module _ (Y : ℕ) (p : Part) where
         → SaysPart p q
     part_said_all tree_none b r rest q e h = absurd cc
     part_said_all (more t ts) b r rest q e (mid, m, h, hs) =
-        either (or_cases (always p t) (one_always p ts) e) (λ now. kept_all ts mid m rest q hs (part_said t b r mid m now h))
-        (λ later. part_said_all ts mid m rest q later hs)
+        ⊎_elim (λ now. kept_all ts mid m rest q hs (part_said t b r mid m now h)) (λ later. part_said_all ts mid m rest q later hs)
+        (or_cases (always p t) (one_always p ts) e)
 
     part_said_some : (ts : Trees) (b : List ℕ) (r : Record) (rest : List ℕ) (q : Record) → each_always p ts ≡ true → ReadsSome Y ts b r rest q
         → SaysPart p q

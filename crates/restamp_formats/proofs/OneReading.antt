@@ -1,35 +1,15 @@
 -- A text has exactly one reading.
-use Rattle.std.proofs.Common.{◌≡◌, ℕ, zero, suc, ℤ, pos, Bool, true, false, List, [], ◌∷◌, sym, ap, subst, arith, ◌∙◌, None, Ok, Err}
-use Rattle.std.specs.Prelude.{Result, ◌-ℤ◌, MatchOption, MatchResult, MatchBool}
+use Rattle.std.proofs.Common.{◌≡◌, ℕ, zero, suc, ℤ, pos, Bool, true, false, List, [], ◌∷◌, sym, ap, subst, arith, ◌∙◌, None, Ok, Err, Result, ◌-ℤ◌, MatchOption, MatchResult, MatchBool}
 use Rattle.std.proofs.lemmas.Int.{ints}
-use Rattle.time_values.specs.Moments.{offset_of}
-use Rattle.time_values.specs.Offsets.{IsUtc}
-use Rattle.time_values.specs.Calendar.{greatest_year}
-use Rattle.time_values.specs.Refusal.{Refusal}
-use Rattle.time_values.specs.declared.offset_date_time.OffsetDateTime.{OffsetDateTime}
-use Rattle.time_values.specs.declared.utc_offset.UtcOffset.{UtcOffset}
 use Rattle.time_zones.proofs.FolderLemmas.{one_answer, same_offset_by_seconds}
-use Rattle.time_record.specs.Reading as Description
-use Rattle.time_record.specs.Record.{Record, empty}
-use Rattle.time_record.specs.Resolution.{IsMoment}
 use Rattle.time_record.proofs.ResolutionLemmas.{IsMoment-one}
-use Rattle.time_readers.specs.Direct.{RefusesRfc3339, RefusesRfc2822}
-use Rattle.time_parsing.specs.Outcome.{Refusing, Path, over_record, direct, IsExact, IsExactPath}
-use Rattle.time_parsing.specs.Outcome as Outcome
-use Rattle.time_parsing.specs.Iso8601 as Iso8601
-use Rattle.time_parsing.specs.Rfc2822 as Rfc2822
-use Rattle.time_parsing.specs.Rfc3339 as Rfc3339
 use Rattle.time_parsing.specs.exact.Laws.{tree_exact, rfc3339_exact_path, rfc2822_exact_path, iso8601_exact, rfc2822_exact, rfc3339_exact}
+use Rattle.time_parsing.specs.Outcome.{IsExact, IsExactPath}
 use Rattle.time_parsing.proofs.OneOutcome.{one_moment_outcome, one_outcome, one_front}
+use Rattle.time_parsing.specs.Outcome as Outcome
+use Rattle.restamp_formats.specs.Common.{offset_of, IsUtc, greatest_year, Refusal, OffsetDateTime, UtcOffset, Record, empty, IsMoment, RefusesRfc3339, RefusesRfc2822, Refusing, Path, over_record, direct, steps_shape, Clocks, Defaults, Reading, Match}
 use Rattle.restamp_formats.specs.Reading.{IsReadBy, IsReadWith, IsRead, ParsesAs, ParsesInZone, ParsesLocally, Undated, undated, at_offset, completed, in_year, is_after, is_early, IsEarly, IsFinal, year_after, AreYearsTried, IsCompleted, IsDated, AreTried, IsReadInTurn, all_of, front_of, bare_where, guarded, IsGuarded, IsReadInFront, zones_of}
-use Rattle.time_components.specs.Tree.{steps_shape}
-use Rattle.restamp_formats.specs.Zoned.{IsOffsetWhen, clock_of, offset_by, IsSuffixed}
-use Rattle.restamp_formats.specs.Reason.{Reason, unread, is_local_time_error}
-use Rattle.restamp_formats.specs.declared.local.Clocks.{Clocks}
-use Rattle.restamp_formats.specs.declared.reading.Defaults.{Defaults}
-use Rattle.restamp_formats.specs.declared.reading.Reading.{Reading}
-use Rattle.restamp_formats.specs.declared.reading.Reading.TheVariants as reading
-use Rattle.restamp_formats.specs.declared.reading.Match.{Match}
+use Rattle.restamp_formats.specs.{Zoned.IsOffsetWhen, Zoned.clock_of, Zoned.offset_by, Zoned.IsSuffixed, Reason.Reason, Reason.unread, Reason.is_local_time_error}
 use Rattle.restamp_formats.proofs.OneWriting.{both_are, one_bool, one_option, one_suffixed}
 
 one_read_by : (is_prefix : Bool) (path : Path) (reads : Outcome.Reading) (refuses : Refusing)
@@ -62,32 +42,23 @@ one_read_with false reads refuses exact text defaults a b p q =
 pub one_read_in_front : (text : List ℕ) (a b : Result Match Refusal) → IsReadInFront greatest_year text a → IsReadInFront greatest_year text b
     → a ≡ b
 one_read_in_front text a b p q =
-    one_read_by true (direct (RefusesRfc3339 greatest_year)) (Rfc3339.Reads greatest_year) (Rfc3339.Refuses greatest_year)
-    (rfc3339_exact greatest_year) rfc3339_exact_path text a b p q
+    one_read_by true (direct (RefusesRfc3339 greatest_year)) _ _ (rfc3339_exact greatest_year) rfc3339_exact_path text a b p q
 
 one_read : (format : Reading) (is_prefix : Bool) (text : List ℕ) (defaults : Defaults) (a b : Result Match Refusal)
     → IsRead greatest_year format is_prefix text defaults a → IsRead greatest_year format is_prefix text defaults b → a ≡ b
-one_read reading.Rfc3339 is_prefix text defaults a b p q =
-    one_read_by is_prefix (direct (RefusesRfc3339 greatest_year)) (Rfc3339.Reads greatest_year) (Rfc3339.Refuses greatest_year)
-    (rfc3339_exact greatest_year) rfc3339_exact_path text a b p q
-one_read (reading.Zoned zones) is_prefix text defaults a b p q =
-    one_read_in_front text a b p q
-one_read reading.Rfc2822 is_prefix text defaults a b p q =
+one_read Reading.Rfc3339 is_prefix text defaults a b p q =
+    one_read_by is_prefix (direct (RefusesRfc3339 greatest_year)) _ _ (rfc3339_exact greatest_year) rfc3339_exact_path text a b p q
+one_read (Reading.Zoned zones) is_prefix text defaults a b p q = one_read_in_front text a b p q
+one_read Reading.Rfc2822 is_prefix text defaults a b p q =
     p.2 ∙ ap (bare_where is_prefix text)
-    (one_read_by is_prefix (direct (RefusesRfc2822 greatest_year)) (Rfc2822.Reads greatest_year) (Rfc2822.Refuses greatest_year)
-    (rfc2822_exact greatest_year) rfc2822_exact_path text p.0 q.0 p.1 q.1) ∙ sym q.2
-one_read reading.Iso8601 is_prefix text defaults a b p q =
-    one_read_with is_prefix (Iso8601.Reads greatest_year) (Iso8601.Refuses greatest_year) (iso8601_exact greatest_year)
-    text defaults a b p q
-one_read (reading.Described d) is_prefix text defaults a b p q =
-    one_read_with is_prefix (Description.Reads greatest_year (steps_shape d)) (Description.Refuses greatest_year (steps_shape d))
-    (tree_exact greatest_year (steps_shape d)) text defaults a b p q
-one_read (reading.Complete d) is_prefix text defaults a b p q =
-    one_read_by is_prefix over_record (Description.Reads greatest_year (steps_shape d))
-    (Description.Refuses greatest_year (steps_shape d)) (tree_exact greatest_year (steps_shape d)) tt text a b p q
-one_read (reading.Counted d) is_prefix text defaults a b p q =
-    one_read_with is_prefix (Description.Reads greatest_year (steps_shape d)) (Description.Refuses greatest_year (steps_shape d))
-    (tree_exact greatest_year (steps_shape d)) text defaults a b p q
+    (one_read_by is_prefix (direct (RefusesRfc2822 greatest_year)) _ _ (rfc2822_exact greatest_year) rfc2822_exact_path text p.0 q.0 p.1 q.1) ∙ sym q.2
+one_read Reading.Iso8601 is_prefix text defaults a b p q = one_read_with is_prefix _ _ (iso8601_exact greatest_year) text defaults a b p q
+one_read (Reading.Described d) is_prefix text defaults a b p q =
+    one_read_with is_prefix _ _ (tree_exact greatest_year (steps_shape d)) text defaults a b p q
+one_read (Reading.Complete d) is_prefix text defaults a b p q =
+    one_read_by is_prefix over_record _ _ (tree_exact greatest_year (steps_shape d)) tt text a b p q
+one_read (Reading.Counted d) is_prefix text defaults a b p q =
+    one_read_with is_prefix _ _ (tree_exact greatest_year (steps_shape d)) text defaults a b p q
 
 -- the further rules of a format have one result
 one_told : (format : Reading) (is_prefix : Bool) (text : List ℕ) (outcome : Result Match Refusal) (a b : Result Match Reason)

@@ -1,40 +1,19 @@
 -- A moment has exactly one text in a form.
-use Rattle.std.specs.Prelude.{Option, Result, MatchOption, MatchBool, option_map}
-use Rattle.std.specs.Fmt.{signed_decimal}
-use Rattle.std.proofs.Common.{◌≡◌, ℕ, ℤ, List, sym, ap, subst, refl, arith, ◌∙◌, None, Some, Ok, Err, ◌+◌, ◌≤◌, Bool, true, false, length, take, drop}
+use Rattle.std.proofs.Common.{Option, Result, MatchOption, MatchBool, option_map, ◌≡◌, ℕ, ℤ, List, sym, ap, subst, refl, arith, ◌∙◌, None, Some, Ok, Err, ◌+◌, ◌≤◌, Bool, true, false, length, take, drop}
 use Rattle.std.proofs.lemmas.Int.{ints}
-use Rattle.jiff_tz.specs.declared.timezone.TimeZone.{TimeZone}
-use Rattle.time_values.specs.Moments.{shown_at, offset_date, offset_time, offset_of, offset_instant}
-use Rattle.time_values.specs.Instants.{IsInstant, IsWhole, clock_nanos}
-use Rattle.time_values.specs.Calendar.{greatest_year}
-use Rattle.time_values.specs.Shown.{Items}
-use Rattle.time_values.specs.declared.offset_date_time.OffsetDateTime.{OffsetDateTime}
-use Rattle.time_values.specs.declared.utc_offset.UtcOffset.{UtcOffset}
-use Rattle.time_values.specs.Refusal.{trailing}
-use Rattle.time_values.proofs.InstantLemmas.{instant_is, clock_nanos_range, same_moment}
-use Rattle.time_values.proofs.NumberLemmas.{same_weekday}
-use Rattle.time_zones.specs.Suffix.{Checked, GoesWith, IsLongest, IsSuffix, Tag, critical_key, Says, zone_tag_of}
-use Rattle.time_zones.specs.declared.suffix.Suffixed.{Suffixed}
-use Rattle.time_zones.specs.declared.zones.Zones.{Zones}
-use Rattle.time_zones.proofs.FolderLemmas.{same_offset_by_seconds, one_check}
-use Rattle.time_zones.proofs.LongestLemmas.{suffix_once}
-use Rattle.time_formatting.specs.WellKnown.{WritesSuch, IsMailText, mail_text}
-use Rattle.time_formatting.specs.declared.parts.FractionDigits.{FractionDigits}
-use Rattle.time_formatting.specs.declared.parts.Unwritable.{Unwritable}
+use Rattle.std.specs.Fmt.{signed_decimal}
+use Rattle.time_values.specs.Instants.{clock_nanos}
+use Rattle.time_values.proofs.{InstantLemmas.instant_is, InstantLemmas.clock_nanos_range, InstantLemmas.same_moment, NumberLemmas.same_weekday}
+use Rattle.time_zones.specs.{Suffix.Says, Suffix.zone_tag_of, declared.suffix.Suffixed.Suffixed}
+use Rattle.time_zones.proofs.{FolderLemmas.same_offset_by_seconds, FolderLemmas.one_check, LongestLemmas.suffix_once}
+use Rattle.time_formatting.specs.WellKnown.{mail_text}
+use Rattle.restamp_formats.specs.Common.{TimeZone, shown_at, offset_date, offset_time, offset_of, offset_instant, IsInstant, IsWhole, greatest_year, Items, OffsetDateTime, UtcOffset, trailing, Checked, GoesWith, IsLongest, IsSuffix, Tag, critical_key, Zones, WritesSuch, IsMailText, FractionDigits, Unwritable, Clock, Form, Named, Writing, Match}
 use Rattle.restamp_formats.specs.Zoned.{IsConvertedTo, IsConvertedIn, IsConverted, conversion_error, IsChecked, IsLongestSuffix, IsSuffixed, Suffix, checked, extended, has_tail, tells_offset}
 use Rattle.restamp_formats.specs.Form.{IsCounted, IsNamedText, IsWrittenBy, IsWritten, unit_of, written}
-use Rattle.restamp_formats.specs.Reason.{Reason, unread}
-use Rattle.restamp_formats.specs.declared.clock.Clock.{Clock}
-use Rattle.restamp_formats.specs.declared.clock.Clock.TheVariants as clock
-use Rattle.restamp_formats.specs.declared.form.Form.{Form}
-use Rattle.restamp_formats.specs.declared.form.Unit.{Unit as Unit_}
-use Rattle.restamp_formats.specs.declared.form.Named.{Named as Named_}
-use Rattle.restamp_formats.specs.declared.form.Named.TheVariants.{Rfc3339, Rfc2822, Iso8601, Count}
-use Rattle.restamp_formats.specs.declared.form.Writing.{Writing}
-use Rattle.restamp_formats.specs.declared.form.Writing.TheVariants.{Named, Described}
-use Rattle.restamp_formats.specs.declared.reading.Match.{Match}
+use Rattle.restamp_formats.specs.{Reason.Reason, Reason.unread, declared.form.Unit.Unit as Unit_}
 
--- Two things of which each is such a thing are equal, if such things are equal for each value, or for each truth value.
+-- Two values that satisfy a property which only one value satisfies are equal, also if the property is one of two by an
+-- option or a truth value.
 pub both_are : {X : Type 0} {x y z : X} → x ≡ z → y ≡ z → x ≡ y
 both_are p q = p ∙ sym q
 
@@ -67,15 +46,18 @@ same_shown v w e o =
 pub converted_in : (v : OffsetDateTime) → IsInstant greatest_year (shown_at (offset_instant greatest_year v) (offset_of v))
 converted_in v = subst (IsInstant greatest_year) (clock_is v) (clock_nanos_range (offset_date v) (offset_time v))
 
+-- a moment has a date at the offset that it is converted to
+date_at : (o : UtcOffset) (v w : OffsetDateTime) → IsConvertedTo greatest_year o v (Some w)
+    → IsInstant greatest_year (shown_at (offset_instant greatest_year v) o)
+date_at o v w is =
+    subst (λ n. IsInstant greatest_year (shown_at n o)) is.0
+    (subst (λ k. IsInstant greatest_year (shown_at (offset_instant greatest_year w) k)) is.1 (converted_in w))
+
 one_shown_at : (o : UtcOffset) (v : OffsetDateTime) (a b : Option OffsetDateTime)
     → IsConvertedTo greatest_year o v a → IsConvertedTo greatest_year o v b → a ≡ b
 one_shown_at o v None None p q = refl
-one_shown_at o v None (Some w) p q =
-    absurd (p (subst (λ n. IsInstant greatest_year (shown_at n o)) q.0
-    (subst (λ k. IsInstant greatest_year (shown_at (offset_instant greatest_year w) k)) q.1 (converted_in w))))
-one_shown_at o v (Some w) None p q =
-    absurd (q (subst (λ n. IsInstant greatest_year (shown_at n o)) p.0
-    (subst (λ k. IsInstant greatest_year (shown_at (offset_instant greatest_year w) k)) p.1 (converted_in w))))
+one_shown_at o v None (Some w) p q = absurd (p (date_at o v w q))
+one_shown_at o v (Some w) None p q = absurd (q (date_at o v w p))
 one_shown_at o v (Some w) (Some x) p q = ap Some (same_shown w x (p.0 ∙ sym q.0) (p.1 ∙ sym q.1))
 
 one_shown_in : (zone : TimeZone) (v : OffsetDateTime) (a b : Option OffsetDateTime)
@@ -88,9 +70,9 @@ one_shown_in zone v (Some w) (Some x) p q =
 
 pub one_shown : (on : Clock) (v : OffsetDateTime) (a b : Option OffsetDateTime)
     → IsConverted greatest_year on v a → IsConverted greatest_year on v b → a ≡ b
-one_shown clock.Own v a b p q = p ∙ sym q
-one_shown (clock.Fixed o) v a b p q = one_shown_at o v a b p q
-one_shown (clock.Zone zone) v a b p q = one_shown_in zone v a b p q
+one_shown Clock.Own v a b p q = p ∙ sym q
+one_shown (Clock.Fixed o) v a b p q = one_shown_at o v a b p q
+one_shown (Clock.Zone zone) v a b p q = one_shown_in zone v a b p q
 
 same_items : (s t : Items) → s.items ≡ t.items → s ≡ t
 same_items s t e = λ j. record { items = e j }
@@ -116,17 +98,17 @@ one_count unit v (Ok s) (Err e) p q = absurd (q.1 p.0)
 one_count unit v (Err e) (Ok t) p q = absurd (p.1 q.0)
 one_count unit v (Err e) (Err f) p q = ap Err (p.0 ∙ sym q.0)
 
-one_named : (named : Named_) (digits : FractionDigits) (v : OffsetDateTime) (a b : Result Items Reason)
+one_named : (named : Named) (digits : FractionDigits) (v : OffsetDateTime) (a b : Result Items Reason)
     → IsNamedText greatest_year named digits v a → IsNamedText greatest_year named digits v b → a ≡ b
-one_named Rfc3339 digits v a b p q = p.2 ∙ ap written (one_such _ (λ t. t ≡ _) p.0 q.0 (λ s t. both_are) p.1 q.1) ∙ sym q.2
-one_named Rfc2822 digits v a b p q = p.2 ∙ ap written (one_such _ (IsMailText v) p.0 q.0 (one_mail_text v) p.1 q.1) ∙ sym q.2
-one_named Iso8601 digits v a b p q = p.2 ∙ ap written (one_such _ (λ t. t ≡ _) p.0 q.0 (λ s t. both_are) p.1 q.1) ∙ sym q.2
-one_named (Count unit) digits v a b p q = one_count unit v a b p q
+one_named Named.Rfc3339 digits v a b p q = p.2 ∙ ap written (one_such _ (λ t. t ≡ _) p.0 q.0 (λ s t. both_are) p.1 q.1) ∙ sym q.2
+one_named Named.Rfc2822 digits v a b p q = p.2 ∙ ap written (one_such _ (IsMailText v) p.0 q.0 (one_mail_text v) p.1 q.1) ∙ sym q.2
+one_named Named.Iso8601 digits v a b p q = p.2 ∙ ap written (one_such _ (λ t. t ≡ _) p.0 q.0 (λ s t. both_are) p.1 q.1) ∙ sym q.2
+one_named (Named.Count unit) digits v a b p q = one_count unit v a b p q
 
 one_by : (writing : Writing) (digits : FractionDigits) (v : OffsetDateTime) (a b : Result Items Reason)
     → IsWrittenBy greatest_year writing digits v a → IsWrittenBy greatest_year writing digits v b → a ≡ b
-one_by (Named named) digits v a b p q = one_named named digits v a b p q
-one_by (Described d) digits v a b p q = p ∙ sym q
+one_by (Writing.Named named) digits v a b p q = one_named named digits v a b p q
+one_by (Writing.Described d) digits v a b p q = p ∙ sym q
 
 pub one_written : (form : Form) (v : OffsetDateTime) (a b : Result Items Reason)
     → IsWritten greatest_year form v a → IsWritten greatest_year form v b → a ≡ b

@@ -1,22 +1,10 @@
 -- Consequences of the match of a text by one format, at one offset or with one year.
-use Rattle.std.specs.Prelude.{IfSome, Option, Result, MatchBool, MatchOption, ◌+ℤ◌, ◌-ℤ◌, FitsSigned, MatchResult}
+use Rattle.std.proofs.Common.{Option, Result, MatchBool, MatchOption, ◌+ℤ◌, ◌-ℤ◌, FitsSigned, MatchResult, ◌≡◌, ℕ, zero, suc, ◌+◌, ◌-◌, ◌<◌, ℤ, pos, Bool, false, List, ◌∷◌, length, get_or, drop, refl, sym, ap, subst, arith, add-one, ◌∙◌, None, Some, Ok, Err}
+use Rattle.std.proofs.{lemmas.Int.to_z-of_z, Math.Seq.drop-cons}
 use Rattle.std.specs.Int.{w32, cast_signed as to_z, cast_unsigned as of_z}
-use Rattle.std.proofs.Common.{◌≡◌, ℕ, zero, suc, ◌+◌, ◌-◌, ◌<◌, ℤ, pos, Bool, true, false, List, ◌∷◌, length, get_or, drop, refl, sym, ap, subst, arith, add-one, ◌∙◌, None, Some, Ok, Err}
-use Rattle.std.proofs.lemmas.Int.{to_z-of_z}
-use Rattle.std.proofs.Math.Seq.{drop-cons}
-use Rattle.time_values.specs.declared.offset_date_time.OffsetDateTime.{OffsetDateTime}
-use Rattle.time_values.specs.Moments.{offset_of}
-use Rattle.time_values.specs.Offsets.{IsUtc}
-use Rattle.time_values.specs.declared.utc_offset.UtcOffset.{UtcOffset}
-use Rattle.time_values.specs.Refusal.{refusal_of}
-use Rattle.time_values.specs.declared.error.Parse.{Parse}
+use Rattle.restamp_formats.specs.Common.{OffsetDateTime, offset_of, IsUtc, UtcOffset, refusal_of, Parse, Defaults, Reading, Match, Clocks}
 use Rattle.restamp_formats.specs.Reading.{AreTried, ParsesAs, ParsesLocally, Undated, undated, is_after, IsFinal, year_after, IsReadInYear, AreYearsTried, IsDated, IsReadInTurn, ParsesInZone, IsEarly, at_offset, in_year, is_early, IsRead, is_counted, erased_match, zones_of}
-use Rattle.restamp_formats.specs.Reason.{Gives, IsErrOf, Reason, unread}
-use Rattle.restamp_formats.specs.declared.reading.Defaults.{Defaults}
-use Rattle.restamp_formats.specs.declared.reading.Reading.{Reading}
-use Rattle.restamp_formats.specs.declared.reading.Match.{Match}
-use Rattle.restamp_formats.specs.Zoned.{IsOffsetWhen}
-use Rattle.restamp_formats.specs.declared.local.Clocks.{Clocks}
+use Rattle.restamp_formats.specs.{Reason.Gives, Reason.IsErrOf, Reason.Reason, Reason.unread, Zoned.IsOffsetWhen}
 
 -- ---- The match of a text that needs no defaults
 
@@ -48,14 +36,6 @@ module _ (Y : ℕ) (formats : List Reading) (i : ℕ) (format : Reading) (below 
   tried-later e result says later =
       subst (λ left. AreTried Y left is_prefix text defaults reason result) (sym (at_item formats i format below is)) (Err e, says, later)
 
-on_true : (b : Bool) (P Q : Type 0) → b ≡ true → P → MatchBool b P Q
-on_true true P Q e p = p
-on_true false P Q e p = absurd cc
-
-on_false : (b : Bool) (P Q : Type 0) → b ≡ false → Q → MatchBool b P Q
-on_false true P Q e q = absurd cc
-on_false false P Q e q = q
-
 pub on_none : {V : Type 0} (o : Option V) (P : Type 0) (Q : V → Type 0) → o ≡ None → P → MatchOption o P Q
 on_none None P Q e p = p
 on_none (Some v) P Q e p = absurd cc
@@ -74,7 +54,7 @@ one_more y fits more = ap (λ (x : ℤ). to_z w32 (of_z w32 (x +ℤ pos 1))) (to
 -- a text without a year, in the years that are tried
 module _ (Y : ℕ) (u : Undated) (year : ℤ) (reason : Reason) where
   -- the first of the years that are left
-  years-at : (n : ℕ) (result read : Result Match Reason) → 0 < n → IsReadInYear Y u year read
+  pub years-at : (n : ℕ) (result read : Result Match Reason) → 0 < n → IsReadInYear Y u year read
       → MatchResult read
       (λ s. MatchBool (is_after Y s.moment u.latest) (AreYearsTried Y u (n - 1) (year -ℤ pos 1) reason result) (result ≡ Ok s))
       (λ why. (final : Bool) × IsFinal Y u year why final
@@ -84,26 +64,9 @@ module _ (Y : ℕ) (u : Undated) (year : ℤ) (reason : Reason) where
   years-at zero result read some in_year next = absurd (omega arith)
   years-at (suc n) result read some in_year next = let k : suc n - 1 ≡ n = omega arith in (read, in_year, rw k at next)
 
-  module _ (result : Result Match Reason) where
-    pub years-end : (n : ℕ) → n ≡ 0 → AreYearsTried Y u n year reason (Err reason)
-    unfolding AreYearsTried
-    years-end n e = rw e refl
-
-    pub years-late : (n : ℕ) (s : Match) → 0 < n → IsReadInYear Y u year (Ok s) → is_after Y s.moment u.latest ≡ true
-        → AreYearsTried Y u (n - 1) (year -ℤ pos 1) reason result → AreYearsTried Y u n year reason result
-    years-late n s some read late later = years-at n result (Ok s) some read (on_true (is_after Y s.moment u.latest) _ _ late later)
-
-    pub years-found : (n : ℕ) (s : Match) → 0 < n → IsReadInYear Y u year (Ok s) → is_after Y s.moment u.latest ≡ false
-        → AreYearsTried Y u n year reason (Ok s)
-    years-found n s some read early = years-at n (Ok s) (Ok s) some read (on_false (is_after Y s.moment u.latest) _ _ early refl)
-
-    pub years-final : (n : ℕ) (why : Reason) → 0 < n → IsReadInYear Y u year (Err why) → IsFinal Y u year why true
-        → AreYearsTried Y u n year reason (Err why)
-    years-final n why some read final = years-at n (Err why) (Err why) some read (true, final, refl)
-
-    pub years-refused : (n : ℕ) (why : Reason) → 0 < n → IsReadInYear Y u year (Err why) → IsFinal Y u year why false
-        → AreYearsTried Y u (n - 1) (year -ℤ pos 1) why result → AreYearsTried Y u n year reason result
-    years-refused n why some read passed later = years-at n result (Err why) some read (false, passed, later)
+  pub years-end : (n : ℕ) → n ≡ 0 → AreYearsTried Y u n year reason (Err reason)
+  unfolding AreYearsTried
+  years-end n e = rw e refl
 
 -- the match of a text by the first of several formats
 pub in_turn-first : (Y : ℕ) (format : Reading) (formats : List Reading) (is_prefix : Bool) (text : List ℕ) (defaults : Defaults) (s : Match)
@@ -112,13 +75,6 @@ in_turn-first Y format formats is_prefix text defaults s says = (Ok s, (Ok s, (O
 
 -- the match of a text that may omit its year
 module _ (Y : ℕ) (format : Reading) (is_prefix : Bool) (text : List ℕ) (defaults : Defaults) (e : Reason) where
-  pub dated-none : defaults.latest ≡ None → ParsesLocally Y format is_prefix text defaults (Err e) → IsDated Y format is_prefix text defaults (Err e)
-  dated-none none says = (Err e, says, on_none defaults.latest _ _ none refl)
-
-  pub dated-rejected : defaults.clocks ≡ None → defaults.latest ≡ None → ParsesAs Y format is_prefix text defaults (Err e)
-      → IsDated Y format is_prefix text defaults (Err e)
-  dated-rejected no_clocks no_latest says = dated-none no_latest (Err e, says, on_none defaults.clocks _ _ no_clocks refl)
-
   pub dated-years : (v : OffsetDateTime) (year : ℤ) (result : Result Match Reason) → defaults.latest ≡ Some v
       → ParsesLocally Y format is_prefix text defaults (Err e) → year ≡ year_after v
       → AreYearsTried Y (undated format is_prefix text defaults.offset defaults.clocks v) 10 year e result
@@ -144,10 +100,6 @@ module _ (Y : ℕ) (format : Reading) (is_prefix : Bool) (text : List ℕ) (defa
     on-shown s o e r says when there later = (utc, is, Ok s, rw (← same) says, (Ok o, when, rw (← there) later))
 
   -- the match of a text that the format rejects without a zone
-  pub locally-none : (e : Reason) → defaults.clocks ≡ None → ParsesAs Y format is_prefix text defaults (Err e)
-      → ParsesLocally Y format is_prefix text defaults (Err e)
-  locally-none e none says = (Err e, says, on_none defaults.clocks _ _ none refl)
-
   pub locally-on : (e : Reason) (clocks : Clocks) (r : Result Match Reason) → defaults.clocks ≡ Some clocks
       → ParsesAs Y format is_prefix text defaults (Err e) → ParsesInZone Y clocks format is_prefix text defaults r
       → ParsesLocally Y format is_prefix text defaults r
@@ -173,11 +125,3 @@ says_plain IsOf Y format is_prefix text defaults (Ok s) result zones counted is 
 says_plain IsOf Y format is_prefix text defaults (Err e) (Ok s) zones counted is kept = absurd kept
 says_plain IsOf Y format is_prefix text defaults (Err e) (Err why) zones counted is kept =
     (unread (refusal_of e), kept, (Err (refusal_of e), is, refl))
-
--- the match of such a text, without the reason of an error
-pub says_plain-some : (Y : ℕ) (format : Reading) (is_prefix : Bool) (text : List ℕ) (defaults : Defaults) (parsed : Result Match Parse)
-    (found : Option Match) → zones_of format ≡ None → is_counted format ≡ false → IsRead Y format is_prefix text defaults (erased_match parsed)
-    → IfSome found (λ s. parsed ≡ Ok s) → IfSome found (λ s. ParsesAs Y format is_prefix text defaults (Ok s))
-says_plain-some Y format is_prefix text defaults parsed None zones counted is same = tt
-says_plain-some Y format is_prefix text defaults parsed (Some s) zones counted is same =
-    (Ok s, rw same at is, on_none (zones_of format) _ _ zones (rw counted refl))

@@ -1,44 +1,15 @@
 -- A timestamp that was written parses back, and writing it again gives the same text.
-use Rattle.std.proofs.Common.{◌≡◌, ℕ, false, List, length, sym, ap, subst, refl, ◌∙◌, None, Some, Ok, Err}
-use Rattle.std.specs.Prelude.{Option, Result, MatchOption, IsOkAnd}
-use Rattle.jiff_core.specs.Timestamp.{IsTimestampNanos}
-use Rattle.jiff_tz.specs.Zone as Zone
-use Rattle.time_values.specs.Moments.{offset_time, offset_instant}
-use Rattle.time_values.specs.Calendar.{greatest_year}
-use Rattle.time_values.specs.Shown.{Items}
-use Rattle.time_values.specs.Times as Times
-use Rattle.time_values.specs.declared.offset_date_time.OffsetDateTime.{OffsetDateTime}
-use Rattle.time_descriptions.specs.Description.{shape}
-use Rattle.time_formatting.specs.WellKnown.{WritesSuch, IsMailText, moment_text, count_of, unwritable_3339, unwritable_2822}
-use Rattle.time_formatting.specs.declared.parts.FractionDigits.{FractionDigits}
-use Rattle.time_formatting.specs.declared.parts.FractionDigits.TheVariants.{Exactly}
-use Rattle.time_formatting.specs.declared.parts.Unwritable.{Unwritable}
-use Rattle.time_record.specs.Record.{empty}
-use Rattle.time_record.specs.Resolution.{IsMoment}
-use Rattle.time_parsing.specs.Outcome.{IsOutcome}
-use Rattle.time_parsing.specs.Iso8601 as Iso8601
+use Rattle.std.proofs.Common.{◌≡◌, ℕ, false, List, length, sym, ap, subst, refl, ◌∙◌, None, Some, Ok, Err, Option, Result, MatchOption, IsOkAnd}
+use Rattle.time_formatting.specs.WellKnown.{count_of}
 use Rattle.time_parsing.specs.Written.{IsCut}
-use Rattle.time_parsing.proofs.IsoBack.{iso_read_back}
-use Rattle.time_parsing.proofs.MailForm.{mail_read_back}
-use Rattle.time_parsing.proofs.WrittenBack.{read_back, auto-keeps, nine-keeps}
-use Rattle.restamp_formats.specs.Zoned.{IsConverted, conversion_error}
-use Rattle.restamp_formats.specs.Form.{IsNamedText, IsWrittenBy, IsWritten, written}
+use Rattle.time_parsing.proofs.{IsoBack.iso_read_back, MailForm.mail_read_back, WrittenBack.read_back, WrittenBack.auto-keeps, WrittenBack.nine-keeps}
+use Rattle.jiff_tz.specs.Zone as Zone
+use Rattle.time_values.specs.Times as Times
+use Rattle.time_parsing.specs.Iso8601 as Iso8601
+use Rattle.restamp_formats.specs.Common.{IsTimestampNanos, offset_time, offset_instant, greatest_year, Items, OffsetDateTime, shape, WritesSuch, IsMailText, moment_text, unwritable_3339, unwritable_2822, FractionDigits, Unwritable, empty, IsMoment, IsOutcome, Clock, Form, Named, Writing, Defaults, Reading, Match}
 use Rattle.restamp_formats.specs.Laws.{HasDigits, AutoHasAll, ReadsAll, IsReadable, ReadsRewrittenBack, WritesSameText}
-use Rattle.restamp_formats.specs.Reading.{said}
-use Rattle.restamp_formats.specs.Reason.{Reason}
-use Rattle.restamp_formats.specs.declared.clock.Clock.{Clock}
-use Rattle.restamp_formats.specs.declared.clock.Clock.TheVariants as clock
-use Rattle.restamp_formats.specs.declared.form.Form.{Form}
-use Rattle.restamp_formats.specs.declared.form.Named.{Named as Named_}
-use Rattle.restamp_formats.specs.declared.form.Named.TheVariants.{Rfc3339, Rfc2822, Iso8601, Count}
-use Rattle.restamp_formats.specs.declared.form.Writing.{Writing}
-use Rattle.restamp_formats.specs.declared.form.Writing.TheVariants.{Named, Described}
-use Rattle.restamp_formats.specs.declared.reading.Defaults.{Defaults}
-use Rattle.restamp_formats.specs.declared.reading.Reading.{Reading}
-use Rattle.restamp_formats.specs.declared.reading.Match.{Match}
-use Rattle.restamp_formats.proofs.DescribedBack.{keeps_moment, SaysAll, described_back}
-use Rattle.restamp_formats.proofs.OneReading.{one_has}
-use Rattle.restamp_formats.proofs.OneWriting.{one_shown, one_written}
+use Rattle.restamp_formats.specs.{Zoned.IsConverted, Zoned.conversion_error, Form.IsNamedText, Form.IsWrittenBy, Form.IsWritten, Form.written, Reading.said, Reason.Reason}
+use Rattle.restamp_formats.proofs.{DescribedBack.keeps_moment, DescribedBack.SaysAll, DescribedBack.described_back, OneReading.one_has, OneWriting.one_shown, OneWriting.one_written}
 
 -- the text of a moment that has one
 text_is : (reason : Option Unwritable) (such : List ℕ → Type 0) (text : Items) (result : Result Items Unwritable)
@@ -55,21 +26,21 @@ nanosecond_of v = Times.nanosecond (offset_time v)
 whole : (k : ℕ) (v : OffsetDateTime) → HasDigits k v → IsCut k v v
 whole k v keeps = record { date = refl; clock = (refl, refl, refl, sym keeps); offset = refl }
 
-named_back : (named : Named_) (digits : FractionDigits) (v : OffsetDateTime) (text : Items) (format : Reading)
-    (defaults : Defaults) → ReadsAll greatest_year format defaults (Named named) digits v
+named_back : (named : Named) (digits : FractionDigits) (v : OffsetDateTime) (text : Items) (format : Reading)
+    (defaults : Defaults) → ReadsAll greatest_year format defaults (Writing.Named named) digits v
     → IsNamedText greatest_year named digits v (Ok text) → SaysAll format defaults v text.items
-named_back Rfc3339 digits v text format defaults all p =
+named_back Named.Rfc3339 digits v text format defaults all p =
     let k = count_of digits (nanosecond_of v) in
     let is = text_is (unwritable_3339 v) (λ b. b ≡ moment_text k v) text p.0 p.1 p.2 in
     let back = read_back digits v v is.0 (whole k v all.1) in
     rw all.0 (Ok (said v (length text.items)), (Ok v, rw is.1 back.0, refl), refl)
-named_back Rfc2822 digits v text format defaults all p =
+named_back Named.Rfc2822 digits v text format defaults all p =
     let is = text_is (unwritable_2822 v) (IsMailText v) text p.0 p.1 p.2 in
     let back = mail_read_back v v text.items is.0 (whole 0 v all.1) is.1 in
     rw all.0 (Ok (said v (length text.items)), (Ok (said v (length text.items)), (Ok v, back.0, refl), refl), refl)
-named_back Iso8601 digits v text format defaults all p =
+named_back Named.Iso8601 digits v text format defaults all p =
     let is = text_is (unwritable_3339 v) (λ b. b ≡ moment_text 9 v) text p.0 p.1 p.2 in
-    let back = iso_read_back (Exactly 9) v v is.0 (whole 9 v (nine-keeps (nanosecond_of v) (offset_time v).nanosecond_in)) in
+    let back = iso_read_back (FractionDigits.Exactly 9) v v is.0 (whole 9 v (nine-keeps (nanosecond_of v) (offset_time v).nanosecond_in)) in
     let outcome = subst (λ b. IsOutcome (IsMoment greatest_year) (Iso8601.Reads greatest_year) (Iso8601.Refuses greatest_year) b
     empty (Ok v)) (sym is.1) back.0 in
     rw all (
@@ -77,25 +48,25 @@ named_back Iso8601 digits v text format defaults all p =
       (Ok v, (outcome.0, outcome.1, keeps_moment greatest_year defaults outcome.0 v outcome.2), refl),
       refl,
     )
-named_back (Count unit) digits v text format defaults all p = absurd all
+named_back (Named.Count unit) digits v text format defaults all p = absurd all
 
 by_back : (writing : Writing) (digits : FractionDigits) (v : OffsetDateTime) (text : Items) (format : Reading)
     (defaults : Defaults) → ReadsAll greatest_year format defaults writing digits v
     → IsWrittenBy greatest_year writing digits v (Ok text) → SaysAll format defaults v text.items
-by_back (Named named) digits v text format defaults all p = named_back named digits v text format defaults all p
-by_back (Described d) digits v text format defaults all p = described_back format defaults (shape d) v text all p
+by_back (Writing.Named named) digits v text format defaults all p = named_back named digits v text format defaults all p
+by_back (Writing.Described d) digits v text format defaults all p = described_back format defaults (shape d) v text all p
 
 -- converting a moment to a clock keeps its instant, and a second conversion changes nothing
 pub shown_instant : (on : Clock) (v w : OffsetDateTime) → IsConverted greatest_year on v (Some w)
     → offset_instant greatest_year w ≡ offset_instant greatest_year v
-shown_instant clock.Own v w p = let same : w ≡ v = cc in ap (offset_instant greatest_year) same
-shown_instant (clock.Fixed o) v w p = p.0
-shown_instant (clock.Zone zone) v w p = p.0
+shown_instant Clock.Own v w p = let same : w ≡ v = cc in ap (offset_instant greatest_year) same
+shown_instant (Clock.Fixed o) v w p = p.0
+shown_instant (Clock.Zone zone) v w p = p.0
 
 shown_again : (on : Clock) (v w : OffsetDateTime) → IsConverted greatest_year on v (Some w) → IsConverted greatest_year on w (Some w)
-shown_again clock.Own v w p = refl
-shown_again (clock.Fixed o) v w p = (refl, p.1)
-shown_again (clock.Zone zone) v w p =
+shown_again Clock.Own v w p = refl
+shown_again (Clock.Fixed o) v w p = (refl, p.1)
+shown_again (Clock.Zone zone) v w p =
     (refl, subst IsTimestampNanos (sym p.0) p.1, p.2 ∙ ap (Zone.offset_at zone) (sym p.0))
 
 -- the converted moment: the text parses as it, and it is written as the text again

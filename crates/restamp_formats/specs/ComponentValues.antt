@@ -1,27 +1,13 @@
 -- The values of a moment that components give, and when these determine it. `Y` is the greatest year.
-use Rattle.std.specs.Prelude.{◌≡◌, ℕ, List, [], ◌∷◌, ◌++◌, false, Option, None, Some, option_and_then, Result, Ok, Err, pos, unsigned_abs, MatchOption}
-use Rattle.time_values.specs.declared.offset_date_time.OffsetDateTime.{OffsetDateTime}
-use Rattle.time_values.specs.Dates as Dates
-use Rattle.time_values.specs.Moments.{offset_date, offset_of, offset_time}
-use Rattle.time_values.specs.Offsets as Offsets
-use Rattle.time_values.specs.Shown.{is_behind}
+use Rattle.std.specs.Prelude.{◌≡◌, ◌∷◌, ◌++◌}
 use Rattle.time_values.specs.Sign.{signed_by}
+use Rattle.time_formatting.specs.Components.{Stops, count_of, half_of, weekday_of, kept}
+use Rattle.time_record.specs.{Components.is_pm, Resolution.Clock, Resolution.clock_of, Resolution.offset_part, Resolution.offset_seconds_of}
+use Rattle.time_values.specs.Dates as Dates
+use Rattle.time_values.specs.Offsets as Offsets
 use Rattle.time_values.specs.Times as Times
-use Rattle.time_values.specs.declared.date.Date.{Date}
-use Rattle.time_values.specs.declared.time.Time.{Time}
-use Rattle.time_values.specs.declared.utc_offset.UtcOffset.{UtcOffset}
-use Rattle.time_components.specs.declared.format_description.Component.{Component}
-use Rattle.time_components.specs.Tree.{Tree, Trees, literal, component, sequence, optional, first_of, none, more, steps_shape}
-use Rattle.time_components.specs.declared.format_description.Component.TheVariants as component
-use Rattle.time_formatting.specs.Components.{component_text, value_of, Stops, count_of, half_of, hour_12, weekday_of, kept}
-use Rattle.time_formatting.specs.declared.walk.Unformattable.{Unformattable}
-use Rattle.time_record.specs.Components.{put_value, is_pm}
-use Rattle.time_record.specs.Record.{Record, empty}
-use Rattle.time_record.specs.Resolution.{Clock, clock_of, offset_part, offset_seconds_of, full_year}
+use Rattle.restamp_formats.specs.Common.{ℕ, List, [], false, Option, None, Some, option_and_then, Result, Ok, Err, pos, unsigned_abs, MatchOption, OffsetDateTime, offset_date, offset_of, offset_time, is_behind, Date, Time, UtcOffset, Component, Tree, Trees, literal, component, sequence, optional, first_of, none, more, steps_shape, component_text, value_of, hour_12, Unformattable, put_value, Record, empty, full_year, Defaults, Reading}
 use Rattle.restamp_formats.specs.Reading.{IsCompleted, is_negative_fraction}
-use Rattle.restamp_formats.specs.declared.reading.Defaults.{Defaults}
-use Rattle.restamp_formats.specs.declared.reading.Reading.{Reading}
-use Rattle.restamp_formats.specs.declared.reading.Reading.TheVariants as reading
 
 -- ---- The text of a moment by a tree, and when it parses back. `Y` is the greatest year.
 
@@ -84,9 +70,9 @@ no_defaults = record { year = None; offset = None; clocks = None; latest = None 
 
 -- The format has that tree, and parses all of the moment from its text by the tree.
 abbrev pub ReadsTree : ℕ → Reading → Defaults → Tree → OffsetDateTime → Type 0
-ReadsTree Y (reading.Described d) defaults tree v = (steps_shape d ≡ tree) × DeterminesMoment Y tree defaults v
-ReadsTree Y (reading.Complete d) defaults tree v = (steps_shape d ≡ tree) × DeterminesMoment Y tree no_defaults v
-ReadsTree Y (reading.Counted d) defaults tree v =
+ReadsTree Y (Reading.Described d) defaults tree v = (steps_shape d ≡ tree) × DeterminesMoment Y tree defaults v
+ReadsTree Y (Reading.Complete d) defaults tree v = (steps_shape d ≡ tree) × DeterminesMoment Y tree no_defaults v
+ReadsTree Y (Reading.Counted d) defaults tree v =
     (steps_shape d ≡ tree) × DeterminesMoment Y tree defaults v
     × (is_negative_fraction (whole_text Y v (pieces tree)) ≡ false)
 ReadsTree Y format defaults tree v = ⊥
@@ -94,35 +80,35 @@ ReadsTree Y format defaults tree v = ⊥
 -- the record with the component's value of the moment, which is a number or a name of the date, the time or the offset;
 -- `None` for any other component
 abbrev pub with_value_of : ℕ → OffsetDateTime → Component → Record → Option Record
-with_value_of Y v (component.Day m) r = Some (record r { day = Some (Dates.day (offset_date v)) })
-with_value_of Y v (component.MonthShort m) r = Some (record r { month = Some (Dates.month (offset_date v)) })
-with_value_of Y v (component.MonthLong m) r = Some (record r { month = Some (Dates.month (offset_date v)) })
-with_value_of Y v (component.MonthNumerical m) r = Some (record r { month = Some (Dates.month (offset_date v)) })
-with_value_of Y v (component.Ordinal m) r = Some (record r { ordinal = Some (Dates.ordinal (offset_date v)) })
-with_value_of Y v (component.WeekdayShort m) r = Some (record r { weekday = Some (weekday_of Y v) })
-with_value_of Y v (component.WeekdayLong m) r = Some (record r { weekday = Some (weekday_of Y v) })
-with_value_of Y v (component.WeekdaySunday m) r = Some (record r { weekday = Some (weekday_of Y v) })
-with_value_of Y v (component.WeekdayMonday m) r = Some (record r { weekday = Some (weekday_of Y v) })
-with_value_of Y v (component.CalendarYearFullExtendedRange m) r =
+with_value_of Y v (Component.Day m) r = Some (record r { day = Some (Dates.day (offset_date v)) })
+with_value_of Y v (Component.MonthShort m) r = Some (record r { month = Some (Dates.month (offset_date v)) })
+with_value_of Y v (Component.MonthLong m) r = Some (record r { month = Some (Dates.month (offset_date v)) })
+with_value_of Y v (Component.MonthNumerical m) r = Some (record r { month = Some (Dates.month (offset_date v)) })
+with_value_of Y v (Component.Ordinal m) r = Some (record r { ordinal = Some (Dates.ordinal (offset_date v)) })
+with_value_of Y v (Component.WeekdayShort m) r = Some (record r { weekday = Some (weekday_of Y v) })
+with_value_of Y v (Component.WeekdayLong m) r = Some (record r { weekday = Some (weekday_of Y v) })
+with_value_of Y v (Component.WeekdaySunday m) r = Some (record r { weekday = Some (weekday_of Y v) })
+with_value_of Y v (Component.WeekdayMonday m) r = Some (record r { weekday = Some (weekday_of Y v) })
+with_value_of Y v (Component.CalendarYearFullExtendedRange m) r =
     Some (record r { year = Some (Dates.year (offset_date v)) })
-with_value_of Y v (component.CalendarYearFullStandardRange m) r =
+with_value_of Y v (Component.CalendarYearFullStandardRange m) r =
     Some (record r { year = Some (Dates.year (offset_date v)) })
-with_value_of Y v (component.Hour12 m) r = Some (record r { hour_12 = Some (hour_12 (Times.hour (offset_time v))) })
-with_value_of Y v (component.Hour24 m) r = Some (record r { hour_24 = Some (Times.hour (offset_time v)) })
-with_value_of Y v (component.Minute m) r = Some (record r { minute = Some (Times.minute (offset_time v)) })
-with_value_of Y v (component.Period m) r =
+with_value_of Y v (Component.Hour12 m) r = Some (record r { hour_12 = Some (hour_12 (Times.hour (offset_time v))) })
+with_value_of Y v (Component.Hour24 m) r = Some (record r { hour_24 = Some (Times.hour (offset_time v)) })
+with_value_of Y v (Component.Minute m) r = Some (record r { minute = Some (Times.minute (offset_time v)) })
+with_value_of Y v (Component.Period m) r =
     Some (record r { hour_12_is_pm = Some (is_pm (half_of (Times.hour (offset_time v)))) })
-with_value_of Y v (component.Second m) r = Some (record r { second = Some (Times.second (offset_time v)) })
-with_value_of Y v (component.Subsecond m) r =
+with_value_of Y v (Component.Second m) r = Some (record r { second = Some (Times.second (offset_time v)) })
+with_value_of Y v (Component.Subsecond m) r =
     let n = Times.nanosecond (offset_time v) in Some (record r { subsecond = Some (kept (count_of m.digits n) n) })
-with_value_of Y v (component.OffsetHour m) r =
+with_value_of Y v (Component.OffsetHour m) r =
     let o = offset_of v in
     Some (record r { offset_hour = Some (Offsets.hours o); offset_is_negative = is_behind o })
-with_value_of Y v (component.OffsetMinute m) r =
+with_value_of Y v (Component.OffsetMinute m) r =
     Some (record r { offset_minute = Some (pos (unsigned_abs (Offsets.minutes (offset_of v)))) })
-with_value_of Y v (component.OffsetSecond m) r =
+with_value_of Y v (Component.OffsetSecond m) r =
     Some (record r { offset_second = Some (pos (unsigned_abs (Offsets.seconds (offset_of v)))) })
-with_value_of Y v (component.End m) r = Some r
+with_value_of Y v (Component.End m) r = Some r
 with_value_of Y v _ r = None
 
 -- the record with the values of pieces in turn

@@ -1,40 +1,13 @@
 -- Laws of formats.
-use Rattle.std.specs.Prelude.{◌≡◌, ℕ, pos, codes, false, List, ◌++◌, length, Option, Some, Result, Ok, IsOkAnd, ◌⊎◌, [], ◌∷◌}
-use Rattle.time_values.specs.Moments.{offset_of, offset_time}
-use Rattle.time_values.specs.Offsets as Offsets
-use Rattle.time_values.specs.Shown.{Items}
-use Rattle.time_values.specs.Times as Times
-use Rattle.time_values.specs.declared.offset_date_time.OffsetDateTime.{OffsetDateTime}
-use Rattle.time_values.specs.declared.utc_offset.UtcOffset.{UtcOffset}
-use Rattle.time_zones.specs.Suffix.{GoesWith, IsNameIn, IsSuffix, IsZoneText, Tag, Zone, ZoneTag, at_offset, bracketed, critical_key, named}
-use Rattle.time_zones.specs.Finding.{zone_named, IsZoneIfAny, SameNamed}
-use Rattle.time_zones.specs.declared.zones.Zones.{Zones}
-use Rattle.time_formatting.specs.declared.parts.FractionDigits.{FractionDigits}
-use Rattle.time_formatting.specs.declared.parts.FractionDigits.TheVariants.{Auto}
-use Rattle.time_components.specs.Tree.{Tree, steps_shape}
-use Rattle.time_components.specs.declared.inspect.Step.{Step}
-use Rattle.time_descriptions.specs.Description.{shape}
-use Rattle.time_descriptions.specs.declared.description.Description.{Description}
-use Rattle.time_record.specs.Record.{Record, empty}
-use Rattle.time_record.specs.Resolution.{IsMoment}
+use Rattle.std.specs.Prelude.{◌≡◌, ◌++◌, ◌⊎◌, ◌∷◌}
+use Rattle.time_zones.specs.{Suffix.at_offset, Finding.SameNamed}
 use Rattle.time_parsing.specs.Written.{kept, written}
-use Rattle.restamp_formats.specs.Zoned.{IsConverted, tells_offset}
-use Rattle.restamp_formats.specs.Form.{IsWritten}
+use Rattle.time_values.specs.Offsets as Offsets
+use Rattle.time_values.specs.Times as Times
+use Rattle.restamp_formats.specs.Common.{ℕ, pos, codes, false, List, length, Option, Some, Result, Ok, IsOkAnd, [], offset_of, offset_time, Items, OffsetDateTime, UtcOffset, GoesWith, IsNameIn, IsSuffix, IsZoneText, Tag, Zone, ZoneTag, bracketed, critical_key, named, zone_named, IsZoneIfAny, Zones, FractionDigits, Tree, steps_shape, Step, shape, Description, Record, empty, IsMoment, Clock, Form, Writing, Defaults, Reading, MOST_STEPS, Match, Named}
 use Rattle.restamp_formats.specs.Naming.{format_name_of, common_text, meaning_of, Means, MeansWriting}
 use Rattle.restamp_formats.specs.ComponentValues.{pieces, AllStop, DeterminesMoment, ReadsTree, with_values_of, HasAll, SignDetermines}
-use Rattle.restamp_formats.specs.Reading.{ParsesAs, completed, IsCompleted, said}
-use Rattle.restamp_formats.specs.Reason.{Reason}
-use Rattle.restamp_formats.specs.declared.clock.Clock.{Clock}
-use Rattle.restamp_formats.specs.declared.clock.Clock.TheVariants as clock
-use Rattle.restamp_formats.specs.declared.form.Form.{Form}
-use Rattle.restamp_formats.specs.declared.form.Named.TheVariants.{Rfc3339, Rfc2822, Iso8601, Count}
-use Rattle.restamp_formats.specs.declared.form.Writing.{Writing}
-use Rattle.restamp_formats.specs.declared.form.Writing.TheVariants.{Named, Described}
-use Rattle.restamp_formats.specs.declared.reading.Defaults.{Defaults}
-use Rattle.restamp_formats.specs.declared.reading.Reading.{Reading}
-use Rattle.restamp_formats.specs.declared.reading.Reading.TheVariants as reading
-use Rattle.restamp_formats.specs.declared.reading.TheConstants.{MOST_STEPS}
-use Rattle.restamp_formats.specs.declared.reading.Match.{Match}
+use Rattle.restamp_formats.specs.{Zoned.IsConverted, Zoned.tells_offset, Form.IsWritten, Reading.ParsesAs, Reading.completed, Reading.IsCompleted, Reading.said, Reason.Reason}
 
 -- All digits of the moment's fraction after the first k are 0.
 abbrev pub HasDigits : ℕ → OffsetDateTime → Type 0
@@ -42,16 +15,16 @@ HasDigits k v = kept k (Times.nanosecond (offset_time v)) ≡ Times.nanosecond (
 
 -- `Auto` writes each nonzero digit.
 abbrev pub AutoHasAll : Type 0
-AutoHasAll = (v : OffsetDateTime) → HasDigits (written Auto v) v
+AutoHasAll = (v : OffsetDateTime) → HasDigits (written FractionDigits.Auto v) v
 
 -- The format parses all of the moment from its text by the output format. A named format is the one that wrote the
 -- text, with each nonzero digit; a description has the tree of the one that wrote it.
 abbrev pub ReadsAll : ℕ → Reading → Defaults → Writing → FractionDigits → OffsetDateTime → Type 0
-ReadsAll Y format defaults (Named Rfc3339) digits v = (format ≡ reading.Rfc3339) × HasDigits (written digits v) v
-ReadsAll Y format defaults (Named Rfc2822) digits v = (format ≡ reading.Rfc2822) × HasDigits 0 v
-ReadsAll Y format defaults (Named Iso8601) digits v = format ≡ reading.Iso8601
-ReadsAll Y format defaults (Named (Count unit)) digits v = ⊥
-ReadsAll Y format defaults (Described d) digits v = ReadsTree Y format defaults (shape d) v
+ReadsAll Y format defaults (Writing.Named Named.Rfc3339) digits v = (format ≡ Reading.Rfc3339) × HasDigits (written digits v) v
+ReadsAll Y format defaults (Writing.Named Named.Rfc2822) digits v = (format ≡ Reading.Rfc2822) × HasDigits 0 v
+ReadsAll Y format defaults (Writing.Named Named.Iso8601) digits v = format ≡ Reading.Iso8601
+ReadsAll Y format defaults (Writing.Named (Named.Count unit)) digits v = ⊥
+ReadsAll Y format defaults (Writing.Described d) digits v = ReadsTree Y format defaults (shape d) v
 
 -- The text is that of the moment in a form, and the format parses all of the moment, as it is after its conversion.
 abbrev pub IsReadable : ℕ → Reading → Defaults → Form → OffsetDateTime → List ℕ → Type 0
@@ -75,25 +48,25 @@ abbrev pub ReadsSuffixedBack : ℕ → Type 0
 ReadsSuffixedBack Y =
     (zones : Zones) (defaults : Defaults) (v : OffsetDateTime) (text behind : List ℕ) (zone : Option ZoneTag)
     (tags : List Tag) (read : Result Match Reason)
-    → ParsesAs Y reading.Rfc3339 false text defaults (Ok (said v (length text)))
+    → ParsesAs Y Reading.Rfc3339 false text defaults (Ok (said v (length text)))
     → IsSuffix behind zone tags → GoesWith zones (tells_offset text) v zone (critical_key tags) (Ok tt)
-    → ParsesAs Y (reading.Zoned zones) false (text ++ behind) defaults read
+    → ParsesAs Y (Reading.Zoned zones) false (text ++ behind) defaults read
     → read ≡ Ok (said v (length (text ++ behind)))
 
 -- The zone is the one that moments are converted to: a table of zones has it by its name.
 abbrev pub IsZoneOfClock : Zones → Clock → Zone → Type 0
-IsZoneOfClock zones clock.Own z = ⊥
-IsZoneOfClock zones (clock.Fixed o) (at_offset p) = p ≡ o
-IsZoneOfClock zones (clock.Fixed o) (named name) = ⊥
-IsZoneOfClock zones (clock.Zone zone) (at_offset p) = ⊥
-IsZoneOfClock zones (clock.Zone zone) (named name) = IsZoneIfAny (zone_named zones name) (Some zone)
+IsZoneOfClock zones Clock.Own z = ⊥
+IsZoneOfClock zones (Clock.Fixed o) (at_offset p) = p ≡ o
+IsZoneOfClock zones (Clock.Fixed o) (named name) = ⊥
+IsZoneOfClock zones (Clock.Zone zone) (at_offset p) = ⊥
+IsZoneOfClock zones (Clock.Zone zone) (named name) = IsZoneIfAny (zone_named zones name) (Some zone)
 
 -- The text is that of the moment by RFC 3339 in a form, with each nonzero digit, and the name is that of the zone that
 -- the moment is converted to.
 pub record HasZone (Y : ℕ) (zones : Zones) (defaults : Defaults) (form : Form) (v : OffsetDateTime)
     (text name : List ℕ) : Type 0 where
   pub zone : Zone
-  pub readable : IsReadable Y reading.Rfc3339 defaults form v text
+  pub readable : IsReadable Y Reading.Rfc3339 defaults form v text
   pub of_clock : IsZoneOfClock zones form.clock zone
   pub told : IsZoneText name zone
 
@@ -103,7 +76,7 @@ ReadsZonedBack Y =
     (zones : Zones) (defaults : Defaults) (form : Form) (v : OffsetDateTime) (text name : List ℕ)
     (read : Result Match Reason)
     → HasZone Y zones defaults form v text name
-    → ParsesAs Y (reading.Zoned zones) false (text ++ bracketed false name) defaults read
+    → ParsesAs Y (Reading.Zoned zones) false (text ++ bracketed false name) defaults read
     → IsOkAnd read (λ said. IsConverted Y form.clock v (Some said.moment) × (said.start ≡ 0)
     × (said.length ≡ length (text ++ bracketed false name)))
 
@@ -113,7 +86,7 @@ WritesZonedSame Y =
     (zones : Zones) (defaults : Defaults) (form : Form) (v : OffsetDateTime) (text name : List ℕ) (said : Match)
     (again : Result Items Reason)
     → HasZone Y zones defaults form v text name
-    → ParsesAs Y (reading.Zoned zones) false (text ++ bracketed false name) defaults (Ok said)
+    → ParsesAs Y (Reading.Zoned zones) false (text ++ bracketed false name) defaults (Ok said)
     → IsWritten Y form said.moment again → IsOkAnd again (λ written. written.items ≡ text)
 
 -- A text of `IsReadable` parses as a moment that has the same text in the form.
@@ -145,15 +118,15 @@ SignsDetermine = (o : UtcOffset) → SignDetermines o
 abbrev pub OneTree : Type 0
 OneTree =
     (text : List ℕ) (format : Reading) (d : Description MOST_STEPS)
-    → Means (format_name_of text) (meaning_of format) → MeansWriting text (Described d)
-    → (e : List Step) × (format ≡ reading.Described e) × (steps_shape e ≡ shape d)
+    → Means (format_name_of text) (meaning_of format) → MeansWriting text (Writing.Described d)
+    → (e : List Step) × (format ≡ Reading.Described e) × (steps_shape e ≡ shape d)
 
 -- A moment without a fraction, and with an offset of whole minutes, that the description of access logs wrote parses
 -- back by the format of that name, whatever the defaults.
 abbrev pub CommonReadsBack : ℕ → Type 0
 CommonReadsBack Y =
     (v : OffsetDateTime) (format : Reading) (defaults : Defaults) (d : Description MOST_STEPS)
-    → Means (format_name_of (codes "common")) (meaning_of format) → MeansWriting common_text (Described d)
+    → Means (format_name_of (codes "common")) (meaning_of format) → MeansWriting common_text (Writing.Described d)
     → Times.nanosecond (offset_time v) ≡ 0 → Offsets.seconds (offset_of v) ≡ pos 0
     → ReadsTree Y format defaults (shape d) v
 
@@ -167,7 +140,7 @@ SameZones bytes zones other = (name : List ℕ) → IsNameIn bytes name → Same
 abbrev pub AreEquivalent : List ℕ → Reading → Reading → Type 0
 AreEquivalent bytes format other =
     (format ≡ other)
-    ⊎ ((zones same : Zones) × (format ≡ reading.Zoned zones) × (other ≡ reading.Zoned same)
+    ⊎ ((zones same : Zones) × (format ≡ Reading.Zoned zones) × (other ≡ Reading.Zoned same)
     × SameZones bytes zones same)
 
 -- the formats of two lists are pairwise equal, except for tables of zones as above

@@ -1,3 +1,4 @@
+pub mod Common
 pub mod Reason
 pub mod Zoned
 pub mod Reading

@@ -1,105 +1,88 @@
 -- The parts that all texts of a description's tree omit, so that no text by it is a moment.
-use Rattle.std.specs.Prelude.{Bool, true, false, not, ◌&&◌, ◌||◌, List, codes, ℕ, Option, None, Some, if◌then◌else◌, ◌≡◌, is_some, Result, Ok}
-use Rattle.time_values.specs.Refusal.{Refusal}
-use Rattle.time_values.specs.declared.offset_date_time.OffsetDateTime.{OffsetDateTime}
-use Rattle.time_components.specs.Tree.{steps_shape, Tree, Trees, literal, component, sequence, optional, first_of, none, more}
-use Rattle.time_components.specs.declared.format_description.Component.{Component}
-use Rattle.time_components.specs.declared.format_description.Component.TheVariants as component
-use Rattle.time_record.specs.Reading.{Reads}
-use Rattle.time_record.specs.Record.{Record, empty}
-use Rattle.restamp_formats.specs.declared.missing_field.Kind.{Kind}
-use Rattle.restamp_formats.specs.declared.missing_field.Kind.TheVariants as kind
-use Rattle.restamp_formats.specs.declared.missing_field.MissingField.{MissingField}
-use Rattle.restamp_formats.specs.declared.missing_field.MissingField.TheVariants as missing_field
-use Rattle.restamp_formats.specs.declared.missing_field.Part.{Part}
-use Rattle.restamp_formats.specs.declared.missing_field.Part.TheVariants as part
-use Rattle.restamp_formats.specs.declared.reading.Reading.{Reading}
-use Rattle.restamp_formats.specs.declared.reading.Reading.TheVariants as reading
-use Rattle.restamp_formats.specs.Reading.{IsCompleted, IsDated, ParsesLocally}
-use Rattle.restamp_formats.specs.Reason.{Reason}
-use Rattle.restamp_formats.specs.declared.reading.Defaults.{Defaults}
-use Rattle.restamp_formats.specs.declared.reading.Match.{Match}
+use Rattle.std.specs.Prelude.{◌&&◌, ◌||◌, if◌then◌else◌, ◌≡◌}
+use Rattle.restamp_formats.specs.Common.{Bool, true, false, not, List, codes, ℕ, Option, None, Some, is_some, Result, Ok, Refusal, OffsetDateTime, steps_shape, Tree, Trees, literal, component, sequence, optional, first_of, none, more, Component, Reads, Record, empty, Kind, MissingField, Part, Reading, Defaults, Match}
+use Rattle.restamp_formats.specs.{Reading.IsCompleted, Reading.IsDated, Reading.ParsesLocally, Reason.Reason}
 
 -- the part of a moment that a component gives, as far as a day, its year, an hour and an offset need it
 abbrev pub kind_of : Component → Kind
-kind_of (component.CalendarYearFullExtendedRange m) = kind.Year
-kind_of (component.CalendarYearFullStandardRange m) = kind.Year
-kind_of (component.CalendarYearCenturyExtendedRange m) = kind.YearCentury
-kind_of (component.CalendarYearCenturyStandardRange m) = kind.YearCentury
-kind_of (component.CalendarYearLastTwo m) = kind.YearLastTwo
-kind_of (component.IsoYearFullExtendedRange m) = kind.IsoYear
-kind_of (component.IsoYearFullStandardRange m) = kind.IsoYear
-kind_of (component.IsoYearCenturyExtendedRange m) = kind.IsoYearCentury
-kind_of (component.IsoYearCenturyStandardRange m) = kind.IsoYearCentury
-kind_of (component.IsoYearLastTwo m) = kind.IsoYearLastTwo
-kind_of (component.MonthShort m) = kind.Month
-kind_of (component.MonthLong m) = kind.Month
-kind_of (component.MonthNumerical m) = kind.Month
-kind_of (component.Day m) = kind.Day
-kind_of (component.Ordinal m) = kind.Ordinal
-kind_of (component.WeekdayShort m) = kind.Weekday
-kind_of (component.WeekdayLong m) = kind.Weekday
-kind_of (component.WeekdaySunday m) = kind.Weekday
-kind_of (component.WeekdayMonday m) = kind.Weekday
-kind_of (component.WeekNumberIso m) = kind.IsoWeek
-kind_of (component.WeekNumberSunday m) = kind.SundayWeek
-kind_of (component.WeekNumberMonday m) = kind.MondayWeek
-kind_of (component.Hour24 m) = kind.Hour
-kind_of (component.Hour12 m) = kind.HourOfHalf
-kind_of (component.Period m) = kind.Half
-kind_of (component.OffsetHour m) = kind.OffsetHour
-kind_of (component.UnixTimestampSecond m) = kind.Count
-kind_of (component.UnixTimestampMillisecond m) = kind.Count
-kind_of (component.UnixTimestampMicrosecond m) = kind.Count
-kind_of (component.UnixTimestampNanosecond m) = kind.Count
-kind_of c = kind.Other
+kind_of (Component.CalendarYearFullExtendedRange m) = Kind.Year
+kind_of (Component.CalendarYearFullStandardRange m) = Kind.Year
+kind_of (Component.CalendarYearCenturyExtendedRange m) = Kind.YearCentury
+kind_of (Component.CalendarYearCenturyStandardRange m) = Kind.YearCentury
+kind_of (Component.CalendarYearLastTwo m) = Kind.YearLastTwo
+kind_of (Component.IsoYearFullExtendedRange m) = Kind.IsoYear
+kind_of (Component.IsoYearFullStandardRange m) = Kind.IsoYear
+kind_of (Component.IsoYearCenturyExtendedRange m) = Kind.IsoYearCentury
+kind_of (Component.IsoYearCenturyStandardRange m) = Kind.IsoYearCentury
+kind_of (Component.IsoYearLastTwo m) = Kind.IsoYearLastTwo
+kind_of (Component.MonthShort m) = Kind.Month
+kind_of (Component.MonthLong m) = Kind.Month
+kind_of (Component.MonthNumerical m) = Kind.Month
+kind_of (Component.Day m) = Kind.Day
+kind_of (Component.Ordinal m) = Kind.Ordinal
+kind_of (Component.WeekdayShort m) = Kind.Weekday
+kind_of (Component.WeekdayLong m) = Kind.Weekday
+kind_of (Component.WeekdaySunday m) = Kind.Weekday
+kind_of (Component.WeekdayMonday m) = Kind.Weekday
+kind_of (Component.WeekNumberIso m) = Kind.IsoWeek
+kind_of (Component.WeekNumberSunday m) = Kind.SundayWeek
+kind_of (Component.WeekNumberMonday m) = Kind.MondayWeek
+kind_of (Component.Hour24 m) = Kind.Hour
+kind_of (Component.Hour12 m) = Kind.HourOfHalf
+kind_of (Component.Period m) = Kind.Half
+kind_of (Component.OffsetHour m) = Kind.OffsetHour
+kind_of (Component.UnixTimestampSecond m) = Kind.Count
+kind_of (Component.UnixTimestampMillisecond m) = Kind.Count
+kind_of (Component.UnixTimestampMicrosecond m) = Kind.Count
+kind_of (Component.UnixTimestampNanosecond m) = Kind.Count
+kind_of c = Kind.Other
 
 -- the two are equal
 abbrev pub same : Kind → Kind → Bool
-same kind.Year kind.Year = true
-same kind.YearCentury kind.YearCentury = true
-same kind.YearLastTwo kind.YearLastTwo = true
-same kind.IsoYear kind.IsoYear = true
-same kind.IsoYearCentury kind.IsoYearCentury = true
-same kind.IsoYearLastTwo kind.IsoYearLastTwo = true
-same kind.Month kind.Month = true
-same kind.Day kind.Day = true
-same kind.Ordinal kind.Ordinal = true
-same kind.Weekday kind.Weekday = true
-same kind.IsoWeek kind.IsoWeek = true
-same kind.SundayWeek kind.SundayWeek = true
-same kind.MondayWeek kind.MondayWeek = true
-same kind.Hour kind.Hour = true
-same kind.HourOfHalf kind.HourOfHalf = true
-same kind.Half kind.Half = true
-same kind.OffsetHour kind.OffsetHour = true
-same kind.Count kind.Count = true
-same kind.Other kind.Other = true
+same Kind.Year Kind.Year = true
+same Kind.YearCentury Kind.YearCentury = true
+same Kind.YearLastTwo Kind.YearLastTwo = true
+same Kind.IsoYear Kind.IsoYear = true
+same Kind.IsoYearCentury Kind.IsoYearCentury = true
+same Kind.IsoYearLastTwo Kind.IsoYearLastTwo = true
+same Kind.Month Kind.Month = true
+same Kind.Day Kind.Day = true
+same Kind.Ordinal Kind.Ordinal = true
+same Kind.Weekday Kind.Weekday = true
+same Kind.IsoWeek Kind.IsoWeek = true
+same Kind.SundayWeek Kind.SundayWeek = true
+same Kind.MondayWeek Kind.MondayWeek = true
+same Kind.Hour Kind.Hour = true
+same Kind.HourOfHalf Kind.HourOfHalf = true
+same Kind.Half Kind.Half = true
+same Kind.OffsetHour Kind.OffsetHour = true
+same Kind.Count Kind.Count = true
+same Kind.Other Kind.Other = true
 same k j = false
 
 abbrev mutual
   -- some component of the tree gives that part
-  pub says : Kind → Tree → Bool
-  says k (literal text) = false
-  says k (component whole c) = same (kind_of c) k
-  says k (sequence ts) = one_has k ts
-  says k (optional t) = says k t
-  says k (first_of ts) = one_has k ts
+  pub has_kind : Kind → Tree → Bool
+  has_kind k (literal text) = false
+  has_kind k (component whole c) = same (kind_of c) k
+  has_kind k (sequence ts) = one_has k ts
+  has_kind k (optional t) = has_kind k t
+  has_kind k (first_of ts) = one_has k ts
 
   pub one_has : Kind → Trees → Bool
   one_has k none = false
-  one_has k (more t ts) = says k t || one_has k ts
+  one_has k (more t ts) = has_kind k t || one_has k ts
 
 -- A part of a year, or the hour of an offset. A count from 1970 gives both, since it is a moment in UTC.
 abbrev pub is_of : Part → Kind → Bool
-is_of part.Year kind.Year = true
-is_of part.Year kind.YearCentury = true
-is_of part.Year kind.YearLastTwo = true
-is_of part.Year kind.IsoYear = true
-is_of part.Year kind.IsoYearCentury = true
-is_of part.Year kind.IsoYearLastTwo = true
-is_of part.Offset kind.OffsetHour = true
-is_of p kind.Count = true
+is_of Part.Year Kind.Year = true
+is_of Part.Year Kind.YearCentury = true
+is_of Part.Year Kind.YearLastTwo = true
+is_of Part.Year Kind.IsoYear = true
+is_of Part.Year Kind.IsoYearCentury = true
+is_of Part.Year Kind.IsoYearLastTwo = true
+is_of Part.Offset Kind.OffsetHour = true
+is_of p Kind.Count = true
 is_of p k = false
 
 abbrev mutual
@@ -125,69 +108,62 @@ abbrev mutual
 -- the tree gives a day of a year
 abbrev pub has_day : Tree → Bool
 has_day t =
-    says kind.Ordinal t || (says kind.Month t && says kind.Day t)
-    || (says kind.Weekday t && (says kind.SundayWeek t || says kind.MondayWeek t))
+    has_kind Kind.Ordinal t || (has_kind Kind.Month t && has_kind Kind.Day t)
+    || (has_kind Kind.Weekday t && (has_kind Kind.SundayWeek t || has_kind Kind.MondayWeek t))
 
 -- the tree gives a day of an ISO 8601 week year
 abbrev pub has_iso_day : Tree → Bool
-has_iso_day t = says kind.IsoWeek t && says kind.Weekday t
+has_iso_day t = has_kind Kind.IsoWeek t && has_kind Kind.Weekday t
 
 -- the tree gives a whole year
 abbrev pub has_whole_year : Tree → Bool
-has_whole_year t = says kind.Year t || (says kind.YearCentury t && says kind.YearLastTwo t)
+has_whole_year t = has_kind Kind.Year t || (has_kind Kind.YearCentury t && has_kind Kind.YearLastTwo t)
 
 abbrev pub has_whole_iso_year : Tree → Bool
-has_whole_iso_year t = says kind.IsoYear t || (says kind.IsoYearCentury t && says kind.IsoYearLastTwo t)
+has_whole_iso_year t = has_kind Kind.IsoYear t || (has_kind Kind.IsoYearCentury t && has_kind Kind.IsoYearLastTwo t)
 
 -- The tree gives a day with its year. A default year counts if a text may have no part of a year.
 abbrev pub has_full_date : Bool → Tree → Bool
 has_full_date has_year t =
-    (has_day t && (has_whole_year t || (has_year && not (always part.Year t))))
+    (has_day t && (has_whole_year t || (has_year && not (always Part.Year t))))
     || (has_iso_day t && has_whole_iso_year t)
 
 -- The part that all texts of a tree omit, so that none of them is a moment, with or without a default year. A count
 -- from 1970 gives all of a moment, and an offset always has a default.
 abbrev pub missing_field_of : Bool → Tree → Option MissingField
 missing_field_of has_year t =
-    if says kind.Count t then None else
-    if not (has_day t || has_iso_day t) then Some missing_field.Day else
-    if not (has_full_date true t) then Some missing_field.WholeYear else
-    if not (has_full_date has_year t) then Some missing_field.Year else
-    if not (says kind.Hour t || says kind.HourOfHalf t) then Some missing_field.Hour else
-    if not (says kind.Hour t || says kind.Half t) then Some missing_field.Half else None
+    if has_kind Kind.Count t then None else
+    if not (has_day t || has_iso_day t) then Some MissingField.Day else
+    if not (has_full_date true t) then Some MissingField.WholeYear else
+    if not (has_full_date has_year t) then Some MissingField.Year else
+    if not (has_kind Kind.Hour t || has_kind Kind.HourOfHalf t) then Some MissingField.Hour else
+    if not (has_kind Kind.Hour t || has_kind Kind.Half t) then Some MissingField.Half else None
 
 -- The part that all texts of a format omit. RFC 3339, RFC 2822 and ISO 8601 have texts that are moments.
 abbrev pub format_missing_field : Bool → Reading → Option MissingField
-format_missing_field has_year reading.Rfc3339 = None
-format_missing_field has_year (reading.Zoned zones) = None
-format_missing_field has_year reading.Rfc2822 = None
-format_missing_field has_year reading.Iso8601 = None
-format_missing_field has_year (reading.Described d) = missing_field_of has_year (steps_shape d)
-format_missing_field has_year (reading.Complete d) = missing_field_of has_year (steps_shape d)
-format_missing_field has_year (reading.Counted d) = missing_field_of has_year (steps_shape d)
+format_missing_field has_year (Reading.Described d) = missing_field_of has_year (steps_shape d)
+format_missing_field has_year (Reading.Complete d) = missing_field_of has_year (steps_shape d)
+format_missing_field has_year (Reading.Counted d) = missing_field_of has_year (steps_shape d)
+format_missing_field has_year format = None
 
 -- Whether a default year or offset can have an effect on a text of the format. Texts of RFC 3339, RFC 2822 and a
 -- complete description have all of a moment; a date of ISO 8601 has its year.
 abbrev pub can_default : Part → Reading → Bool
-can_default p reading.Rfc3339 = false
-can_default p (reading.Zoned zones) = false
-can_default p reading.Rfc2822 = false
-can_default part.Year reading.Iso8601 = false
-can_default part.Offset reading.Iso8601 = true
-can_default p (reading.Described d) = not (always p (steps_shape d))
-can_default p (reading.Complete d) = false
-can_default p (reading.Counted d) = not (always p (steps_shape d))
+can_default Part.Offset Reading.Iso8601 = true
+can_default p (Reading.Described d) = not (always p (steps_shape d))
+can_default p (Reading.Counted d) = not (always p (steps_shape d))
+can_default p format = false
 
 -- the printed text of a missing part
 abbrev pub missing_field_text : MissingField → List ℕ
-missing_field_text missing_field.Day = codes "it says no day"
-missing_field_text missing_field.Year = codes "it says no year; --year or --latest gives one"
-missing_field_text missing_field.WholeYear = codes "it says no whole year for its day"
-missing_field_text missing_field.Hour = codes "it says no hour"
-missing_field_text missing_field.Half = codes "it says no half of the day"
-missing_field_text missing_field.Minute = codes "it says no minute"
-missing_field_text missing_field.Second = codes "it says no second"
-missing_field_text missing_field.Offset = codes "it says no offset"
+missing_field_text MissingField.Day = codes "it says no day"
+missing_field_text MissingField.Year = codes "it says no year; --year or --latest gives one"
+missing_field_text MissingField.WholeYear = codes "it says no whole year for its day"
+missing_field_text MissingField.Hour = codes "it says no hour"
+missing_field_text MissingField.Half = codes "it says no half of the day"
+missing_field_text MissingField.Minute = codes "it says no minute"
+missing_field_text MissingField.Second = codes "it says no second"
+missing_field_text MissingField.Offset = codes "it says no offset"
 
 -- ---- Laws of what all texts of a format omit. `Y` is the greatest year.
 
@@ -205,8 +181,8 @@ ParsesNoMoment Y =
 
 -- Both defaults are equal except for that part.
 abbrev pub SameBut : Part → Defaults → Defaults → Type 0
-SameBut part.Year defaults others = defaults.offset ≡ others.offset
-SameBut part.Offset defaults others = defaults.year ≡ others.year
+SameBut Part.Year defaults others = defaults.offset ≡ others.offset
+SameBut Part.Offset defaults others = defaults.year ≡ others.year
 
 -- A default for a part changes nothing if each reading of the tree has the part.
 abbrev pub HasNoUse : ℕ → Type 0
@@ -220,5 +196,5 @@ HasNoUse Y =
 abbrev pub ClocksHaveNoUse : ℕ → Type 0
 ClocksHaveNoUse Y =
     (format : Reading) (is_prefix : Bool) (text : List ℕ) (defaults : Defaults) (result : Result Match Reason)
-    → can_default part.Offset format ≡ false → ParsesLocally Y format is_prefix text defaults result
+    → can_default Part.Offset format ≡ false → ParsesLocally Y format is_prefix text defaults result
     → ParsesLocally Y format is_prefix text (record defaults { clocks = None }) result

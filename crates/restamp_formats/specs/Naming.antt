@@ -1,25 +1,10 @@
 -- Formats by their names, and by descriptions.
-use Rattle.std.specs.Prelude.{◌≡◌, ◌==◌, Bool, ℕ, List, codes, Option, None, Some, MatchOption, if◌then◌else◌}
-use Rattle.std.specs.List.{list_any}
-use Rattle.std.specs.Str.{bytes_eq}
-use Rattle.time_components.specs.Tree.{Tree, steps_shape}
-use Rattle.time_descriptions.specs.Description.{IsRefused, shape, version_of}
-use Rattle.time_descriptions.specs.Grammar.{Describes}
-use Rattle.time_descriptions.specs.Refusal.{Refusal, refusal_of, refusal_text}
-use Rattle.time_descriptions.specs.Strftime.{DescribesStrftime, IsRefusedStrftime}
-use Rattle.time_descriptions.specs.declared.description.Description.{Description}
-use Rattle.restamp_formats.specs.declared.form.Unit.TheVariants.{Seconds, Milliseconds, Microseconds, Nanoseconds}
-use Rattle.restamp_formats.specs.declared.form.Named.{Named}
-use Rattle.restamp_formats.specs.declared.form.Named.TheVariants as named
-use Rattle.restamp_formats.specs.declared.form.Writing.{Writing}
-use Rattle.restamp_formats.specs.declared.form.Writing.TheVariants as writing
-use Rattle.restamp_formats.specs.declared.naming.FormatFault.{FormatFault}
-use Rattle.restamp_formats.specs.declared.naming.FormatFault.TheVariants as fault
+use Rattle.std.specs.Prelude.{◌≡◌, ◌==◌, if◌then◌else◌}
+use Rattle.std.specs.{List.list_any, Str.bytes_eq}
+use Rattle.time_descriptions.specs.{Description.IsRefused, Refusal.Refusal, Refusal.refusal_of, Refusal.refusal_text, Strftime.IsRefusedStrftime}
 use Rattle.restamp_formats.specs.declared.naming.FormatName as declared
-use Rattle.restamp_formats.specs.declared.naming.FormatName.TheVariants as variant
-use Rattle.restamp_formats.specs.declared.reading.Reading.{Reading}
-use Rattle.restamp_formats.specs.declared.reading.Reading.TheVariants as reading
-use Rattle.restamp_formats.specs.declared.reading.TheConstants.{MOST_STEPS}
+use Rattle.restamp_formats.specs.Common.{Bool, ℕ, List, codes, Option, None, Some, MatchOption, Tree, steps_shape, shape, version_of, Describes, DescribesStrftime, Description, Seconds, Milliseconds, Microseconds, Nanoseconds, Named, Writing, Reading, MOST_STEPS}
+use Rattle.restamp_formats.specs.declared.naming.FormatFault.{FormatFault}
 
 -- how a text names a format: by one of three names, or by a description; a description of a number of seconds, one
 -- whose texts have all of a moment, one in brackets, or one as in strftime
@@ -35,14 +20,14 @@ pub data FormatName : Type 0 where
 
 -- the name of a format without the addresses of its texts
 abbrev pub erased_format_name : declared.FormatName → FormatName
-erased_format_name variant.Rfc3339 = rfc3339
-erased_format_name variant.Rfc2822 = rfc2822
-erased_format_name variant.Iso8601 = iso8601
-erased_format_name (variant.Counted text) = counted text.now
-erased_format_name (variant.Complete text) = complete text.now
-erased_format_name (variant.Brackets text) = brackets text.now
-erased_format_name (variant.Strftime text) = strftime text.now
-erased_format_name variant.Unknown = unknown
+erased_format_name declared.FormatName.Rfc3339 = rfc3339
+erased_format_name declared.FormatName.Rfc2822 = rfc2822
+erased_format_name declared.FormatName.Iso8601 = iso8601
+erased_format_name (declared.FormatName.Counted text) = counted text.now
+erased_format_name (declared.FormatName.Complete text) = complete text.now
+erased_format_name (declared.FormatName.Brackets text) = brackets text.now
+erased_format_name (declared.FormatName.Strftime text) = strftime text.now
+erased_format_name declared.FormatName.Unknown = unknown
 
 -- the byte is among the bytes
 abbrev pub has : ℕ → List ℕ → Bool
@@ -83,13 +68,13 @@ pub data Meaning : Type 0 where
   as_count : Tree → Meaning
 
 abbrev pub meaning_of : Reading → Meaning
-meaning_of reading.Rfc3339 = as_rfc3339
-meaning_of (reading.Zoned zones) = as_rfc9557
-meaning_of reading.Rfc2822 = as_rfc2822
-meaning_of reading.Iso8601 = as_iso8601
-meaning_of (reading.Described d) = as_tree (steps_shape d)
-meaning_of (reading.Complete d) = as_complete (steps_shape d)
-meaning_of (reading.Counted d) = as_count (steps_shape d)
+meaning_of Reading.Rfc3339 = as_rfc3339
+meaning_of (Reading.Zoned zones) = as_rfc9557
+meaning_of Reading.Rfc2822 = as_rfc2822
+meaning_of Reading.Iso8601 = as_iso8601
+meaning_of (Reading.Described d) = as_tree (steps_shape d)
+meaning_of (Reading.Complete d) = as_complete (steps_shape d)
+meaning_of (Reading.Counted d) = as_count (steps_shape d)
 
 -- why a format has no meaning: the text is neither a name nor a description, or the description is invalid
 pub data Fault : Type 0 where
@@ -97,8 +82,8 @@ pub data Fault : Type 0 where
   faulty : Refusal → Fault
 
 abbrev pub fault_of : FormatFault → Fault
-fault_of fault.Unknown = unnamed
-fault_of (fault.Description e) = faulty (refusal_of e)
+fault_of FormatFault.Unknown = unnamed
+fault_of (FormatFault.Description e) = faulty (refusal_of e)
 
 -- the meaning of a format, by its name
 abbrev pub Means : FormatName → Meaning → Type 0
@@ -125,20 +110,20 @@ IsFault unknown f = f ≡ unnamed
 -- the output format of that name
 abbrev pub writing_named : List ℕ → Option Named
 writing_named name =
-    if bytes_eq name (codes "rfc3339") then Some named.Rfc3339 else
-    if bytes_eq name (codes "rfc2822") then Some named.Rfc2822 else
-    if bytes_eq name (codes "iso8601") then Some named.Iso8601 else
-    if bytes_eq name (codes "unix") then Some (named.Count Seconds) else
-    if bytes_eq name (codes "unix-ms") then Some (named.Count Milliseconds) else
-    if bytes_eq name (codes "unix-us") then Some (named.Count Microseconds) else
-    if bytes_eq name (codes "unix-ns") then Some (named.Count Nanoseconds) else None
+    if bytes_eq name (codes "rfc3339") then Some Named.Rfc3339 else
+    if bytes_eq name (codes "rfc2822") then Some Named.Rfc2822 else
+    if bytes_eq name (codes "iso8601") then Some Named.Iso8601 else
+    if bytes_eq name (codes "unix") then Some (Named.Count Seconds) else
+    if bytes_eq name (codes "unix-ms") then Some (Named.Count Milliseconds) else
+    if bytes_eq name (codes "unix-us") then Some (Named.Count Microseconds) else
+    if bytes_eq name (codes "unix-ns") then Some (Named.Count Nanoseconds) else None
 
 -- The output format of a text: the one of that name, otherwise the one that it describes.
 abbrev pub MeansWriting : List ℕ → Writing → Type 0
 MeansWriting name result =
     MatchOption (writing_named name)
-    ((d : Description MOST_STEPS) × Means (description_name name) (as_tree (shape d)) × (result ≡ writing.Described d))
-    (λ n. result ≡ writing.Named n)
+    ((d : Description MOST_STEPS) × Means (description_name name) (as_tree (shape d)) × (result ≡ Writing.Described d))
+    (λ n. result ≡ Writing.Named n)
 
 -- the error of a text that names no output format: it is neither such a name nor a valid description
 abbrev pub IsWritingFault : List ℕ → Fault → Type 0

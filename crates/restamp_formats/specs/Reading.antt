@@ -1,34 +1,17 @@
 -- Parses a timestamp. `Y` is the greatest year.
-use Rattle.std.specs.Prelude.{◌≡◌, ℕ, zero, suc, ◌-◌, ℤ, pos, ◌+ℤ◌, ◌-ℤ◌, int_lt, Bool, true, false, not, MatchBool, ◌&&◌, ◌||◌, ◌==◌, List, [], ◌∷◌, length, take, drop, slice_index, if◌then◌else◌, Option, None, Some, MatchOption, is_some, unwrap_or, Result, Ok, Err, MatchResult}
-use Rattle.std.specs.Char.{is_ascii_whitespace}
-use Rattle.std.specs.List.{list_any, prefix_len, suffix_len}
+use Rattle.std.specs.Prelude.{◌≡◌, ◌-◌, ◌+ℤ◌, ◌-ℤ◌, ◌&&◌, ◌||◌, ◌==◌, ◌∷◌, if◌then◌else◌}
+use Rattle.std.specs.{Char.is_ascii_whitespace, List.list_any, List.prefix_len, List.suffix_len}
+use Rattle.time_parsing.specs.Outcome.{Resolving, IsMomentOutcome}
 use Rattle.time_values.specs.Dates as Dates
-use Rattle.time_values.specs.Moments.{offset_date, offset_instant, offset_of}
 use Rattle.time_values.specs.Offsets as Offsets
-use Rattle.time_values.specs.Offsets.{IsUtc}
-use Rattle.time_values.specs.Refusal.{Refusal, refusal_of}
-use Rattle.time_values.specs.declared.error.Parse.{Parse}
-use Rattle.time_values.specs.declared.offset_date_time.OffsetDateTime.{OffsetDateTime}
-use Rattle.time_values.specs.declared.utc_offset.UtcOffset.{UtcOffset}
-use Rattle.time_readers.specs.Direct.{RefusesRfc3339, RefusesRfc2822}
 use Rattle.time_record.specs.Reading as Description
-use Rattle.time_record.specs.Record.{Record, empty, put, year_is}
-use Rattle.time_record.specs.Resolution.{IsMoment}
-use Rattle.time_parsing.specs.Outcome.{Refusing, Resolving, Path, over_record, direct, IsFront, IsOutcome, IsMomentOutcome}
 use Rattle.time_parsing.specs.Outcome as Outcome
 use Rattle.time_parsing.specs.Iso8601 as Iso8601
 use Rattle.time_parsing.specs.Rfc2822 as Rfc2822
 use Rattle.time_parsing.specs.Rfc3339 as Rfc3339
-use Rattle.time_components.specs.Tree.{steps_shape}
-use Rattle.time_zones.specs.declared.zones.Zones.{Zones}
-use Rattle.restamp_formats.specs.Zoned.{IsOffsetWhen, IsSuffixed}
-use Rattle.restamp_formats.specs.Reason.{Reason, unread, negative_fraction, is_local_time_error}
-use Rattle.restamp_formats.specs.declared.local.Clocks.{Clocks}
-use Rattle.restamp_formats.specs.declared.reading.Reading.{Reading}
-use Rattle.restamp_formats.specs.declared.reading.Reading.TheVariants as reading
-use Rattle.restamp_formats.specs.declared.reading.Match.{Match}
-use Rattle.restamp_formats.specs.declared.reading.Defaults.{Defaults}
 use Rattle.restamp_formats.specs.declared.dated.Undated as declared
+use Rattle.restamp_formats.specs.Common.{ℕ, zero, suc, ℤ, pos, int_lt, Bool, true, false, not, MatchBool, List, [], length, take, drop, slice_index, Option, None, Some, MatchOption, is_some, unwrap_or, Result, Ok, Err, MatchResult, offset_date, offset_instant, offset_of, IsUtc, Refusal, refusal_of, Parse, OffsetDateTime, UtcOffset, RefusesRfc3339, RefusesRfc2822, Record, empty, put, year_is, IsMoment, Refusing, Path, over_record, direct, IsFront, IsOutcome, steps_shape, Zones, Clocks, Reading, Match, Defaults}
+use Rattle.restamp_formats.specs.{Zoned.IsOffsetWhen, Zoned.IsSuffixed, Reason.Reason, Reason.unread, Reason.negative_fraction, Reason.is_local_time_error}
 
 -- a match of the first n bytes of a text
 abbrev pub said : OffsetDateTime → ℕ → Match
@@ -127,51 +110,44 @@ IsReadMail Y is_prefix text result =
     × IsReadBy Y is_prefix (direct (RefusesRfc2822 Y)) (Rfc2822.Reads Y) (Rfc2822.Refuses Y) text padded
     × (result ≡ bare_where is_prefix text padded)
 
+-- the match of a text by RFC 3339
+abbrev pub IsRead3339 : ℕ → Bool → List ℕ → Result Match Refusal → Type 0
+IsRead3339 Y is_prefix = IsReadBy Y is_prefix (direct (RefusesRfc3339 Y)) (Rfc3339.Reads Y) (Rfc3339.Refuses Y)
+
 -- the match of a prefix of a text by RFC 3339
 abbrev pub IsReadInFront : ℕ → List ℕ → Result Match Refusal → Type 0
-IsReadInFront Y = IsReadBy Y true (direct (RefusesRfc3339 Y)) (Rfc3339.Reads Y) (Rfc3339.Refuses Y)
+IsReadInFront Y = IsRead3339 Y true
 
 -- The match by any of the formats; for RFC 9557, that of the text before the suffix. RFC 3339, RFC 2822 and a complete
 -- description give all of a moment, so defaults have no effect on them.
 abbrev pub IsRead : ℕ → Reading → Bool → List ℕ → Defaults → Result Match Refusal → Type 0
-IsRead Y reading.Rfc3339 is_prefix text defaults =
-    IsReadBy Y is_prefix (direct (RefusesRfc3339 Y)) (Rfc3339.Reads Y) (Rfc3339.Refuses Y) text
-IsRead Y (reading.Zoned zones) is_prefix text defaults = IsReadInFront Y text
-IsRead Y reading.Rfc2822 is_prefix text defaults = IsReadMail Y is_prefix text
-IsRead Y reading.Iso8601 is_prefix text defaults =
+IsRead Y Reading.Rfc3339 is_prefix text defaults = IsRead3339 Y is_prefix text
+IsRead Y (Reading.Zoned zones) is_prefix text defaults = IsReadInFront Y text
+IsRead Y Reading.Rfc2822 is_prefix text defaults = IsReadMail Y is_prefix text
+IsRead Y Reading.Iso8601 is_prefix text defaults =
     IsReadWith Y is_prefix (Iso8601.Reads Y) (Iso8601.Refuses Y) text defaults
-IsRead Y (reading.Described d) is_prefix text defaults =
+IsRead Y (Reading.Described d) is_prefix text defaults =
     IsReadWith Y is_prefix (Description.Reads Y (steps_shape d)) (Description.Refuses Y (steps_shape d)) text defaults
-IsRead Y (reading.Complete d) is_prefix text defaults =
+IsRead Y (Reading.Complete d) is_prefix text defaults =
     IsReadBy Y is_prefix over_record (Description.Reads Y (steps_shape d)) (Description.Refuses Y (steps_shape d)) text
-IsRead Y (reading.Counted d) is_prefix text defaults =
+IsRead Y (Reading.Counted d) is_prefix text defaults =
     IsReadWith Y is_prefix (Description.Reads Y (steps_shape d)) (Description.Refuses Y (steps_shape d)) text defaults
 
 -- a prefix of a text parses into a record, by a format without zones that may omit parts of a moment
 abbrev pub ReadsRecord : ℕ → Reading → Outcome.Reading
-ReadsRecord Y reading.Iso8601 text base rest r = Iso8601.Reads Y text base rest r
-ReadsRecord Y (reading.Described d) text base rest r = Description.Reads Y (steps_shape d) text base rest r
+ReadsRecord Y Reading.Iso8601 text base rest r = Iso8601.Reads Y text base rest r
+ReadsRecord Y (Reading.Described d) text base rest r = Description.Reads Y (steps_shape d) text base rest r
 ReadsRecord Y format text base rest r = ⊥
 
 -- the zones that a suffix may name
 abbrev pub zones_of : Reading → Option Zones
-zones_of (reading.Zoned zones) = Some zones
-zones_of reading.Rfc3339 = None
-zones_of reading.Rfc2822 = None
-zones_of reading.Iso8601 = None
-zones_of (reading.Described d) = None
-zones_of (reading.Complete d) = None
-zones_of (reading.Counted d) = None
+zones_of (Reading.Zoned zones) = Some zones
+zones_of format = None
 
 -- whether a fraction after a minus is rejected
 abbrev pub is_counted : Reading → Bool
-is_counted reading.Rfc3339 = false
-is_counted (reading.Zoned zones) = false
-is_counted reading.Rfc2822 = false
-is_counted reading.Iso8601 = false
-is_counted (reading.Described d) = false
-is_counted (reading.Complete d) = false
-is_counted (reading.Counted d) = true
+is_counted (Reading.Counted d) = true
+is_counted format = false
 
 -- a number starts with a minus, and has a point
 abbrev pub is_negative_fraction : List ℕ → Bool

@@ -1,18 +1,11 @@
 -- Why a timestamp isn't rewritten.
-use Rattle.std.specs.Prelude.{List, codes, ℕ, ◌/◌, ◌%◌, ◌∷◌, ◌++◌, ℤ, pos, int_lt, unsigned_abs, if◌then◌else◌, Bool, true, false, Result, Ok, Err}
-use Rattle.time_formatting.specs.Texts.{unformattable_text}
-use Rattle.time_formatting.specs.declared.walk.Unformattable.{Unformattable}
-use Rattle.time_values.specs.Refusal.{Refusal, refusal_of, refusal_text}
-use Rattle.time_values.specs.Shown.{Items, fixed}
-use Rattle.time_formatting.specs.WellKnown.{unwritable_text}
-use Rattle.time_formatting.specs.declared.parts.Unwritable.{Unwritable}
-use Rattle.time_zones.specs.Zones.{suffix_fault_text}
-use Rattle.time_zones.specs.declared.checking.SuffixFault.{SuffixFault}
-use Rattle.restamp_formats.specs.declared.reading.Match.{Match}
-use Rattle.restamp_formats.specs.declared.reason.OffsetParts.{OffsetParts}
-use Rattle.restamp_formats.specs.declared.reason.TwoOffsets.{TwoOffsets}
+use Rattle.std.specs.Prelude.{◌/◌, ◌%◌, ◌∷◌, ◌++◌, if◌then◌else◌}
+use Rattle.time_formatting.specs.{Texts.unformattable_text, WellKnown.unwritable_text}
+use Rattle.time_values.specs.Refusal.{refusal_text}
+use Rattle.time_zones.specs.{Zones.suffix_fault_text, declared.checking.SuffixFault.SuffixFault}
 use Rattle.restamp_formats.specs.declared.reason.Reason as declared
-use Rattle.restamp_formats.specs.declared.reason.Reason.TheVariants as variant
+use Rattle.restamp_formats.specs.Common.{List, codes, ℕ, ℤ, pos, int_lt, unsigned_abs, Bool, true, false, Result, Ok, Err, Unformattable, Refusal, refusal_of, Items, fixed, Unwritable, TwoOffsets}
+use Rattle.restamp_formats.specs.declared.reason.OffsetParts.{OffsetParts}
 
 -- no format matches it; it has a fraction after a minus; the local time is nonexistent, or ambiguous with these
 -- offsets; it has no date at an offset; it is outside the range of time zones; its suffix rejects it; it has no text by
@@ -32,17 +25,17 @@ pub data Reason : Type 0 where
 
 -- the reason without the addresses of its texts
 abbrev pub seen : declared.Reason → Reason
-seen (variant.Unread e) = unread (refusal_of e)
-seen variant.NegativeFraction = negative_fraction
-seen variant.Nonexistent = nonexistent
-seen (variant.Ambiguous offsets) = ambiguous_offsets offsets
-seen variant.OutOfRange = out_of_range
-seen variant.OutsideZoneRange = outside_zone_range
-seen (variant.Suffix fault) = suffix fault
-seen (variant.Unwritable why) = unwritable why
-seen (variant.Unformattable why) = unformattable why
-seen variant.TooFar = too_far
-seen variant.Missing = missing
+seen (declared.Reason.Unread e) = unread (refusal_of e)
+seen declared.Reason.NegativeFraction = negative_fraction
+seen declared.Reason.Nonexistent = nonexistent
+seen (declared.Reason.Ambiguous offsets) = ambiguous_offsets offsets
+seen declared.Reason.OutOfRange = out_of_range
+seen declared.Reason.OutsideZoneRange = outside_zone_range
+seen (declared.Reason.Suffix fault) = suffix fault
+seen (declared.Reason.Unwritable why) = unwritable why
+seen (declared.Reason.Unformattable why) = unformattable why
+seen declared.Reason.TooFar = too_far
+seen declared.Reason.Missing = missing
 
 -- the parts of an offset in seconds, which is negative behind UTC
 abbrev pub parts_of : ℤ → OffsetParts
@@ -102,11 +95,7 @@ abbrev pub Stores : {U E : Type 0} → (Reason → E → Type 0) → (Result Ite
 Stores IsOf P (Ok u) text = P (Ok text)
 Stores IsOf P (Err e) text = (reason : Reason) × IsOf reason e × P (Err reason)
 
--- results without the addresses of their errors
-abbrev pub erased_read : Result Match declared.Reason → Result Match Reason
-erased_read (Ok said) = Ok said
-erased_read (Err e) = Err (seen e)
-
-abbrev pub erased_written : Result Items declared.Reason → Result Items Reason
-erased_written (Ok text) = Ok text
-erased_written (Err e) = Err (seen e)
+-- a result without the addresses of its error's texts
+abbrev pub erased : {V : Type 0} → Result V declared.Reason → Result V Reason
+erased (Ok v) = Ok v
+erased (Err e) = Err (seen e)

@@ -1,30 +1,11 @@
 -- The suffix that RFC 9557, section 4.1, adds to RFC 3339.
-use Rattle.std.specs.Prelude.{◌≡◌, ℕ, ◌+◌, ◌≤◌, nat_eq, nat_lt, Bool, not, ◌&&◌, ◌||◌, MatchBool, List, length, take, drop, codes, Option, Result, Ok, Err, Some, MatchOption}
+use Rattle.std.specs.Prelude.{◌≡◌, ◌+◌, ◌≤◌, ◌&&◌, ◌||◌}
 use Rattle.std.specs.List.{ends_with}
-use Rattle.jiff_core.specs.Timestamp.{IsTimestampNanos}
+use Rattle.time_zones.specs.{Zones.IsAnswer, declared.clocks.NotOne.NotOne}
 use Rattle.jiff_tz.specs.Zone as Zone
-use Rattle.jiff_tz.specs.declared.timezone.TimeZone.{TimeZone}
-use Rattle.time_values.specs.Refusal.{trailing}
-use Rattle.time_values.specs.Moments.{shown_at, offset_instant, offset_of, offset_date, offset_time}
-use Rattle.time_values.specs.Instants.{IsInstant}
-use Rattle.time_values.specs.Offsets.{offset_seconds}
-use Rattle.time_values.specs.declared.offset_date_time.OffsetDateTime.{OffsetDateTime}
-use Rattle.time_values.specs.declared.utc_offset.UtcOffset.{UtcOffset}
-use Rattle.time_values.specs.declared.plain_date_time.PlainDateTime.{PlainDateTime}
-use Rattle.time_zones.specs.Suffix.{Checked, GoesWith, IsLongest, IsSuffix, Tag, ZoneTag, critical_key}
-use Rattle.time_zones.specs.declared.zones.Zones.{Zones}
-use Rattle.time_zones.specs.Zones.{IsAnswer}
-use Rattle.time_zones.specs.declared.clocks.NotOne.{NotOne}
-use Rattle.time_zones.specs.declared.clocks.NotOne.TheVariants as not_one
-use Rattle.restamp_formats.specs.Reason.{Reason, suffix, unread, out_of_range, outside_zone_range, nonexistent, ambiguous_offsets, parts_of, seen}
-use Rattle.restamp_formats.specs.declared.reading.Match.{Match}
-use Rattle.restamp_formats.specs.declared.clock.Clock.{Clock}
-use Rattle.restamp_formats.specs.declared.clock.Clock.TheVariants as clock
-use Rattle.restamp_formats.specs.declared.local.Clocks.{Clocks}
+use Rattle.restamp_formats.specs.Common.{ℕ, nat_eq, nat_lt, Bool, not, MatchBool, List, length, take, drop, codes, Option, Result, Ok, Err, Some, MatchOption, IsTimestampNanos, TimeZone, trailing, shown_at, offset_instant, offset_of, offset_date, offset_time, IsInstant, offset_seconds, OffsetDateTime, UtcOffset, PlainDateTime, Checked, GoesWith, IsLongest, IsSuffix, Tag, ZoneTag, critical_key, Zones, Match, Clock, Clocks, TwoOffsets}
+use Rattle.restamp_formats.specs.Reason.{Reason, suffix, unread, out_of_range, outside_zone_range, nonexistent, ambiguous_offsets, parts_of}
 use Rattle.restamp_formats.specs.declared.local.Fold.{Fold}
-use Rattle.restamp_formats.specs.declared.local.Fold.TheVariants as by
-use Rattle.restamp_formats.specs.declared.reason.TwoOffsets.{TwoOffsets}
-use Rattle.restamp_formats.specs.declared.reason.Reason as declared
 
 -- a suffix: its length in bytes, its zone and its tags
 pub record Suffix : Type 0 where
@@ -88,15 +69,14 @@ IsConvertedIn Y zone v result =
 
 -- The moment converted to a clock.
 abbrev pub IsConverted : ℕ → Clock → OffsetDateTime → Option OffsetDateTime → Type 0
-IsConverted Y clock.Own v result = result ≡ Some v
-IsConverted Y (clock.Fixed offset) v result = IsConvertedTo Y offset v result
-IsConverted Y (clock.Zone zone) v result = IsConvertedIn Y zone v result
+IsConverted Y Clock.Own v result = result ≡ Some v
+IsConverted Y (Clock.Fixed offset) v result = IsConvertedTo Y offset v result
+IsConverted Y (Clock.Zone zone) v result = IsConvertedIn Y zone v result
 
 -- why a moment can't be converted to the clock
 abbrev pub conversion_error : Clock → Reason
-conversion_error clock.Own = out_of_range
-conversion_error (clock.Fixed offset) = out_of_range
-conversion_error (clock.Zone zone) = outside_zone_range
+conversion_error (Clock.Zone zone) = outside_zone_range
+conversion_error clock = out_of_range
 
 -- ---- The offset that a zone has at a local date and time
 
@@ -113,24 +93,19 @@ offsets earlier later = record {
 
 -- the offset of the moment that an ambiguous local time means, or an error
 abbrev pub of_two : Fold → OffsetDateTime → OffsetDateTime → Result UtcOffset Reason
-of_two by.Refuse earlier later = Err (ambiguous_offsets (offsets earlier later))
-of_two by.Earlier earlier later = Ok (offset_of earlier)
-of_two by.Later earlier later = Ok (offset_of later)
+of_two Fold.Refuse earlier later = Err (ambiguous_offsets (offsets earlier later))
+of_two Fold.Earlier earlier later = Ok (offset_of earlier)
+of_two Fold.Later earlier later = Ok (offset_of later)
 
 -- the offset, by the moments that a zone has for a local date and time
 abbrev pub offset_by : Fold → Result OffsetDateTime NotOne → Result UtcOffset Reason
 offset_by fold (Ok m) = Ok (offset_of m)
-offset_by fold (Err not_one.Gap) = Err nonexistent
-offset_by fold (Err (not_one.Fold earlier later)) = of_two fold earlier later
-offset_by fold (Err not_one.Untold) = Err outside_zone_range
+offset_by fold (Err NotOne.Gap) = Err nonexistent
+offset_by fold (Err (NotOne.Fold earlier later)) = of_two fold earlier later
+offset_by fold (Err NotOne.Untold) = Err outside_zone_range
 
 -- The offset of the zone at the local date and time of a moment, or why there isn't exactly one.
 abbrev pub IsOffsetWhen : Clocks → OffsetDateTime → Result UtcOffset Reason → Type 0
 IsOffsetWhen clocks v result =
     (answer : Result OffsetDateTime NotOne) × IsAnswer clocks.zone (clock_of v) answer
     × (result ≡ offset_by clocks.fold answer)
-
--- a result with an error without the addresses of its texts
-abbrev pub erased_offset : Result UtcOffset declared.Reason → Result UtcOffset Reason
-erased_offset (Ok offset) = Ok offset
-erased_offset (Err e) = Err (seen e)

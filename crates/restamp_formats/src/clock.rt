@@ -1,10 +1,8 @@
 //! The offset or zone that a moment is written in, and timestamps with a suffix of RFC 9557, section 4.1.
-ghost use Rattle.std.specs.Prelude.{◌≡◌, ◌≤◌, ◌+◌, length, IfOk};
-ghost use Rattle.time_values.specs.Calendar.{greatest_year};
+ghost use Rattle.std.specs.Prelude.{◌≡◌, ◌≤◌, ◌+◌};
+ghost use Rattle.restamp_formats.specs.Common.{length, IfOk, greatest_year, Clock};
 ghost use Rattle.restamp_formats.specs.Zoned as spec;
-ghost use Rattle.restamp_formats.specs.Reason.{Gives, seen};
-ghost use Rattle.restamp_formats.specs.declared.clock.Clock.TheVariants as clock;
-ghost use Rattle.restamp_formats.specs.Reading.{ParsesZoned};
+ghost use Rattle.restamp_formats.specs.{Reading.ParsesZoned, Reason.Gives, Reason.seen};
 
 use crate::brief::FromReason;
 use crate::reading::{Match, read_front_3339};
@@ -27,7 +25,7 @@ pub enum Clock<'a> {
 // Converts the moment to the offset; `None` if it has no date there.
 #[inline(always)]
 fn shown_at(moment: OffsetDateTime, offset: UtcOffset) -> Option<OffsetDateTime>
-    ensures { spec.IsConverted greatest_year (clock.Fixed offset) moment result }
+    ensures { spec.IsConverted greatest_year (Clock.Fixed offset) moment result }
 {
     if moment.offset() == offset {
         return Some(moment);
@@ -38,7 +36,7 @@ fn shown_at(moment: OffsetDateTime, offset: UtcOffset) -> Option<OffsetDateTime>
 // Converts the moment to local time in the zone. Not inlined, so that it needs no stack for lines without a zone.
 #[inline(never)]
 fn converted_in(moment: OffsetDateTime, zone: &TimeZone<'_>) -> Option<OffsetDateTime>
-    ensures { spec.IsConverted greatest_year (clock.Zone zone.now) moment result }
+    ensures { spec.IsConverted greatest_year (Clock.Zone zone.now) moment result }
 {
     checked_to_zone(moment, zone)
 }

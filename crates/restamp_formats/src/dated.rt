@@ -1,10 +1,10 @@
 //! Parses a text by the first of several formats that matches, also without a year.
 //!
 //! `fast` parses local times in a zone only once.
-ghost use Rattle.std.specs.Prelude.{◌≡◌, ◌+◌, ◌≤◌, ◌≤ℤ◌, ◌-ℤ◌, neg_ℤ, pos, length, Err, IfOk};
-ghost use Rattle.time_values.specs.Calendar.{greatest_year};
+ghost use Rattle.std.specs.Prelude.{◌≡◌, ◌+◌, ◌≤◌, ◌≤ℤ◌, ◌-ℤ◌};
+ghost use Rattle.restamp_formats.specs.Common.{neg_ℤ, pos, length, Err, IfOk, greatest_year};
 ghost use Rattle.restamp_formats.specs.Reading as spec;
-ghost use Rattle.restamp_formats.specs.Reason.{Gives, Reason as Reason_, erased_read};
+ghost use Rattle.restamp_formats.specs.Reason.{Gives, Reason as Reason_, erased};
 
 mod fast;
 
@@ -111,33 +111,6 @@ impl<'z> Undated<'_, 'z> {
     }
 }
 
-// Parses a text that the format rejects for that reason, with years to try if the defaults have a latest moment.
-fn read_undated<E: FromReason>(
-    reading: &Reading,
-    is_prefix: bool,
-    text: &[u8],
-    defaults: &Defaults<'_>,
-    reason: E,
-) -> Result<Match, E>
-    requires { (why : Reason_) × E.is_of why reason
-        × spec.ParsesLocally greatest_year reading.now is_prefix text.now defaults.now (Err why) }
-    ensures said { Gives E.is_of (spec.IsDated greatest_year reading.now is_prefix text.now defaults.now) result }
-    ensures within { IfOk result (λ said. said.start + said.length ≤ length text.now) }
-{
-    let Some(latest) = defaults.latest else {
-        return Err(reason);
-    };
-    let undated = Undated {
-        reading,
-        is_prefix,
-        text,
-        offset: defaults.offset,
-        clocks: defaults.clocks,
-        latest,
-    };
-    undated.read_years(latest.year() + 1, 10, reason)
-}
-
 // Parses a text that the format rejects for that reason: as a local time in a zone, then with years to try. Not inlined,
 // so that it needs no stack beside texts that the format accepts.
 #[inline(never)]
@@ -155,28 +128,21 @@ fn parse_by_defaults<E: FromReason>(
 {
     match read_unplaced(reading, is_prefix, text, defaults, reason) {
         Ok(said) => Ok(said),
-        Err(why) => read_undated(reading, is_prefix, text, defaults, why),
+        Err(why) => {
+            let Some(latest) = defaults.latest else {
+                return Err(why);
+            };
+            let undated = Undated {
+                reading,
+                is_prefix,
+                text,
+                offset: defaults.offset,
+                clocks: defaults.clocks,
+                latest,
+            };
+            undated.read_years(latest.year() + 1, 10, why)
+        }
     }
-}
-
-// Parses a text that the format rejects for that reason, as far as the defaults allow.
-#[inline(always)]
-fn parse_rejected<E: FromReason>(
-    reading: &Reading,
-    is_prefix: bool,
-    text: &[u8],
-    defaults: &Defaults<'_>,
-    reason: E,
-) -> Result<Match, E>
-    requires { (why : Reason_) × E.is_of why reason
-        × spec.ParsesAs greatest_year reading.now is_prefix text.now defaults.now (Err why) }
-    ensures said { Gives E.is_of (spec.IsDated greatest_year reading.now is_prefix text.now defaults.now) result }
-    ensures within { IfOk result (λ said. said.start + said.length ≤ length text.now) }
-{
-    if !defaults.tries_more() {
-        return Err(reason);
-    }
-    parse_by_defaults(reading, is_prefix, text, defaults, reason)
 }
 
 /// Parses a text by the format, also if the text omits its offset or its year. Not inlined, so that it needs no stack
@@ -194,7 +160,12 @@ pub fn parse_dated<E: FromReason>(
 {
     match parse(reading, is_prefix, text, defaults) {
         Ok(said) => Ok(said),
-        Err(reason) => parse_rejected(reading, is_prefix, text, defaults, reason),
+        Err(reason) => {
+            if !defaults.tries_more() {
+                return Err(reason);
+            }
+            parse_by_defaults(reading, is_prefix, text, defaults, reason)
+        }
     }
 }
 
@@ -206,7 +177,7 @@ pub fn read_dated(
     text: &[u8],
     defaults: &Defaults<'_>,
 ) -> Result<Match, Reason>
-    ensures said { spec.IsDated greatest_year reading.now is_prefix text.now defaults.now (erased_read result) }
+    ensures said { spec.IsDated greatest_year reading.now is_prefix text.now defaults.now (erased result) }
     ensures within { IfOk result (λ said. said.start + said.length ≤ length text.now) }
 {
     parse_dated(reading, is_prefix, text, defaults)
@@ -232,26 +203,6 @@ fn read_others<E: FromReason>(
     Err(reason)
 }
 
-// Parses a text that the first format rejects without more defaults, for that reason.
-fn read_further<E: FromReason>(
-    first: &Reading,
-    others: &[Reading],
-    is_prefix: bool,
-    text: &[u8],
-    defaults: &Defaults<'_>,
-    reason: E,
-) -> Result<Match, E>
-    requires { (why : Reason_) × E.is_of why reason
-        × spec.ParsesAs greatest_year first.now is_prefix text.now defaults.now (Err why) }
-    ensures said { Gives E.is_of (spec.IsReadInTurn greatest_year first.now others.now is_prefix text.now defaults.now) result }
-    ensures within { IfOk result (λ said. said.start + said.length ≤ length text.now) }
-{
-    match parse_rejected(first, is_prefix, text, defaults, reason) {
-        Ok(said) => Ok(said),
-        Err(why) => read_others(others, is_prefix, text, defaults, why),
-    }
-}
-
 /// Parses a text by the first of the formats that matches. If none does, the error is the first format's.
 #[tactic(auto, using(crate::proofs::ParseLemmas::in_turn_at_once))]
 pub fn parse_in_turn<E: FromReason>(
@@ -267,9 +218,9 @@ pub fn parse_in_turn<E: FromReason>(
     if let Some(said) = fast::read_once(first, is_prefix, text, defaults) {
         return Ok(said);
     }
-    match parse_outlined(first, is_prefix, text, defaults) {
+    match parse_dated(first, is_prefix, text, defaults) {
         Ok(said) => Ok(said),
-        Err(reason) => read_further(first, others, is_prefix, text, defaults, reason),
+        Err(why) => read_others(others, is_prefix, text, defaults, why),
     }
 }
 
@@ -281,7 +232,7 @@ pub fn read_in_turn(
     text: &[u8],
     defaults: &Defaults<'_>,
 ) -> Result<Match, Reason>
-    ensures said { spec.IsReadInTurn greatest_year first.now others.now is_prefix text.now defaults.now (erased_read result) }
+    ensures said { spec.IsReadInTurn greatest_year first.now others.now is_prefix text.now defaults.now (erased result) }
     ensures within { IfOk result (λ said. said.start + said.length ≤ length text.now) }
 {
     parse_in_turn(first, others, is_prefix, text, defaults)

@@ -1,14 +1,9 @@
 //! How a moment is written.
-ghost use Rattle.std.specs.Prelude.{◌≡◌, ◌≤◌, length, MatchOption};
 ghost use Rattle.std.specs.Fmt.{signed_decimal};
-ghost use Rattle.time_values.specs.Calendar.{greatest_year};
+ghost use Rattle.std.specs.Prelude.{◌≡◌, ◌≤◌};
+ghost use Rattle.restamp_formats.specs.Common.{length, MatchOption, Ok, greatest_year, IsInstant, IsWhole, nanoseconds, offset_instant, Named, Writing};
 ghost use Rattle.restamp_formats.specs.Form as spec;
-ghost use Rattle.time_values.specs.Instants.{IsInstant, IsWhole};
-ghost use Rattle.time_values.specs.Moments.{nanoseconds, offset_instant};
-ghost use Rattle.restamp_formats.specs.declared.form.Unit.TheVariants.{Seconds, Milliseconds, Microseconds, Nanoseconds};
-ghost use Rattle.restamp_formats.specs.declared.form.Named.TheVariants.{Rfc2822, Iso8601};
-ghost use Rattle.restamp_formats.specs.declared.form.Writing.TheVariants as writing;
-ghost use Rattle.restamp_formats.specs.Reason.{Stores, erased_written};
+ghost use Rattle.restamp_formats.specs.Reason.{Stores, erased};
 
 use crate::brief::FromReason;
 use crate::clock::Clock;
@@ -94,7 +89,8 @@ fn number(count: i64) -> Text
     text
 }
 
-// A number of at most 34 digits.
+// A number of at most 34 digits. Not inlined, so that it needs no stack when seconds are written.
+#[inline(never)]
 fn wide_number(count: i128) -> Text
     requires { length (signed_decimal count) ≤ 35 }
     ensures { result.items ≡ signed_decimal count }
@@ -129,10 +125,7 @@ fn stamp_of(moment: OffsetDateTime) -> Option<Timestamp>
         (λ stamp. IsInstant greatest_year (offset_instant greatest_year moment)
         × (nanoseconds stamp ≡ offset_instant greatest_year moment)) }
 {
-    match moment.checked_to_utc() {
-        Some(utc) => Some(Timestamp::from(utc)),
-        None => None,
-    }
+    Some(Timestamp::from(moment.checked_to_utc()?))
 }
 
 // The whole milliseconds of the moment since 1970, computed in 64 bits; `None` if it has no date in UTC.
@@ -146,53 +139,18 @@ fn milliseconds_of(moment: OffsetDateTime) -> Option<i64>
     Some(seconds * 1_000 + i64::from(moment.time().nanosecond() / 1_000_000))
 }
 
-// Stores the moment's milliseconds since 1970. This and the next two functions aren't inlined, so that their results
-// need no stack when seconds are written.
-#[inline(never)]
-fn write_milliseconds<E: FromReason>(moment: OffsetDateTime, text: &mut Text) -> Result<(), E>
-    ensures { Stores E.is_of (spec.IsCounted greatest_year Milliseconds moment) result text.new }
-{
-    let Some(milliseconds) = milliseconds_of(moment) else {
-        return Err(E::from_reason(Reason::OutOfRange));
-    };
-    *text = number(milliseconds);
-    Ok(())
-}
-
-// Stores the moment's microseconds since 1970.
-#[inline(never)]
-fn write_microseconds<E: FromReason>(moment: OffsetDateTime, text: &mut Text) -> Result<(), E>
-    ensures { Stores E.is_of (spec.IsCounted greatest_year Microseconds moment) result text.new }
-{
-    let Some(stamp) = stamp_of(moment) else {
-        return Err(E::from_reason(Reason::OutOfRange));
-    };
-    *text = wide_number(stamp.as_microseconds());
-    Ok(())
-}
-
-// Stores the moment's nanoseconds since 1970.
-#[inline(never)]
-fn write_nanoseconds<E: FromReason>(moment: OffsetDateTime, text: &mut Text) -> Result<(), E>
-    ensures { Stores E.is_of (spec.IsCounted greatest_year Nanoseconds moment) result text.new }
-{
-    let Some(stamp) = stamp_of(moment) else {
-        return Err(E::from_reason(Reason::OutOfRange));
-    };
-    *text = wide_number(stamp.nanoseconds());
-    Ok(())
-}
-
-// Stores the moment's whole seconds since 1970.
+// The moment's count of a unit since 1970; `None` if it has no date in UTC.
 #[inline(always)]
-fn write_seconds<E: FromReason>(moment: OffsetDateTime, text: &mut Text) -> Result<(), E>
-    ensures { Stores E.is_of (spec.IsCounted greatest_year Seconds moment) result text.new }
+fn count_text(moment: OffsetDateTime, unit: Unit) -> Option<Text>
+    ensures { MatchOption result (¬ IsInstant greatest_year (offset_instant greatest_year moment))
+        (λ text. spec.IsCounted greatest_year unit moment (Ok text)) }
 {
-    let Some(seconds) = seconds_of(moment) else {
-        return Err(E::from_reason(Reason::OutOfRange));
-    };
-    *text = number(seconds);
-    Ok(())
+    match unit {
+        Unit::Seconds => Some(number(seconds_of(moment)?)),
+        Unit::Milliseconds => Some(number(milliseconds_of(moment)?)),
+        Unit::Microseconds => Some(wide_number(stamp_of(moment)?.as_microseconds())),
+        Unit::Nanoseconds => Some(wide_number(stamp_of(moment)?.nanoseconds())),
+    }
 }
 
 // Stores the moment's count of a unit since 1970.
@@ -200,12 +158,11 @@ fn write_seconds<E: FromReason>(moment: OffsetDateTime, text: &mut Text) -> Resu
 fn write_count<E: FromReason>(moment: OffsetDateTime, unit: Unit, text: &mut Text) -> Result<(), E>
     ensures { Stores E.is_of (spec.IsCounted greatest_year unit moment) result text.new }
 {
-    match unit {
-        Unit::Seconds => write_seconds(moment, text),
-        Unit::Milliseconds => write_milliseconds(moment, text),
-        Unit::Microseconds => write_microseconds(moment, text),
-        Unit::Nanoseconds => write_nanoseconds(moment, text),
-    }
+    let Some(count) = count_text(moment, unit) else {
+        return Err(E::from_reason(Reason::OutOfRange));
+    };
+    *text = count;
+    Ok(())
 }
 
 // Stores a mail date. This and the next function aren't inlined, so that their texts need no stack when RFC 3339 is
@@ -216,7 +173,7 @@ fn write_mail<E: FromReason>(
     digits: FractionDigits,
     text: &mut Text,
 ) -> Result<(), E>
-    ensures { Stores E.is_of (spec.IsNamedText greatest_year Rfc2822 digits moment) result text.new }
+    ensures { Stores E.is_of (spec.IsNamedText greatest_year Named.Rfc2822 digits moment) result text.new }
 {
     store(text_2822(moment), text)
 }
@@ -228,7 +185,7 @@ fn write_8601<E: FromReason>(
     digits: FractionDigits,
     text: &mut Text,
 ) -> Result<(), E>
-    ensures { Stores E.is_of (spec.IsNamedText greatest_year Iso8601 digits moment) result text.new }
+    ensures { Stores E.is_of (spec.IsNamedText greatest_year Named.Iso8601 digits moment) result text.new }
 {
     store(text_8601(moment), text)
 }
@@ -260,7 +217,7 @@ fn write_named<E: FromReason>(
     clock: &Clock<'_>,
     text: &mut Text,
 ) -> Result<(), E>
-    ensures { Stores E.is_of (spec.IsWrittenOn greatest_year (writing.Named named) digits clock.now moment) result text.new }
+    ensures { Stores E.is_of (spec.IsWrittenOn greatest_year (Writing.Named named) digits clock.now moment) result text.new }
 {
     match clock.show(moment) {
         Some(shown) => write_shown(shown, named, digits, text),
@@ -278,7 +235,7 @@ fn write_described<E: FromReason>(
     clock: &Clock<'_>,
     text: &mut Text,
 ) -> Result<(), E>
-    ensures { Stores E.is_of (spec.IsWrittenOn greatest_year (writing.Described description.now) digits clock.now moment) result
+    ensures { Stores E.is_of (spec.IsWrittenOn greatest_year (Writing.Described description.now) digits clock.now moment) result
         text.new }
 {
     let Some(shown) = clock.show(moment) else {
@@ -312,11 +269,9 @@ pub fn write_to<E: FromReason>(
 
 /// The text of the moment, or the reason why it has no text.
 pub fn write_moment(moment: OffsetDateTime, form: &Form<'_>) -> Result<Text, Reason>
-    ensures { spec.IsWritten greatest_year form.now moment (erased_written result) }
+    ensures { spec.IsWritten greatest_year form.now moment (erased result) }
 {
     let mut text = Text::new();
-    match write_to(moment, form, &mut text) {
-        Ok(()) => Ok(text),
-        Err(reason) => Err(reason),
-    }
+    write_to(moment, form, &mut text)?;
+    Ok(text)
 }

@@ -1,8 +1,8 @@
 //! Rejects a number of seconds with a minus and a fraction: programs disagree whether the fraction counts forwards.
-ghost use Rattle.std.specs.Prelude.{◌≡◌, ◌≤◌, ◌+◌, length, IfOk, if◌then◌else◌, Err, Ok};
+ghost use Rattle.std.specs.Prelude.{◌≡◌, ◌≤◌, ◌+◌, if◌then◌else◌};
+ghost use Rattle.restamp_formats.specs.Common.{length, take, IfOk, Err, Ok};
 ghost use Rattle.restamp_formats.specs.Reading as spec;
 ghost use Rattle.restamp_formats.specs.Reason.{Gives, negative_fraction};
-ghost use Rattle.std.specs.Prelude.{take};
 
 use crate::brief::FromReason;
 use crate::reading::Match;

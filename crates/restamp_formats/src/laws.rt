@@ -1,5 +1,5 @@
 //! Laws of formats: each function does nothing, and its contract is the law.
-ghost use Rattle.time_values.specs.Calendar.{greatest_year};
+ghost use Rattle.restamp_formats.specs.Common.{greatest_year};
 ghost use Rattle.restamp_formats.specs.Laws.{AutoHasAll, ReadsRewrittenBack, ReadsSuffixedBack, ReadsZonedBack, WritesZonedSame, KeepsMoment, AllValuesDetermine, SignsDetermine, OneTree, CommonReadsBack};
 ghost use Rattle.restamp_formats.specs.MissingField.{ClocksHaveNoUse, HasNoUse, ParsesNoMoment};
 

@@ -1,9 +1,9 @@
 //! Timestamps that omit their offset, parsed as local times in a zone.
-ghost use Rattle.std.specs.Prelude.{◌≡◌, ◌+◌, ◌≤◌, false, length, Err, IfOk, None};
-ghost use Rattle.time_values.specs.Calendar.{greatest_year};
+ghost use Rattle.std.specs.Prelude.{◌≡◌, ◌+◌, ◌≤◌};
+ghost use Rattle.restamp_formats.specs.Common.{false, length, Err, IfOk, None, greatest_year};
 ghost use Rattle.restamp_formats.specs.Zoned as spec;
 ghost use Rattle.restamp_formats.specs.Reading.{ParsesAs, ParsesInZone, ParsesLocally, at_offset};
-ghost use Rattle.restamp_formats.specs.Reason.{Gives, Reason as Reason_};
+ghost use Rattle.restamp_formats.specs.Reason.{Gives, Reason as Reason_, erased};
 
 use crate::brief::FromReason;
 use crate::reading::{Defaults, Match, Reading, parse, parse_outlined};
@@ -41,7 +41,7 @@ pub(crate) fn clock_of(moment: OffsetDateTime) -> PlainDateTime
 impl Fold {
     // The offset of the moment that an ambiguous local time means.
     fn of_two(self, earlier: OffsetDateTime, later: OffsetDateTime) -> Result<UtcOffset, Reason>
-        ensures { spec.erased_offset result ≡ spec.of_two self earlier later }
+        ensures { erased result ≡ spec.of_two self earlier later }
     {
         match self {
             Fold::Refuse => Err(Reason::Ambiguous(TwoOffsets {
@@ -57,7 +57,7 @@ impl Fold {
 impl Clocks<'_> {
     // The offset of the zone at the local date and time of a moment.
     fn offset_when(&self, shown: OffsetDateTime) -> Result<UtcOffset, Reason>
-        ensures { spec.IsOffsetWhen self.now shown (spec.erased_offset result) }
+        ensures { spec.IsOffsetWhen self.now shown (erased result) }
     {
         match assume_zone(clock_of(shown), &self.zone) {
             Ok(moment) => Ok(moment.offset()),

@@ -1,13 +1,13 @@
 //! What every text of a format omits, and what none of its texts omits.
-ghost use Rattle.std.specs.Prelude.{◌≡◌, ◌≤◌, drop, length, Some};
-ghost use Rattle.time_components.specs.Tree as steps_;
-ghost use Rattle.time_components.specs.Tree.{group_tree, steps_shape, steps_trees, tree_at};
+ghost use Rattle.time_components.specs.Tree.{group_tree, steps_trees, tree_at};
+ghost use Rattle.std.specs.Prelude.{◌≡◌};
+ghost use Rattle.restamp_formats.specs.Common.{Some, steps_shape};
 ghost use Rattle.restamp_formats.specs.MissingField as spec;
 ghost use Rattle.restamp_formats.specs.MissingFieldSteps.{step_has};
 
 use crate::reading::Reading;
 use std::fmt;
-use time_components::{Component, Group, Step};
+use time_components::{Component, Group, Step, steps_after};
 
 /// A part that a text, or each text of a format, is missing, so that it is no moment.
 #[derive(Clone, Copy, Debug, PartialEq, Eq)]
@@ -158,8 +158,8 @@ fn step_has(step: Step, kind: Kind) -> bool
 }
 
 // Whether some component is of that kind.
-fn says(steps: &[Step], kind: Kind) -> bool
-    ensures { result ≡ spec.says kind (steps_shape steps.now) }
+fn has_kind(steps: &[Step], kind: Kind) -> bool
+    ensures { result ≡ spec.has_kind kind (steps_shape steps.now) }
 {
     steps.iter().any(|step| step_has(*step, kind))
 }
@@ -172,7 +172,7 @@ fn one_always(steps: &[Step], part: Part) -> bool
     let [step, behind @ ..] = steps else {
         return false;
     };
-    item_always(*step, behind, part) || one_always(steps_after(*step, behind), part)
+    item_always(*step, behind, part) || one_always(steps_after(step, behind), part)
 }
 
 // Whether each text of every item has the part.
@@ -183,7 +183,7 @@ fn each_always(steps: &[Step], part: Part) -> bool
     let [step, behind @ ..] = steps else {
         return true;
     };
-    item_always(*step, behind, part) && each_always(steps_after(*step, behind), part)
+    item_always(*step, behind, part) && each_always(steps_after(step, behind), part)
 }
 
 // Whether each text of the item that the step starts has the part. Steps behind it may belong to that item.
@@ -213,63 +213,37 @@ fn group_always(group: Group, inside: &[Step], part: Part) -> bool
     }
 }
 
-// The steps after those that belong to a step.
-fn steps_after(step: Step, behind: &[Step]) -> &[Step]
-    ensures after { result.now ≡ steps_.steps_after step behind.now }
-    ensures fewer { length result.now ≤ length behind.now }
-{
-    match step {
-        Step::Literal(_) | Step::More(_) => after_further(behind),
-        Step::Component(_) => behind,
-        Step::Group(_, len) => {
-            let (_, after) = behind.split_at(len.min(behind.len()));
-            after
-        }
-    }
-}
-
-// The steps after the further bytes of a literal.
-fn after_further(steps: &[Step]) -> &[Step]
-    ensures after { result.now ≡ drop (length (steps_.further steps.now)) steps.now }
-    ensures fewer { length result.now ≤ length steps.now }
-{
-    let mut left = steps;
-    while let [Step::More(_), behind @ ..] = left {
-        left = behind;
-    }
-    left
-}
-
 // Whether the steps give a day of a year.
 fn has_day(steps: &[Step]) -> bool
     ensures { result ≡ spec.has_day (steps_shape steps.now) }
 {
-    says(steps, Kind::Ordinal)
-        || (says(steps, Kind::Month) && says(steps, Kind::Day))
-        || (says(steps, Kind::Weekday)
-            && (says(steps, Kind::SundayWeek) || says(steps, Kind::MondayWeek)))
+    has_kind(steps, Kind::Ordinal)
+        || (has_kind(steps, Kind::Month) && has_kind(steps, Kind::Day))
+        || (has_kind(steps, Kind::Weekday)
+            && (has_kind(steps, Kind::SundayWeek) || has_kind(steps, Kind::MondayWeek)))
 }
 
 // Whether the steps give a day of an ISO 8601 week year.
 fn has_iso_day(steps: &[Step]) -> bool
     ensures { result ≡ spec.has_iso_day (steps_shape steps.now) }
 {
-    says(steps, Kind::IsoWeek) && says(steps, Kind::Weekday)
+    has_kind(steps, Kind::IsoWeek) && has_kind(steps, Kind::Weekday)
 }
 
 // Whether the steps give a whole year.
 fn has_whole_year(steps: &[Step]) -> bool
     ensures { result ≡ spec.has_whole_year (steps_shape steps.now) }
 {
-    says(steps, Kind::Year) || (says(steps, Kind::YearCentury) && says(steps, Kind::YearLastTwo))
+    has_kind(steps, Kind::Year)
+        || (has_kind(steps, Kind::YearCentury) && has_kind(steps, Kind::YearLastTwo))
 }
 
 // Whether the steps give a whole ISO 8601 week year.
 fn has_whole_iso_year(steps: &[Step]) -> bool
     ensures { result ≡ spec.has_whole_iso_year (steps_shape steps.now) }
 {
-    says(steps, Kind::IsoYear)
-        || (says(steps, Kind::IsoYearCentury) && says(steps, Kind::IsoYearLastTwo))
+    has_kind(steps, Kind::IsoYear)
+        || (has_kind(steps, Kind::IsoYearCentury) && has_kind(steps, Kind::IsoYearLastTwo))
 }
 
 // Whether the steps give a day with its year. A default year counts if a text may have no part of a year.
@@ -284,7 +258,7 @@ fn has_full_date(steps: &[Step], has_year: bool) -> bool
 fn missing_field_of(steps: &[Step], has_year: bool) -> Option<MissingField>
     ensures { result ≡ spec.missing_field_of has_year (steps_shape steps.now) }
 {
-    if says(steps, Kind::Count) {
+    if has_kind(steps, Kind::Count) {
         None
     } else if !(has_day(steps) || has_iso_day(steps)) {
         Some(MissingField::Day)
@@ -292,9 +266,9 @@ fn missing_field_of(steps: &[Step], has_year: bool) -> Option<MissingField>
         Some(MissingField::WholeYear)
     } else if !has_full_date(steps, has_year) {
         Some(MissingField::Year)
-    } else if !(says(steps, Kind::Hour) || says(steps, Kind::HourOfHalf)) {
+    } else if !(has_kind(steps, Kind::Hour) || has_kind(steps, Kind::HourOfHalf)) {
         Some(MissingField::Hour)
-    } else if !(says(steps, Kind::Hour) || says(steps, Kind::Half)) {
+    } else if !(has_kind(steps, Kind::Hour) || has_kind(steps, Kind::Half)) {
         Some(MissingField::Half)
     } else {
         None

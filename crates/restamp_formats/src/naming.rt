@@ -1,8 +1,6 @@
 //! Finds formats by their names, and by descriptions.
-ghost use Rattle.std.specs.Prelude.{◌≡◌, MatchResult};
-ghost use Rattle.time_descriptions.specs.Description.{shape, version_of};
-ghost use Rattle.time_descriptions.specs.Grammar.{Describes};
-ghost use Rattle.time_descriptions.specs.Strftime.{DescribesStrftime};
+ghost use Rattle.std.specs.Prelude.{◌≡◌};
+ghost use Rattle.restamp_formats.specs.Common.{MatchResult, shape, version_of, Describes, DescribesStrftime};
 ghost use Rattle.restamp_formats.specs.Naming as spec;
 
 use crate::form::{Named, Unit, Writing};

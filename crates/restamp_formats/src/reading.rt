@@ -1,17 +1,10 @@
 //! Parses a timestamp by a format.
-ghost use Rattle.std.specs.Prelude.{◌≡◌, ◌+◌, ◌-◌, ◌≤◌, true, length, IfOk, MatchResult, Ok};
-ghost use Rattle.time_values.specs.Calendar.{greatest_year};
-ghost use Rattle.time_values.specs.Refusal.{refusal_of};
-ghost use Rattle.time_record.specs.Record.{empty};
-ghost use Rattle.time_readers.specs.Direct.{RefusesRfc3339};
-ghost use Rattle.time_components.specs.Tree.{steps_shape};
-ghost use Rattle.time_record.specs.Reading as description;
-ghost use Rattle.time_parsing.specs.Outcome.{direct, over_record, IsFront, IsOutcome, seen as seen_parse, seen_front};
+ghost use Rattle.std.specs.Prelude.{◌≡◌, ◌+◌, ◌-◌, ◌≤◌};
+ghost use Rattle.restamp_formats.specs.Common.{length, IfOk, MatchResult, Ok, greatest_year, refusal_of, empty, IsFront, IsOutcome, Reading};
+ghost use Rattle.time_parsing.specs.Outcome.{seen as seen_parse, seen_front};
 ghost use Rattle.time_parsing.specs.Iso8601 as iso8601;
-ghost use Rattle.time_parsing.specs.Rfc3339.{Reads, Refuses};
 ghost use Rattle.restamp_formats.specs.Reading as spec;
-ghost use Rattle.restamp_formats.specs.Reason.{Gives, IsErrOf, erased_read, unread};
-ghost use Rattle.restamp_formats.specs.declared.reading.Reading.TheVariants as reading;
+ghost use Rattle.restamp_formats.specs.Reason.{Gives, IsErrOf, erased, unread};
 
 mod fast;
 
@@ -140,9 +133,9 @@ pub(crate) fn match_before(rest: &[u8], text: &[u8], moment: OffsetDateTime) -> 
     }
 }
 
-/// Parses a prefix of the text by the format if `is_prefix` is true, otherwise the whole text.
+// Parses a prefix of the text by the format if `is_prefix` is true, otherwise the whole text.
 #[inline(always)]
-pub fn read_by<F: Parsable>(format: &F, is_prefix: bool, text: &[u8]) -> Result<Match, Parse>
+fn read_by<F: Parsable>(format: &F, is_prefix: bool, text: &[u8]) -> Result<Match, Parse>
     ensures said { spec.IsReadBy greatest_year is_prefix (F.path format.now) (F.reads format.now) (F.refuses format.now) text.now
         (spec.erased_match result) }
     ensures within { IfOk result (λ said. said.start + said.length ≤ length text.now) }
@@ -188,9 +181,9 @@ fn whole_with<F: Parsable>(
     value_before::<OffsetDateTime>(rest, &parsed)
 }
 
-/// Parses a prefix of the text if `is_prefix` is true, otherwise the whole text, with defaults for what it omits.
+// Parses a prefix of the text if `is_prefix` is true, otherwise the whole text, with defaults for what it omits.
 #[inline(always)]
-pub fn read_with<F: Parsable>(
+fn read_with<F: Parsable>(
     format: &F,
     is_prefix: bool,
     text: &[u8],
@@ -222,10 +215,10 @@ fn bare(said: Match, text: &[u8]) -> Match
     }
 }
 
-/// Parses a mail date, RFC 2822, which may have white space around it. If `is_prefix` is true the match leaves that out.
-/// Not inlined, so that the other formats are.
+// Parses a mail date, RFC 2822, which may have white space around it. If `is_prefix` is true the match leaves that out.
+// Not inlined, so that the other formats are.
 #[inline(never)]
-pub fn read_mail(is_prefix: bool, text: &[u8]) -> Result<Match, Parse>
+fn read_mail(is_prefix: bool, text: &[u8]) -> Result<Match, Parse>
     ensures said { spec.IsReadMail greatest_year is_prefix text.now (spec.erased_match result) }
     ensures within { IfOk result (λ said. said.start + said.length ≤ length text.now) }
 {
@@ -240,8 +233,7 @@ pub fn read_mail(is_prefix: bool, text: &[u8]) -> Result<Match, Parse>
 /// beside whole texts.
 #[inline(never)]
 pub fn read_front_3339(text: &[u8]) -> Result<Match, Parse>
-    ensures said { spec.IsReadBy greatest_year true (direct (RefusesRfc3339 greatest_year)) (Reads greatest_year)
-        (Refuses greatest_year) text.now (spec.erased_match result) }
+    ensures said { spec.IsReadInFront greatest_year text.now (spec.erased_match result) }
     ensures within { IfOk result (λ said. said.start + said.length ≤ length text.now) }
 {
     if let Some(said) = fast::front_3339(text) {
@@ -250,11 +242,10 @@ pub fn read_front_3339(text: &[u8]) -> Result<Match, Parse>
     read_by(&Rfc3339, true, text)
 }
 
-/// Parses a prefix of the text by RFC 3339 if `is_prefix` is true, otherwise the whole text.
+// Parses a prefix of the text by RFC 3339 if `is_prefix` is true, otherwise the whole text.
 #[inline(always)]
-pub fn read_3339(is_prefix: bool, text: &[u8]) -> Result<Match, Parse>
-    ensures said { spec.IsReadBy greatest_year is_prefix (direct (RefusesRfc3339 greatest_year)) (Reads greatest_year)
-        (Refuses greatest_year) text.now (spec.erased_match result) }
+fn read_3339(is_prefix: bool, text: &[u8]) -> Result<Match, Parse>
+    ensures said { spec.IsRead3339 greatest_year is_prefix text.now (spec.erased_match result) }
     ensures within { IfOk result (λ said. said.start + said.length ≤ length text.now) }
 {
     if is_prefix {
@@ -263,9 +254,9 @@ pub fn read_3339(is_prefix: bool, text: &[u8]) -> Result<Match, Parse>
     read_by(&Rfc3339, is_prefix, text)
 }
 
-/// Parses a text by ISO 8601 with defaults. Not inlined, so that it needs no stack beside other formats.
+// Parses a text by ISO 8601 with defaults. Not inlined, so that it needs no stack beside other formats.
 #[inline(never)]
-pub fn read_8601(is_prefix: bool, text: &[u8], defaults: &Defaults<'_>) -> Result<Match, Parse>
+fn read_8601(is_prefix: bool, text: &[u8], defaults: &Defaults<'_>) -> Result<Match, Parse>
     ensures said { spec.IsReadWith greatest_year is_prefix (iso8601.Reads greatest_year) (iso8601.Refuses greatest_year) text.now
         defaults.now (spec.erased_match result) }
     ensures within { IfOk result (λ said. said.start + said.length ≤ length text.now) }
@@ -301,7 +292,7 @@ fn parse_counted<E: FromReason>(
     text: &[u8],
     defaults: &Defaults<'_>,
 ) -> Result<Match, E>
-    ensures said { Gives E.is_of (spec.ParsesAs greatest_year (reading.Counted described.now) is_prefix text.now defaults.now) result }
+    ensures said { Gives E.is_of (spec.ParsesAs greatest_year (Reading.Counted described.now) is_prefix text.now defaults.now) result }
     ensures within { IfOk result (λ said. said.start + said.length ≤ length text.now) }
 {
     match read_with(described, is_prefix, text, defaults) {
@@ -311,9 +302,9 @@ fn parse_counted<E: FromReason>(
 }
 
 /// Parses a text by the format, with defaults for what it omits: a prefix of it if `is_prefix` is true, otherwise the
-/// whole text. The error is what the caller keeps of the reason.
+/// whole text. The error is what the caller keeps of the reason. The defaults `clocks` and `latest` don't count.
 #[inline(always)]
-pub(crate) fn parse<E: FromReason>(
+pub fn parse<E: FromReason>(
     reading: &Reading,
     is_prefix: bool,
     text: &[u8],
@@ -355,7 +346,7 @@ pub fn read(
     text: &[u8],
     defaults: &Defaults<'_>,
 ) -> Result<Match, Reason>
-    ensures said { spec.ParsesAs greatest_year reading.now is_prefix text.now defaults.now (erased_read result) }
+    ensures said { spec.ParsesAs greatest_year reading.now is_prefix text.now defaults.now (erased result) }
     ensures within { IfOk result (λ said. said.start + said.length ≤ length text.now) }
 {
     parse_outlined(reading, is_prefix, text, defaults)

@@ -1,6 +1,6 @@
 //! Why a timestamp isn't rewritten.
-ghost use Rattle.std.specs.Prelude.{◌≡◌, Some};
-ghost use Rattle.time_values.specs.Shown.{fixed};
+ghost use Rattle.std.specs.Prelude.{◌≡◌};
+ghost use Rattle.restamp_formats.specs.Common.{Some, fixed};
 ghost use Rattle.restamp_formats.specs.Reason.{seen, offset_text, offsets_text, parts_of, reason_text, text_with};
 
 use std::{fmt, str};

@@ -1,10 +1,8 @@
 //! A fast path for local times in a zone.
-ghost use Rattle.std.specs.Prelude.{◌≡◌, ◌+◌, ◌≤◌, false, length, None, Some, Ok, IfSome};
-ghost use Rattle.time_values.specs.Calendar.{greatest_year};
-ghost use Rattle.time_record.specs.Resolution.{is_leap_second};
 ghost use Rattle.time_parsing.specs.Iso8601 as iso8601;
-ghost use Rattle.restamp_formats.specs.Reading.{ReadsRecord, ParsesLocally};
-ghost use Rattle.restamp_formats.specs.Zoned.{IsOffsetWhen};
+ghost use Rattle.std.specs.Prelude.{◌≡◌, ◌+◌, ◌≤◌};
+ghost use Rattle.restamp_formats.specs.Common.{false, length, None, Some, Ok, IfSome, greatest_year, is_leap_second};
+ghost use Rattle.restamp_formats.specs.{Reading.ReadsRecord, Reading.ParsesLocally, Zoned.IsOffsetWhen};
 
 use crate::local::{Clocks, clock_of};
 use crate::reading::{Defaults, Match, Reading, match_before, put_year};

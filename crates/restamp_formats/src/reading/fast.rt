@@ -1,9 +1,6 @@
 //! Parses a prefix by RFC 3339 without a record.
-ghost use Rattle.std.specs.Prelude.{◌≤◌, ◌+◌, length, true, IfSome, Ok};
-ghost use Rattle.time_values.specs.Calendar.{greatest_year};
-ghost use Rattle.time_readers.specs.Direct.{RefusesRfc3339};
-ghost use Rattle.time_parsing.specs.Outcome.{direct};
-ghost use Rattle.time_parsing.specs.Rfc3339.{Reads, Refuses};
+ghost use Rattle.std.specs.Prelude.{◌≤◌, ◌+◌};
+ghost use Rattle.restamp_formats.specs.Common.{length, IfSome, Ok, greatest_year};
 ghost use Rattle.restamp_formats.specs.Reading as spec;
 
 use crate::reading::Match;
@@ -51,8 +48,7 @@ fn moment_end(text: &[u8]) -> Option<usize>
 #[tactic(auto, using(crate::proofs::FrontLemmas::front_said))]
 #[inline(always)]
 pub(super) fn front_3339(text: &[u8]) -> Option<Match>
-    ensures said { IfSome result (λ said. spec.IsReadBy greatest_year true (direct (RefusesRfc3339 greatest_year))
-        (Reads greatest_year) (Refuses greatest_year) text.now (Ok said)) }
+    ensures said { IfSome result (λ said. spec.IsReadInFront greatest_year text.now (Ok said)) }
     ensures within { IfSome result (λ said. said.start + said.length ≤ length text.now) }
 {
     let end = moment_end(text)?;

@@ -1,9 +1,5 @@
 use Rattle.std.proofs.Common.{Ok, Result}
-use Rattle.time_values.specs.Calendar.{greatest_year}
-use Rattle.restamp_formats.specs.Reading.{ParsesZoned}
-use Rattle.restamp_formats.specs.Reason.{Reason}
-use Rattle.restamp_formats.specs.Zoned.{IsSuffixed}
-use Rattle.restamp_formats.specs.declared.reading.Match.{Match}
+use Rattle.restamp_formats.specs.{Common.greatest_year, Common.Match, Reading.ParsesZoned, Reason.Reason, Zoned.IsSuffixed}
 use Rattle.restamp_formats.proofs.GivesLemmas.{gives_so}
 use Rattle.restamp_formats.proofs.clock.read_zoned.Goals as goal
 

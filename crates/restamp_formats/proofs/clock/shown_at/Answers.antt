@@ -1,7 +1,7 @@
 use Rattle.std.proofs.Common.{◌≡◌, true, ◌&&◌, int_eq, arith, refl, sym, ◌∙◌}
 use Rattle.std.proofs.lemmas.Int.{ints}
-use Rattle.time_values.specs.declared.utc_offset.UtcOffset.{UtcOffset}
 use Rattle.time_values.proofs.InstantLemmas.{same_offset_by_parts}
+use Rattle.restamp_formats.specs.Common.{UtcOffset}
 use Rattle.restamp_formats.proofs.clock.shown_at.Goals as goal
 
 -- ---- Offsets that a test found equal

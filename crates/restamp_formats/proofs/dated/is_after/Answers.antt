@@ -1,9 +1,7 @@
-use Rattle.std.proofs.Common.{◌≡◌, ◌≢◌, ℤ, pos, Bool, true, false, refl, sym, ap, arith, rules, ◌∙◌}
-use Rattle.std.specs.Prelude.{◌≤ℤ◌, ◌<ℤ◌, ◌+ℤ◌, ◌*ℤ◌, int_lt}
-use Rattle.std.specs.Int.{w64, cast_unsigned as of_z}
+use Rattle.std.proofs.Common.{◌≡◌, ◌≢◌, ℤ, pos, Bool, true, false, refl, sym, ap, arith, rules, ◌∙◌, ◌≤ℤ◌, ◌<ℤ◌, ◌+ℤ◌, ◌*ℤ◌, int_lt}
 use Rattle.std.proofs.lemmas.Int.{ints, to_z-of_z}
-use Rattle.time_values.specs.Moments.{offset_instant}
-use Rattle.time_values.specs.Calendar.{greatest_year}
+use Rattle.std.specs.Int.{w64, cast_unsigned as of_z}
+use Rattle.restamp_formats.specs.Common.{offset_instant, greatest_year}
 use Rattle.restamp_formats.proofs.dated.is_after.Goals as goal
 
 -- different whole seconds decide which of two instants in nanoseconds is later

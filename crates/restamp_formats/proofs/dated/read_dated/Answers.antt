@@ -1,5 +1,4 @@
-use Rattle.time_values.specs.Calendar.{greatest_year}
-use Rattle.restamp_formats.specs.Reading.{IsDated}
+use Rattle.restamp_formats.specs.{Common.greatest_year, Reading.IsDated}
 use Rattle.restamp_formats.proofs.GivesLemmas.{of_reason}
 use Rattle.restamp_formats.proofs.dated.read_dated.Goals as goal
 

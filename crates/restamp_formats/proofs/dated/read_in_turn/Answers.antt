@@ -1,5 +1,4 @@
-use Rattle.time_values.specs.Calendar.{greatest_year}
-use Rattle.restamp_formats.specs.Reading.{IsReadInTurn}
+use Rattle.restamp_formats.specs.{Common.greatest_year, Reading.IsReadInTurn}
 use Rattle.restamp_formats.proofs.GivesLemmas.{of_reason}
 use Rattle.restamp_formats.proofs.dated.read_in_turn.Goals as goal
 

@@ -1,8 +1,6 @@
 use Rattle.std.proofs.Common.{◌≡◌, List, [], drop, Ok, Err, refl, sym, subst, arith}
 use Rattle.std.proofs.Math.ListN.{drop_of_length-le}
-use Rattle.time_values.specs.Calendar.{greatest_year}
-use Rattle.restamp_formats.specs.Reading.{AreTried}
-use Rattle.restamp_formats.specs.declared.reading.Reading.{Reading}
+use Rattle.restamp_formats.specs.{Common.greatest_year, Common.Reading, Reading.AreTried}
 use Rattle.restamp_formats.proofs.ParseLemmas.{tried-here, tried-later}
 use Rattle.restamp_formats.proofs.dated.read_others.Goals as goal
 

@@ -1,9 +1,5 @@
-use Rattle.std.proofs.Common.{drop}
-use Rattle.std.specs.Prelude.{Result}
-use Rattle.time_values.specs.Calendar.{greatest_year}
-use Rattle.restamp_formats.specs.Reading.{AreTried}
-use Rattle.restamp_formats.specs.Reason.{Reason}
-use Rattle.restamp_formats.specs.declared.reading.Match.{Match}
+use Rattle.std.proofs.Common.{drop, Result}
+use Rattle.restamp_formats.specs.{Common.greatest_year, Common.Match, Reading.AreTried, Reason.Reason}
 use Rattle.restamp_formats.proofs.dated.read_others.Given as goal
 
 -- the result of the remaining formats is that of all of them

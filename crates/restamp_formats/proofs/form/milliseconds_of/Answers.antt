@@ -1,17 +1,10 @@
-use Rattle.std.specs.Prelude.{neg_ℤ}
+use Rattle.std.proofs.Common.{neg_ℤ, ◌≡◌, ◌<◌, ◌/◌, ◌%◌, ◌*◌, ◌+◌, ℕ, ℤ, pos, ◌*ℤ◌, ◌+ℤ◌, ◌-ℤ◌, ◌≤ℤ◌, FitsSigned, arith}
+use Rattle.std.proofs.lemmas.{Int.ints, Int.to_z-of_z, Nat.div-add-mod'}
 use Rattle.std.specs.Int.{w64, cast_signed as to_z, cast_unsigned as of_z}
-use Rattle.std.proofs.Common.{◌≡◌, ◌<◌, ◌/◌, ◌%◌, ◌*◌, ◌+◌, ℕ, ℤ, pos, ◌*ℤ◌, ◌+ℤ◌, ◌-ℤ◌, ◌≤ℤ◌, FitsSigned, arith}
-use Rattle.std.proofs.lemmas.Int.{ints, to_z-of_z}
-use Rattle.std.proofs.lemmas.Nat.{div-add-mod'}
-use Rattle.time_values.specs.Dates.{day_number}
-use Rattle.time_values.specs.Instants.{IsInstant, IsWhole}
-use Rattle.time_values.specs.Moments.{offset_instant, offset_date, offset_time, offset_of}
-use Rattle.time_values.specs.Offsets.{offset_seconds}
-use Rattle.time_values.specs.Calendar.{greatest_year}
-use Rattle.time_values.specs.Times as Times
-use Rattle.time_values.specs.Times.{nanosecond}
-use Rattle.time_values.specs.declared.offset_date_time.OffsetDateTime.{OffsetDateTime}
+use Rattle.time_values.specs.{Dates.day_number, Times.nanosecond}
 use Rattle.time_values.proofs.InstantLemmas.{first_instant_is, last_instant_is, clock_nanos_is, instant_is}
+use Rattle.time_values.specs.Times as Times
+use Rattle.restamp_formats.specs.Common.{IsInstant, IsWhole, offset_instant, offset_date, offset_time, offset_of, offset_seconds, greatest_year, OffsetDateTime}
 use Rattle.restamp_formats.proofs.form.milliseconds_of.Goals as goal
 
 -- ---- Milliseconds since 1970, by whole seconds and the nanoseconds of the clock

@@ -1,6 +1,6 @@
 use Rattle.std.proofs.Common.{arith}
-use Rattle.std.specs.Int.{w64}
 use Rattle.std.proofs.lemmas.Int.{ints, to_z-of_z}
+use Rattle.std.specs.Int.{w64}
 use Rattle.time_values.proofs.InstantLemmas.{first_instant_is, last_instant_is}
 use Rattle.restamp_formats.proofs.form.seconds_of.Goals as goal
 

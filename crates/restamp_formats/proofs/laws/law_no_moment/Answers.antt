@@ -1,4 +1,4 @@
-use Rattle.time_values.specs.Calendar.{greatest_year}
+use Rattle.restamp_formats.specs.Common.{greatest_year}
 use Rattle.restamp_formats.proofs.MissingFieldMoments.{says_no_moment}
 use Rattle.restamp_formats.proofs.laws.law_no_moment.Goals as goal
 

@@ -1,35 +1,11 @@
-use Rattle.std.specs.Prelude.{Result, IsOkAnd}
-use Rattle.std.proofs.Common.{◌≡◌, ℕ, ℤ, Bool, true, false, List, [], ◌++◌, length, Option, None, Some, Ok, Err, refl, sym, ap, subst, ◌∙◌, inr, MatchOption}
+use Rattle.std.proofs.Common.{Result, IsOkAnd, ◌≡◌, ℕ, ℤ, Bool, true, false, List, [], ◌++◌, length, Option, None, Some, Ok, Err, refl, sym, ap, subst, ◌∙◌, inr, MatchOption}
 use Rattle.std.proofs.lemmas.Bool.Decides.{Decides-int_eq}
-use Rattle.jiff_core.specs.Timestamp.{IsTimestampNanos}
+use Rattle.time_zones.specs.{Suffix.compared, Suffix.at_offset, declared.checking.SuffixFault.TheVariants.UnknownZone}
+use Rattle.time_zones.proofs.{FolderLemmas.goes_with_found, NameLemmas.written_is_suffix}
 use Rattle.jiff_tz.specs.Zone as Zone
-use Rattle.jiff_tz.specs.declared.timezone.TimeZone.{TimeZone}
-use Rattle.time_values.specs.Moments.{offset_of}
-use Rattle.time_values.specs.Offsets.{offset_seconds}
-use Rattle.time_values.specs.Calendar.{greatest_year}
-use Rattle.time_values.specs.Shown.{Items}
-use Rattle.time_values.specs.declared.offset_date_time.OffsetDateTime.{OffsetDateTime}
-use Rattle.time_zones.specs.Suffix.{Checked, GoesWithNamed, GoesWithZone, compared, Zone as Told, at_offset, bracketed, named}
-use Rattle.time_zones.specs.Finding.{IsZoneIfAny, zone_named}
-use Rattle.time_zones.specs.declared.checking.SuffixFault.TheVariants.{UnknownZone}
-use Rattle.time_zones.specs.declared.finding.NamedZone.{NamedZone}
-use Rattle.time_zones.specs.declared.zones.Zones.{Zones}
-use Rattle.time_zones.proofs.FolderLemmas.{goes_with_found}
-use Rattle.time_zones.proofs.NameLemmas.{written_is_suffix}
-use Rattle.restamp_formats.specs.Zoned.{IsConverted, tells_offset}
-use Rattle.restamp_formats.specs.Form.{IsWritten}
-use Rattle.restamp_formats.specs.Laws.{HasZone, IsZoneOfClock, ReadsZonedBack, WritesZonedSame}
-use Rattle.restamp_formats.specs.Reading.{ParsesAs, said}
-use Rattle.restamp_formats.specs.Reason.{Reason}
-use Rattle.restamp_formats.specs.declared.clock.Clock.{Clock}
-use Rattle.restamp_formats.specs.declared.clock.Clock.TheVariants as clock
-use Rattle.restamp_formats.specs.declared.form.Form.{Form}
-use Rattle.restamp_formats.specs.declared.reading.Defaults.{Defaults}
-use Rattle.restamp_formats.specs.declared.reading.Reading.TheVariants as reading
-use Rattle.restamp_formats.specs.declared.reading.Match.{Match}
-use Rattle.restamp_formats.proofs.OneWriting.{one_written}
-use Rattle.restamp_formats.proofs.WrittenAgain.{back}
-use Rattle.restamp_formats.proofs.FrontLemmas.{reads_suffixed_back}
+use Rattle.restamp_formats.specs.Common.{IsTimestampNanos, TimeZone, offset_of, offset_seconds, greatest_year, Items, OffsetDateTime, Checked, GoesWithNamed, GoesWithZone, Zone as Told, bracketed, named, IsZoneIfAny, zone_named, NamedZone, Zones, Clock, Form, Defaults, Match, Reading}
+use Rattle.restamp_formats.specs.{Zoned.IsConverted, Zoned.tells_offset, Form.IsWritten, Laws.HasZone, Laws.IsZoneOfClock, Laws.ReadsZonedBack, Laws.WritesZonedSame, Reading.ParsesAs, Reading.said, Reason.Reason}
+use Rattle.restamp_formats.proofs.{OneWriting.one_written, WrittenAgain.back, FrontLemmas.reads_suffixed_back}
 use Rattle.restamp_formats.proofs.laws.law_zoned_read_back.Goals as goal
 
 -- ---- A timestamp with the suffix of the zone that it was converted to parses back, and writing it again gives the same text
@@ -45,15 +21,15 @@ outside_zone_range (Some z) m zone r e h = e
 -- a moment that is converted to a zone's clock fits the zone
 goes : (zones : Zones) (tells : Bool) (on : Clock) (v w : OffsetDateTime) (z : Told)
     → IsConverted greatest_year on v (Some w) → IsZoneOfClock zones on z → GoesWithZone zones tells w z (Ok tt)
-goes zones true (clock.Fixed o) v w (at_offset p) shown its =
+goes zones true (Clock.Fixed o) v w (at_offset p) shown its =
     same_offset (offset_seconds (offset_of w)) (offset_seconds p) (ap offset_seconds (shown.1 ∙ sym its))
-goes zones false (clock.Fixed o) v w (at_offset p) shown its = refl
-goes zones true (clock.Zone zone) v w (named name) shown its =
+goes zones false (Clock.Fixed o) v w (at_offset p) shown its = refl
+goes zones true (Clock.Zone zone) v w (named name) shown its =
     goes_with_found (zone_named zones name) w zone (Ok tt) its (inr (
       subst IsTimestampNanos (sym shown.0) shown.1,
       same_offset (offset_seconds (offset_of w)) _ (shown.2 ∙ ap (Zone.offset_at zone) (sym shown.0)),
     ))
-goes zones false (clock.Zone zone) v w (named name) shown its = outside_zone_range (zone_named zones name) w zone (Ok tt) refl its
+goes zones false (Clock.Zone zone) v w (named name) shown its = outside_zone_range (zone_named zones name) w zone (Ok tt) refl its
 goes zones tells on v w z shown its = absurd its
 
 -- such a text with its suffix has exactly one match
@@ -63,22 +39,22 @@ module _ (zones : Zones) (defaults : Defaults) (form : Form) (v : OffsetDateTime
   whole = text ++ bracketed false name
 
   one : (w : OffsetDateTime) (read : Result Match Reason) → IsConverted greatest_year form.clock v (Some w)
-      → ParsesAs greatest_year reading.Rfc3339 false text defaults (Ok (said w (length text)))
-      → ParsesAs greatest_year (reading.Zoned zones) false whole defaults read → read ≡ Ok (said w (length whole))
+      → ParsesAs greatest_year Reading.Rfc3339 false text defaults (Ok (said w (length text)))
+      → ParsesAs greatest_year (Reading.Zoned zones) false whole defaults read → read ≡ Ok (said w (length whole))
   one w read shown says zoned =
       reads_suffixed_back zones defaults w text (bracketed false name) (Some (record { is_critical = false; zone = is.zone })) [] read
       says (written_is_suffix name is.zone is.told) (goes zones (tells_offset text) form.clock v w is.zone shown is.of_clock) zoned
 
 reads_zoned_back : ReadsZonedBack greatest_year
 reads_zoned_back zones defaults form v text name read is says =
-    let it = back reading.Rfc3339 defaults form v text is.readable in
+    let it = back Reading.Rfc3339 defaults form v text is.readable in
     subst (λ (r : Result Match Reason). IsOkAnd r (λ s. IsConverted greatest_year form.clock v (Some s.moment) × (s.start ≡ 0)
     × (s.length ≡ length (text ++ bracketed false name))))
     (sym (one zones defaults form v text name is it.0 read it.1.shown it.1.says says)) (it.1.shown, refl, refl)
 
 writes_zoned_same : WritesZonedSame greatest_year
 writes_zoned_same zones defaults form v text name said_ again is says next =
-    let it = back reading.Rfc3339 defaults form v text is.readable in
+    let it = back Reading.Rfc3339 defaults form v text is.readable in
     let same = one zones defaults form v text name is it.0 (Ok said_) it.1.shown it.1.says says in
     let moment : it.0 ≡ said_.moment = cc in
     subst (λ (r : Result Items Reason). IsOkAnd r (λ written. written.items ≡ text))

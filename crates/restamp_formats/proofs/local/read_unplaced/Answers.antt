@@ -1,6 +1,6 @@
-use Rattle.time_values.specs.Calendar.{greatest_year}
-use Rattle.restamp_formats.proofs.GivesLemmas.{gives_so}
-use Rattle.restamp_formats.proofs.ParseLemmas.{locally-none, locally-on}
+use Rattle.std.proofs.Common.{Err, refl}
+use Rattle.restamp_formats.specs.Common.{greatest_year}
+use Rattle.restamp_formats.proofs.{GivesLemmas.gives_so, ParseLemmas.locally-on, ParseLemmas.on_none}
 use Rattle.restamp_formats.proofs.local.read_unplaced.Goals as goal
 
 pub returns-in-Some-clause-said : goal.returns-in-Some-clause-said
@@ -14,5 +14,5 @@ pub returns-in-None-clause-said : goal.returns-in-None-clause-said
 returns-in-None-clause-said g c = (
   c.requires.0,
   c.requires.1,
-  locally-none greatest_year c.args.reading.now c.args.is_prefix c.args.text.now c.args.defaults.now c.requires.0 c.in-None.is c.requires.2,
+  (Err c.requires.0, c.requires.2, on_none c.args.defaults.now.clocks _ _ c.in-None.is refl),
 )

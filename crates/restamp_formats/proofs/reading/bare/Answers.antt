@@ -1,13 +1,7 @@
-use Rattle.std.specs.Char.{is_ascii_whitespace}
-use Rattle.std.specs.List.{prefix_len}
-use Rattle.std.specs.Str.{IsTrimAsciiStart, IsTrimAsciiEnd}
 use Rattle.std.proofs.Common.{◌≡◌, ℕ, ◌-◌, List, length, drop, ap, arith, ◌∙◌, take}
-use Rattle.std.proofs.lemmas.List.{length-take-le, length-drop}
-use Rattle.std.proofs.lemmas.List.Sums.{prefix_len-le-length}
-use Rattle.std.proofs.lemmas.Str.Ascii.{trim_ascii_start_is, trim_ascii_end_is}
-use Rattle.time_values.specs.declared.offset_date_time.OffsetDateTime.{OffsetDateTime}
-use Rattle.restamp_formats.specs.Reading.{before_blanks, bare_match}
-use Rattle.restamp_formats.specs.declared.reading.Match.{Match}
+use Rattle.std.proofs.lemmas.{List.length-take-le, List.length-drop, List.Sums.prefix_len-le-length, Str.Ascii.trim_ascii_start_is, Str.Ascii.trim_ascii_end_is}
+use Rattle.std.specs.{Char.is_ascii_whitespace, List.prefix_len, Str.IsTrimAsciiStart, Str.IsTrimAsciiEnd}
+use Rattle.restamp_formats.specs.{Common.OffsetDateTime, Common.Match, Reading.before_blanks, Reading.bare_match}
 use Rattle.restamp_formats.proofs.reading.bare.Goals as goal
 
 -- ---- The match of a mail date without white space at both ends of it

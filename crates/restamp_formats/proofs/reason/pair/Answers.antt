@@ -1,5 +1,5 @@
 use Rattle.std.proofs.Common.{refl}
-use Rattle.time_values.specs.Shown.{fixed}
+use Rattle.restamp_formats.specs.Common.{fixed}
 use Rattle.restamp_formats.proofs.reason.pair.Goals as goal
 
 pub returns : goal.returns

@@ -1,8 +1,7 @@
 use Rattle.std.proofs.Common.{ℤ, false, not, ap, refl, ◌∙◌, Ok, Err}
-use Rattle.std.specs.Int.{w32}
 use Rattle.std.proofs.lemmas.Int.{to_z-of_z}
-use Rattle.time_values.specs.Calendar.{greatest_year}
-use Rattle.restamp_formats.specs.Reading.{in_year, erased_undated}
+use Rattle.std.specs.Int.{w32}
+use Rattle.restamp_formats.specs.{Common.greatest_year, Reading.in_year, Reading.erased_undated}
 use Rattle.restamp_formats.proofs.ParseLemmas.{early}
 use Rattle.restamp_formats.proofs.dated.Undated.is_early.Goals as goal
 

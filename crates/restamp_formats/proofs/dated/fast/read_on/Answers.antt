@@ -1,13 +1,8 @@
 use Rattle.std.proofs.Common.{◌≡◌, ◌-◌, false, [], None, Ok, length, refl, sym, subst}
-use Rattle.time_values.specs.Calendar.{greatest_year}
-use Rattle.time_values.specs.Moments.{plain_date, plain_time}
-use Rattle.time_record.specs.Record.{Record}
-use Rattle.time_record.specs.Resolution.{IsPlain, is_leap_second}
-use Rattle.restamp_formats.specs.Reading.{ReadsRecord, ParsesLocally, said}
-use Rattle.restamp_formats.specs.Zoned.{IsOffsetWhen}
-use Rattle.restamp_formats.proofs.ClocksOnce.{nothing_left, plain_parts, says_once}
+use Rattle.restamp_formats.specs.Common.{greatest_year, plain_date, plain_time, Record, IsPlain, is_leap_second}
+use Rattle.restamp_formats.specs.{Reading.ReadsRecord, Reading.ParsesLocally, Reading.said, Zoned.IsOffsetWhen}
+use Rattle.restamp_formats.proofs.{ClocksOnce.nothing_left, ClocksOnce.plain_parts, ClocksOnce.says_once, dated.fast.read_on.Goals.else-not-is_prefix-via-then-not-is_prefix+else-not-is_empty, dated.fast.read_on.Goals.else-not-is_prefix-via-else-not-is_prefix}
 use Rattle.restamp_formats.proofs.dated.fast.read_on.Goals as goal
-use Rattle.restamp_formats.proofs.dated.fast.read_on.Goals.{else-not-is_prefix-via-then-not-is_prefix+else-not-is_empty, else-not-is_prefix-via-else-not-is_prefix}
 
 pub returns-clause-said : goal.returns-clause-said
 returns-clause-said c =

@@ -1,8 +1,6 @@
 use Rattle.std.proofs.Common.{refl}
-use Rattle.time_values.specs.Calendar.{greatest_year}
-use Rattle.restamp_formats.specs.Reason.{seen}
-use Rattle.restamp_formats.proofs.GivesLemmas.{gives_so}
-use Rattle.restamp_formats.proofs.ParseLemmas.{on-unread, on-refused, on-shown}
+use Rattle.restamp_formats.specs.{Common.greatest_year, Reason.seen}
+use Rattle.restamp_formats.proofs.{GivesLemmas.gives_so, ParseLemmas.on-unread, ParseLemmas.on-refused, ParseLemmas.on-shown}
 use Rattle.restamp_formats.proofs.local.Clocks.read.Goals as goal
 
 pub returns-in-Err-clause-said : goal.returns-in-Err-clause-said

@@ -1,5 +1,5 @@
 //! Columns: the lines of a text, each as the nanoseconds of its moment.
-use crate::{ffi, Description, Format};
+use crate::{ffi, parse_nanoseconds, Description, Format};
 
 /// The outcome of a column.
 #[derive(Clone, Copy, Debug, PartialEq, Eq)]
@@ -12,24 +12,36 @@ pub struct Column {
 
 /// Parses each line of a text, and stores the nanoseconds from 1970-01-01T00:00:00Z to its instant in the entry at the
 /// line's index. The entry of a rejected line becomes `i64::MIN`, and an entry without a line is unchanged. A line ends
-/// with LF, which is optional after the last one.
+/// with LF or CR LF, which are optional after the last one.
 pub fn column(text: impl AsRef<[u8]>, format: Format<'_>, entries: &mut [i64]) -> Column {
     let text = text.as_ref();
+    if text.contains(&b'\r') {
+        return each_line(text, format, entries);
+    }
     let (start, room) = (entries.as_mut_ptr(), entries.len());
     let mut refused = 0;
-    let number = match format {
-        Format::Rfc3339 => 1,
-        Format::Rfc2822 => 2,
-        Format::Iso8601 => 3,
-        Format::Described(Description { held, .. }) => {
-            // SAFETY: the pointers and the lengths are those of slices, and the entries are borrowed exclusively.
-            let lines = unsafe {
-                ffi::pelzaune_described_column(held, text.as_ptr(), text.len(), start, room, &mut refused)
-            };
-            return Column { lines, refused };
-        }
+    let lines = if let Format::Described(Description { held, .. }) = format {
+        // SAFETY: the pointers and the lengths are those of slices, and the entries are borrowed exclusively.
+        unsafe { ffi::pelzaune_described_column(held, text.as_ptr(), text.len(), start, room, &mut refused) }
+    } else {
+        // SAFETY: the pointers and the lengths are those of slices, and the entries are borrowed exclusively.
+        unsafe { ffi::pelzaune_column(format.number(), text.as_ptr(), text.len(), start, room, &mut refused) }
     };
-    // SAFETY: the pointers and the lengths are those of slices, and the entries are borrowed exclusively.
-    let lines = unsafe { ffi::pelzaune_column(number, text.as_ptr(), text.len(), start, room, &mut refused) };
     Column { lines, refused }
+}
+
+// Parses each line by itself, without the CR before its LF.
+fn each_line(text: &[u8], format: Format<'_>, entries: &mut [i64]) -> Column {
+    let mut found = Column { lines: 0, refused: 0 };
+    for line in text.split_inclusive(|byte| *byte == b'\n') {
+        if let Some(entry) = entries.get_mut(found.lines) {
+            let line = line.strip_suffix(b"\r\n").or_else(|| line.strip_suffix(b"\n")).unwrap_or(line);
+            *entry = parse_nanoseconds(line, format).unwrap_or_else(|_| {
+                found.refused += 1;
+                i64::MIN
+            });
+        }
+        found.lines += 1;
+    }
+    found
 }

@@ -49,7 +49,7 @@ impl fmt::Debug for Description<'_> {
 }
 
 /// The error of a malformed description.
-#[derive(Clone, Copy, Debug, PartialEq, Eq, Hash)]
+#[derive(Clone, Copy, PartialEq, Eq, Hash)]
 pub struct InvalidDescription {
     status: u32,
     /// The index of the first fault, or `None` where the description is too long.
@@ -60,6 +60,12 @@ impl InvalidDescription {
     /// The kind of the fault.
     pub fn kind(self) -> Kind {
         Kind::of(self.status)
+    }
+}
+
+impl fmt::Debug for InvalidDescription {
+    fn fmt(&self, f: &mut fmt::Formatter<'_>) -> fmt::Result {
+        f.debug_struct("InvalidDescription").field("kind", &self.kind()).field("index", &self.index).finish()
     }
 }
 

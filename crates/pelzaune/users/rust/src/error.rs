@@ -117,7 +117,7 @@ impl fmt::Display for Error {
 
 impl fmt::Debug for Error {
     fn fmt(&self, f: &mut fmt::Formatter<'_>) -> fmt::Result {
-        write!(f, "Error({:?})", text_of(self.0.get()))
+        f.debug_struct("Error").field("kind", &self.kind()).field("component", &self.component()).finish()
     }
 }
 

@@ -15,6 +15,20 @@
 //! # Ok::<(), pelzaune::Error>(())
 //! ```
 //!
+//! The types also have the traits of the standard library: `FromStr` by RFC 3339 (an [`Instant`] and a [`Moment`]) or ISO
+//! 8601 (a [`Date`], a [`Time`] and a [`Local`]), and `TryFrom` between an [`Instant`] and a `SystemTime`:
+//!
+//! ```
+//! use pelzaune::{Date, Instant};
+//! use std::time::{SystemTime, UNIX_EPOCH};
+//!
+//! let date: Date = "2020-W53-6".parse()?;
+//! assert_eq!((date.year, date.month, date.day), (2021, 1, 2));
+//! let time = SystemTime::try_from("1970-01-01T00:00:00Z".parse::<Instant>()?)?;
+//! assert_eq!(time, UNIX_EPOCH);
+//! # Ok::<(), Box<dyn std::error::Error>>(())
+//! ```
+//!
 //! A description is a format too. It is parsed once, and then parses many texts:
 //!
 //! ```
@@ -46,32 +60,23 @@ use std::num::NonZeroU32;
 use std::time::{Duration, SystemTime, UNIX_EPOCH};
 
 mod column;
+mod convert;
 mod description;
 mod error;
 mod ffi;
+mod format;
 mod locate;
 mod parts;
 mod text;
 
 pub use column::{column, Column};
+pub use convert::OutOfRange;
 pub use description::{Description, InvalidDescription};
 pub use error::{Error, Kind};
+pub use format::{Format, UnknownFormat};
 pub use locate::{locate, Place};
 pub use parts::Parts;
 pub use text::MomentText;
-
-/// The formats.
-#[derive(Clone, Copy, Debug)]
-pub enum Format<'a> {
-    /// RFC 3339, section 5.6, as `1985-04-12T23:20:50.52Z`.
-    Rfc3339,
-    /// Mail dates, RFC 2822, section 3.3, as `Sat, 02 Jan 2021 03:04:05 +0000`.
-    Rfc2822,
-    /// ISO 8601, as `20210102T0304Z`, `2020-W53-6` or `2020-366`.
-    Iso8601,
-    /// A description of your own.
-    Described(&'a Description<'a>),
-}
 
 /// A date in the proleptic Gregorian calendar.
 #[repr(C)]
@@ -166,17 +171,13 @@ pub(crate) fn answer<T>(call: impl FnOnce(*mut T) -> u32) -> Result<T, Error> {
 macro_rules! parse {
     ($parse:ident, $described:ident, $text:expr, $format:expr) => {{
         let text = $text.as_ref();
-        let number = match $format {
-            Format::Rfc3339 => 1,
-            Format::Rfc2822 => 2,
-            Format::Iso8601 => 3,
-            Format::Described(Description { held, .. }) => {
-                // SAFETY: the pointer and the length are those of a slice, and nothing else accesses the value.
-                return answer(|out| unsafe { ffi::$described(held, text.as_ptr(), text.len(), out) });
-            }
-        };
+        let format = $format;
+        if let Format::Described(Description { held, .. }) = format {
+            // SAFETY: the pointer and the length are those of a slice, and nothing else accesses the value.
+            return answer(|out| unsafe { ffi::$described(held, text.as_ptr(), text.len(), out) });
+        }
         // SAFETY: the pointer and the length are those of a slice, and nothing else accesses the value.
-        answer(|out| unsafe { ffi::$parse(number, text.as_ptr(), text.len(), out) })
+        answer(|out| unsafe { ffi::$parse(format.number(), text.as_ptr(), text.len(), out) })
     }};
 }
 
@@ -221,7 +222,7 @@ impl Instant {
         parse!(pelzaune_parse_instant, pelzaune_described_instant, text, format)
     }
 
-    /// This instant as a `SystemTime`, or `None` where the system's clock can't represent it.
+    /// This instant as a `SystemTime`, or `None` if the system's clock can't represent it. `TryFrom` does the same.
     pub fn to_system_time(self) -> Option<SystemTime> {
         let whole = Duration::from_secs(self.seconds.unsigned_abs());
         let second = if self.seconds < 0 {

@@ -4,7 +4,7 @@ use crate::{ffi, Description, Format};
 use std::fmt;
 
 /// Where a rejected text fails. It displays as the library's text of what was expected there.
-#[derive(Clone, Copy, Debug, PartialEq, Eq, Hash)]
+#[derive(Clone, Copy, PartialEq, Eq, Hash)]
 pub struct Place {
     /// The index in the text of the part that was expected, or the text's length where the text is too short.
     pub index: usize,
@@ -25,6 +25,14 @@ impl Place {
     }
 }
 
+impl fmt::Debug for Place {
+    fn fmt(&self, f: &mut fmt::Formatter<'_>) -> fmt::Result {
+        let mut shown = f.debug_struct("Place");
+        shown.field("index", &self.index).field("byte", &self.byte);
+        shown.field("kind", &self.kind()).field("component", &self.component()).finish()
+    }
+}
+
 impl fmt::Display for Place {
     fn fmt(&self, f: &mut fmt::Formatter<'_>) -> fmt::Result {
         write!(f, "{} at byte index {}", text_of(self.status), self.index)
@@ -35,22 +43,18 @@ impl fmt::Display for Place {
 pub fn locate(text: impl AsRef<[u8]>, format: Format<'_>) -> Option<Place> {
     let text = text.as_ref();
     let mut found = ffi::Place { index: 0, byte: 0 };
-    let number = match format {
-        Format::Rfc3339 => 1,
-        Format::Rfc2822 => 2,
-        Format::Iso8601 => 3,
-        Format::Described(Description { syntax, text: described, .. }) => {
-            // SAFETY: the pointers and the lengths are those of slices, and the place is borrowed exclusively.
-            let status = unsafe {
-                ffi::pelzaune_read_locate(
-                    *syntax, described.as_ptr(), described.len(), text.as_ptr(), text.len(), &mut found,
-                )
-            };
-            return place(status, found);
+    let status = if let Format::Described(Description { syntax, text: described, .. }) = format {
+        // SAFETY: the pointers and the lengths are those of slices, and the place is borrowed exclusively.
+        unsafe {
+            ffi::pelzaune_read_locate(
+                *syntax, described.as_ptr(), described.len(), text.as_ptr(), text.len(), &mut found,
+            )
         }
+    } else {
+        // SAFETY: the pointer and the length are those of a slice, and the place is borrowed exclusively.
+        unsafe { ffi::pelzaune_locate(format.number(), text.as_ptr(), text.len(), &mut found) }
     };
-    // SAFETY: the pointer and the length are those of a slice, and the place is borrowed exclusively.
-    place(unsafe { ffi::pelzaune_locate(number, text.as_ptr(), text.len(), &mut found) }, found)
+    place(status, found)
 }
 
 // The place, unless the status is 0.

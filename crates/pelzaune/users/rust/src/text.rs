@@ -39,16 +39,10 @@ impl Moment {
     /// The error is that of a member that is out of its range, [`Kind::NoText`](crate::Kind::NoText) where the format
     /// can't write the moment, or `Unknown` for a description.
     pub fn text(&self, format: Format<'_>) -> Result<MomentText, Error> {
-        let number = match format {
-            Format::Rfc3339 => 1,
-            Format::Rfc2822 => 2,
-            Format::Iso8601 => 3,
-            Format::Described(_) => 0,
-        };
         let mut text = MomentText { bytes: [0; ROOM], length: 0 };
         // SAFETY: the pointer and the length are those of the array, which is borrowed exclusively, as the length is.
         let status = unsafe {
-            ffi::pelzaune_format_moment(number, self, text.bytes.as_mut_ptr(), ROOM, &mut text.length)
+            ffi::pelzaune_format_moment(format.number(), self, text.bytes.as_mut_ptr(), ROOM, &mut text.length)
         };
         NonZeroU32::new(status).map_or(Ok(text), |status| Err(Error::new(status)))
     }

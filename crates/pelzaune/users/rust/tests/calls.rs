@@ -1,6 +1,6 @@
 use pelzaune::{column, locate, parse_nanoseconds, parse_offset, Column, Date, Description, Format, Instant, Kind, Local, Moment};
 use pelzaune::{Parts, Time};
-use std::time::{Duration, UNIX_EPOCH};
+use std::time::{Duration, SystemTime, UNIX_EPOCH};
 
 #[test]
 fn values() {
@@ -63,6 +63,53 @@ fn the_clock_of_the_system() {
 }
 
 #[test]
+fn conversions_of_the_clock() {
+    for (text, seconds, nanoseconds) in [
+        ("1970-01-01T00:00:00Z", 0, 0),
+        ("1970-01-02T00:00:00.5Z", 86_400, 500_000_000),
+        ("1969-12-31T23:59:59Z", -1, 0),
+        ("1969-12-31T23:59:58.25Z", -2, 250_000_000),
+    ] {
+        let instant: Instant = text.parse().unwrap();
+        assert_eq!(instant, Instant { seconds, nanoseconds });
+        let time = SystemTime::try_from(instant).unwrap();
+        assert_eq!(Some(time), instant.to_system_time());
+        assert_eq!(Instant::try_from(time), Ok(instant));
+    }
+    let error = SystemTime::try_from(Instant { seconds: i64::MIN, nanoseconds: 0 });
+    assert!(error.is_ok() || error.unwrap_err().to_string() == "instant out of range");
+}
+
+#[test]
+fn texts_of_the_standard_formats() {
+    let m: Moment = "1985-04-12T23:20:50.52-08:30".parse().unwrap();
+    assert_eq!(Ok(m), Moment::parse("1985-04-12T23:20:50.52-08:30", Format::Rfc3339));
+    assert_eq!("2020-366".parse(), Ok(Date { year: 2020, month: 12, day: 31 }));
+    assert_eq!("T03:04,5".parse(), Ok(Time { hour: 3, minute: 4, second: 30, nanosecond: 0 }));
+    let l: Local = "20210102T030405".parse().unwrap();
+    assert_eq!((l.year, l.month, l.day, l.hour, l.minute, l.second), (2021, 1, 2, 3, 4, 5));
+    assert_eq!("1985-04-12".parse::<Moment>().unwrap_err().kind(), Kind::InvalidComponent);
+    for (name, number) in [("rfc3339", 1), ("RFC3339", 1), ("Rfc2822", 2), ("ISO8601", 3)] {
+        let format: Format = name.parse().unwrap();
+        assert_eq!(format.name(), Some(["rfc3339", "rfc2822", "iso8601"][number - 1]));
+    }
+    for name in ["", "rfc", "rfc3339 ", "iso-8601", "[year]"] {
+        let error = name.parse::<Format>().unwrap_err();
+        assert_eq!(error.to_string(), "unknown format, expected one of `rfc3339` `rfc2822` `iso8601`");
+    }
+}
+
+#[test]
+fn errors_for_programmers() {
+    let error = Moment::parse("1985-04-31T23:20:50Z", Format::Rfc3339).unwrap_err();
+    assert_eq!(format!("{error:?}"), r#"Error { kind: RangeOfOthers, component: Some("day") }"#);
+    let error = Description::brackets("[year]-[moth]").unwrap_err();
+    assert_eq!(format!("{error:?}"), "InvalidDescription { kind: ComponentName, index: Some(8) }");
+    let place = locate("2021-13-02T03:04:05Z", Format::Rfc3339).unwrap();
+    assert_eq!(format!("{place:?}"), r#"Place { index: 5, byte: None, kind: InvalidComponent, component: Some("month") }"#);
+}
+
+#[test]
 fn the_interface_is_the_one_that_was_written_for() {
     assert_eq!(pelzaune::version() >> 8, 1);
 }
@@ -109,6 +156,18 @@ fn columns() {
     let days = Description::brackets("[unix_timestamp]").unwrap();
     assert_eq!(column("1\n-1\n", Format::Described(&days), &mut entries), Column { lines: 2, refused: 0 });
     assert_eq!(entries[..2], [1_000_000_000, -1_000_000_000]);
+}
+
+#[test]
+fn columns_with_returns() {
+    let lines = "1970-01-01T00:00:01Z\r\n\r\n1970-01-01T00:00:02Z\r\r\n1969-12-31T23:59:59.5-00:01\r";
+    let mut entries = [7; 5];
+    assert_eq!(column(lines, Format::Rfc3339, &mut entries), Column { lines: 4, refused: 3 });
+    assert_eq!(entries, [1_000_000_000, i64::MIN, i64::MIN, i64::MIN, 7]);
+    assert_eq!(column(lines, Format::Rfc3339, &mut entries[..1]), Column { lines: 4, refused: 0 });
+    let seconds = Description::brackets("[unix_timestamp]").unwrap();
+    assert_eq!(column("1\r\n-1\r\n2", Format::Described(&seconds), &mut entries), Column { lines: 3, refused: 0 });
+    assert_eq!(entries[..3], [1_000_000_000, -1_000_000_000, 2_000_000_000]);
 }
 
 #[test]

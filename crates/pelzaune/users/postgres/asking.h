@@ -6,7 +6,7 @@
 #include "formats.h"
 
 /* The outcome of a call. */
-typedef enum { ANSWERED, NO_FORMAT, REFUSED, OUT_OF_RANGE } ending;
+typedef enum { ANSWERED, NO_FORMAT, TOO_LONG, REFUSED, OUT_OF_RANGE } ending;
 
 /* The arguments of a call, and why it fails: a status of the library, and for a format the index of its fault. */
 typedef struct {
@@ -28,6 +28,24 @@ static inline bytes bytes_of(const text *it)
 {
     bytes found = { (const uint8_t *)VARDATA_ANY(it), VARSIZE_ANY_EXHDR(it) };
     return found;
+}
+
+/* The bytes of an argument. One that is too long isn't even decompressed: it has its length alone. */
+static inline bytes argument_of(Datum given)
+{
+    if (!VARATT_IS_SHORT(DatumGetPointer(given))) {
+        bytes found = { NULL, toast_raw_datum_size(given) - VARHDRSZ };
+        if (found.length > TEXT_MOST) return found;
+    }
+    return bytes_of(DatumGetTextPP(given));
+}
+
+/* Raises the error of an argument that is too long. */
+_Noreturn static void tell_length(const char *argument, size_t length)
+{
+    char message[TOO_LONG_ROOM];
+    write_too_long(argument, length, message);
+    ereport(ERROR, (errcode(ERRCODE_PROGRAM_LIMIT_EXCEEDED), errmsg_internal("%s", message)));
 }
 
 /* Parses a format into the cache. An error of the server leaves the cache empty. */
@@ -62,7 +80,8 @@ static ending ask_other_format(FunctionCallInfo fcinfo, question *it)
 {
     FmgrInfo *called = fcinfo->flinfo;
     kept_form *kept = called->fn_extra;
-    it->format = bytes_of(PG_GETARG_TEXT_PP(1));
+    it->format = argument_of(PG_GETARG_DATUM(1));
+    if (!it->format.at) tell_length("format", it->format.length);
     if (!kept) kept = called->fn_extra = MemoryContextAllocZero(called->fn_mcxt, sizeof *kept);
     it->by = &kept->by;
     if (kept->is_read && kept->length == it->format.length && memcmp(kept->written, it->format.at, kept->length) == 0)
@@ -84,8 +103,9 @@ static inline ending ask_format(FunctionCallInfo fcinfo, question *it)
 /* Gets both arguments: the format, and the first, which is the text. */
 static inline ending ask(FunctionCallInfo fcinfo, question *it)
 {
-    it->text = bytes_of(PG_GETARG_TEXT_PP(0));
-    return ask_format(fcinfo, it);
+    it->text = argument_of(PG_GETARG_DATUM(0));
+    ending how = ask_format(fcinfo, it);
+    return how == ANSWERED && !it->text.at ? TOO_LONG : how;
 }
 
 /* The most bytes of a text in a message. */
@@ -147,6 +167,7 @@ _Noreturn static void tell_fault(const question *it)
 _Noreturn static void tell(ending how, const question *it, const char *type)
 {
     if (how == NO_FORMAT) tell_fault(it);
+    if (how == TOO_LONG) tell_length("text", it->text.length);
     if (how == REFUSED) tell_refusal(it->status, it->format, it->text);
     ereport(ERROR, (errcode(ERRCODE_DATETIME_VALUE_OUT_OF_RANGE), errmsg("%s out of range", type)));
 }

@@ -1,6 +1,7 @@
 /* An extension of PostgreSQL: texts with dates and times as values of the server's types, and back. Its interface is
- * pelzaune--1.0.sql. A function with `try_` in its name returns NULL where the other one raises. */
+ * pelzaune--1.0.sql. A function with `try_` in its name returns NULL for a text for which the other one raises an error. */
 #include "postgres.h"
+#include "access/detoast.h"
 #include "catalog/pg_type.h"
 #include "common/int.h"
 #include "fmgr.h"
@@ -86,7 +87,8 @@ static inline ending take_unix_ns(question *it, Datum *value)
     return ANSWERED;
 }
 
-/* Two functions of SQL: one that raises an error of that type, and one that returns NULL instead. */
+/* Two functions of SQL: one that raises an error of that type, and one that returns NULL instead, unless the format is
+ * malformed. */
 #define CALLS(name, type) \
     PG_FUNCTION_INFO_V1(call_##name); \
     Datum call_##name(PG_FUNCTION_ARGS) \
@@ -105,6 +107,7 @@ static inline ending take_unix_ns(question *it, Datum *value)
         Datum value; \
         ending how = ask(fcinfo, &it); \
         if (how == ANSWERED) how = take_##name(&it, &value); \
+        if (how == NO_FORMAT) tell_fault(&it); \
         if (how != ANSWERED) PG_RETURN_NULL(); \
         return value; \
     }
@@ -132,23 +135,34 @@ PG_FUNCTION_INFO_V1(call_place);
 Datum call_place(PG_FUNCTION_ARGS)
 {
     question it;
-    if (ask(fcinfo, &it) != ANSWERED) tell_fault(&it);
+    ending how = ask(fcinfo, &it);
+    if (how != ANSWERED) tell(how, &it, "place");
     pelzaune_status reason = reason_of(it.by, it.text);
     if (!reason) PG_RETURN_NULL();
     refusal why = placed(reason, it.format, it.text);
     return row_of(fcinfo, &why);
 }
 
-/* The seconds of an offset such as Z or +05:30. */
-static int32_t offset_of(bytes it)
+/* The seconds ahead of UTC of an offset such as +05:30. */
+static int32_t seconds_of(bytes it)
 {
     static const char form[] = "[offset_hour sign:mandatory]:[offset_minute]";
     const bytes described = { (const uint8_t *)form, sizeof form - 1 };
     int32_t seconds = 0;
-    if (is_word(it, "Z")) return seconds;
     pelzaune_status status = pelzaune_read_offset(PELZAUNE_BRACKETS_2, described.at, described.length, it.at, it.length, &seconds);
     if (status) tell_refusal(status, described, it);
     return seconds;
+}
+
+/* The seconds ahead of UTC that a moment has in a zone: Z, an offset, or a time zone of the server, which has its own
+ * error for an unknown one. */
+static int32_t offset_of(const text *zone, TimestampTz at)
+{
+    bytes it = bytes_of(zone);
+    if (it.length == 1 && *it.at == 'Z') return 0;
+    if (!it.length || strchr("+-0123456789", *it.at)) return seconds_of(it);
+    Datum local = DirectFunctionCall2(timestamptz_zone, PointerGetDatum(zone), TimestampTzGetDatum(at));
+    return (int32_t)((DatumGetTimestamp(local) - at) / USECS_PER_SEC);
 }
 
 /* Writes the moment in the format of the arguments. */
@@ -170,7 +184,7 @@ Datum call_text(PG_FUNCTION_ARGS)
     writing it;
     if (ask_format(fcinfo, &asked) != ANSWERED) tell_fault(&asked);
     if (TIMESTAMP_NOT_FINITE(at)) tell(OUT_OF_RANGE, &asked, "timestamp");
-    write_moment(&it, &asked, at, offset_of(bytes_of(PG_GETARG_TEXT_PP(2))));
+    write_moment(&it, &asked, at, offset_of(PG_GETARG_TEXT_PP(2), at));
     if (it.status) ereport(ERROR, (errcode(sqlstate_of(it.status)), errmsg_internal("%s", pelzaune_text(it.status))));
     PG_RETURN_TEXT_P(cstring_to_text_with_len((const char *)it.text, (int)it.length));
 }

@@ -1,8 +1,8 @@
 /* Shared code of the extensions of SQLite and PostgreSQL: formats by their names, descriptions, and the errors of
  * texts.
  *
- * A format is 'rfc3339', 'rfc2822', 'iso8601', or a description: one with a % is of strftime, and any other is in
- * brackets. */
+ * A format is 'rfc3339', 'rfc2822' or 'iso8601', in any case, or a description: one with a % is of strftime, and any
+ * other is in brackets. */
 #ifndef PELZAUNE_SQL_FORMATS_H
 #define PELZAUNE_SQL_FORMATS_H
 
@@ -22,16 +22,41 @@ typedef struct {
     size_t length;
 } bytes;
 
-static inline int is_word(bytes it, const char *word)
+static inline uint8_t lowered(uint8_t byte)
 {
-    return it.length == strlen(word) && memcmp(it.at, word, it.length) == 0;
+    return byte >= 'A' && byte <= 'Z' ? byte + 32 : byte;
+}
+
+/* Whether it is that word, in any case. */
+static inline int is_called(bytes it, const char *word)
+{
+    if (it.length != strlen(word)) return 0;
+    for (size_t k = 0; k < it.length; k++)
+        if (lowered(it.at[k]) != (uint8_t)word[k]) return 0;
+    return 1;
 }
 
 /* The number of the format with that name, or 0. */
 static inline uint32_t number_of_format(bytes name)
 {
-    return is_word(name, "rfc3339") ? PELZAUNE_RFC3339 : is_word(name, "rfc2822") ? PELZAUNE_RFC2822
-        : is_word(name, "iso8601") ? PELZAUNE_ISO8601 : 0;
+    static const struct { const char *name; uint32_t number; } formats[] = {
+        { "rfc3339", PELZAUNE_RFC3339 }, { "rfc2822", PELZAUNE_RFC2822 }, { "iso8601", PELZAUNE_ISO8601 } };
+    for (size_t k = 0; k < sizeof formats / sizeof *formats; k++)
+        if (is_called(name, formats[k].name)) return formats[k].number;
+    return 0;
+}
+
+/* The most bytes of a text, and of a format. A call for that many takes some milliseconds, so that a statement can be
+ * interrupted between two calls. */
+#define TEXT_MOST (1 << 20)
+
+/* The room for the output of `write_too_long`. */
+#define TOO_LONG_ROOM 96
+
+/* Writes the error of a longer text or format. */
+static inline void write_too_long(const char *argument, size_t length, char *out)
+{
+    snprintf(out, TOO_LONG_ROOM, "%s is too long to parse (%zu bytes, max %d bytes)", argument, length, TEXT_MOST);
 }
 
 static inline uint32_t syntax_of(bytes description)
@@ -60,6 +85,7 @@ static inline pelzaune_status read_form(bytes given, form *out, size_t *index)
     }
 PARSED_BY_FORM(moment, pelzaune_moment)
 PARSED_BY_FORM(instant, pelzaune_instant)
+PARSED_BY_FORM(nanoseconds, int64_t)
 PARSED_BY_FORM(local, pelzaune_local)
 PARSED_BY_FORM(date, pelzaune_date)
 PARSED_BY_FORM(time, pelzaune_time)

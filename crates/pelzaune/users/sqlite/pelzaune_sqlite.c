@@ -1,19 +1,31 @@
-/* An extension of SQLite with three functions, which return NULL for NULL:
+/* An extension of SQLite with functions that return NULL for NULL. Each takes a text and an optional format:
  *
- *     pelzaune_unix(text [, format])    the seconds from 1970-01-01T00:00:00Z to the text's instant, rounded down
- *     pelzaune_rfc3339(text, format)    the text's moment, written by RFC 3339
- *     pelzaune_place(text [, format])   where a text fails, as JSON: {"index":5,"expectation":"month","reason":".."}
+ *     pelzaune_unix       the seconds from 1970-01-01T00:00:00Z to the text's instant, rounded down
+ *     pelzaune_unix_ns    the nanoseconds, where 64 bits hold them: from 1677-09-21 to 2262-04-11
+ *     pelzaune_rfc3339    the text's moment, written by RFC 3339
+ *     pelzaune_date       the text's date, as 1985-04-12
+ *     pelzaune_time       the text's time, as 23:20:50.52, with the digits of a fraction that it needs
+ *     pelzaune_place      where a text fails, as JSON: {"index":5,"expectation":"month","reason":".."}
  *
- * The first two return NULL for a rejected text, and the last for a text with a value. Its index and expectation are
- * null where the text is parsed, and the calendar has no such date.
+ * The others return NULL for a rejected text and for a value that they can't write, such as a year after 9999, and
+ * pelzaune_place returns it for a text with a value. Its index and expectation are null where the text is parsed, and the
+ * calendar has no such date.
  *
- * A format is 'rfc3339', the default, 'rfc2822', 'iso8601', or a description: one with a % is of strftime, and any
- * other is in brackets. A malformed description is an error.
+ * A format is 'rfc3339', the default, 'rfc2822' or 'iso8601', in any case, or a description: one with a % is of strftime,
+ * and any other is in brackets. A malformed description is an error, and so is a text above 1 MiB.
  *
  *     .load ./pelzaune_sqlite */
 #include <sqlite3ext.h>
 SQLITE_EXTENSION_INIT1
 #include "formats.h"
+
+/* SQLite from 3.45 on has to know which functions return a subtype. */
+#ifndef SQLITE_RESULT_SUBTYPE
+#define SQLITE_RESULT_SUBTYPE 0
+#endif
+
+/* The subtype of JSON, by which SQLite's own functions don't take it as a string. */
+enum { JSON_SUBTYPE = 'J' };
 
 /* The text of a call, and its format. */
 typedef struct {
@@ -28,11 +40,25 @@ static bytes bytes_of(sqlite3_value *value)
     return it;
 }
 
+/* Gets the bytes of an argument. Returns 0 after reporting the error of one that is too long, or without memory. */
+static int take_bytes(sqlite3_context *context, const char *argument, sqlite3_value *value, bytes *out)
+{
+    char message[TOO_LONG_ROOM];
+    *out = bytes_of(value);
+    if (!out->at) sqlite3_result_error_nomem(context);
+    if (!out->at || out->length <= TEXT_MOST) return out->at != NULL;
+    write_too_long(argument, out->length, message);
+    sqlite3_result_error(context, message, -1);
+    return 0;
+}
+
 /* Parses a format. Returns 0 after reporting the error of a malformed one. */
 static int ask_format(sqlite3_context *context, sqlite3_value *value, form *format)
 {
     size_t index;
-    pelzaune_status status = read_form(bytes_of(value), format, &index);
+    bytes given;
+    if (!take_bytes(context, "format", value, &given)) return 0;
+    pelzaune_status status = read_form(given, format, &index);
     if (status) sqlite3_result_error(context, pelzaune_text(status), -1);
     return !status;
 }
@@ -58,8 +84,7 @@ static int ask(sqlite3_context *context, int count, sqlite3_value **values, ques
     for (int k = 0; k < count; k++)
         if (sqlite3_value_type(values[k]) == SQLITE_NULL) return 0;
     if (count > 1 && !take_format(context, values[1], &asked->format)) return 0;
-    asked->text = bytes_of(values[0]);
-    return asked->text.at != NULL;
+    return take_bytes(context, "text", values[0], &asked->text);
 }
 
 static void call_unix(sqlite3_context *context, int count, sqlite3_value **values)
@@ -68,6 +93,14 @@ static void call_unix(sqlite3_context *context, int count, sqlite3_value **value
     pelzaune_instant instant;
     if (!ask(context, count, values, &it)) return;
     if (!instant_by(&it.format, it.text, &instant)) sqlite3_result_int64(context, instant.seconds);
+}
+
+static void call_unix_ns(sqlite3_context *context, int count, sqlite3_value **values)
+{
+    question it;
+    int64_t nanoseconds;
+    if (!ask(context, count, values, &it)) return;
+    if (!nanoseconds_by(&it.format, it.text, &nanoseconds)) sqlite3_result_int64(context, nanoseconds);
 }
 
 static void call_rfc3339(sqlite3_context *context, int count, sqlite3_value **values)
@@ -80,6 +113,29 @@ static void call_rfc3339(sqlite3_context *context, int count, sqlite3_value **va
     pelzaune_status status = moment_by(&it.format, it.text, &moment);
     if (!status) status = pelzaune_format_moment(PELZAUNE_RFC3339, &moment, text, sizeof text, &length);
     if (!status) sqlite3_result_text(context, (const char *)text, (int)length, SQLITE_TRANSIENT);
+}
+
+/* The years are those of SQLite's own functions of dates. */
+static void call_date(sqlite3_context *context, int count, sqlite3_value **values)
+{
+    question it;
+    pelzaune_date date;
+    char text[24];
+    if (!ask(context, count, values, &it)) return;
+    if (date_by(&it.format, it.text, &date) || date.year < 0 || date.year > 9999) return;
+    snprintf(text, sizeof text, "%04d-%02d-%02d", (int)date.year, date.month, date.day);
+    sqlite3_result_text(context, text, -1, SQLITE_TRANSIENT);
+}
+
+static void call_time(sqlite3_context *context, int count, sqlite3_value **values)
+{
+    question it;
+    pelzaune_time time;
+    char text[32];
+    if (!ask(context, count, values, &it) || time_by(&it.format, it.text, &time)) return;
+    int length = snprintf(text, sizeof text, "%02d:%02d:%02d.%09lu", time.hour, time.minute, time.second, (unsigned long)time.nanosecond);
+    while (text[length - 1] == '0' && time.nanosecond) length--;
+    sqlite3_result_text(context, text, time.nanosecond ? length : 8, SQLITE_TRANSIENT);
 }
 
 /* Writes the bytes of JSON for a text of ASCII without control bytes, which fit. */
@@ -104,8 +160,12 @@ static void result_place(sqlite3_context *context, const refusal *why)
         write_json(wanted, as_json);
     }
     char *row = sqlite3_mprintf("{\"index\":%s,\"expectation\":%s,\"reason\":\"%s\"}", index, as_json, pelzaune_text(why->reason));
-    if (row) sqlite3_result_text(context, row, -1, sqlite3_free);
-    else sqlite3_result_error_nomem(context);
+    if (!row) {
+        sqlite3_result_error_nomem(context);
+        return;
+    }
+    sqlite3_result_text(context, row, -1, sqlite3_free);
+    sqlite3_result_subtype(context, JSON_SUBTYPE);
 }
 
 static void call_place(sqlite3_context *context, int count, sqlite3_value **values)
@@ -125,11 +185,12 @@ int sqlite3_pelzaunesqlite_init(sqlite3 *db, char **error, const sqlite3_api_rou
     const int flags = SQLITE_UTF8 | SQLITE_DETERMINISTIC | SQLITE_INNOCUOUS;
     SQLITE_EXTENSION_INIT2(routines);
     (void)error;
-    static const struct { const char *name; int least; void (*call)(sqlite3_context *, int, sqlite3_value **); } functions[] = {
-        { "pelzaune_unix", 1, call_unix }, { "pelzaune_rfc3339", 2, call_rfc3339 }, { "pelzaune_place", 1, call_place } };
+    static const struct { const char *name; int more; void (*call)(sqlite3_context *, int, sqlite3_value **); } functions[] = {
+        { "pelzaune_unix", 0, call_unix }, { "pelzaune_unix_ns", 0, call_unix_ns }, { "pelzaune_rfc3339", 0, call_rfc3339 },
+        { "pelzaune_date", 0, call_date }, { "pelzaune_time", 0, call_time }, { "pelzaune_place", SQLITE_RESULT_SUBTYPE, call_place } };
     int status = SQLITE_OK;
     for (size_t k = 0; !status && k < sizeof functions / sizeof *functions; k++)
-        for (int count = functions[k].least; !status && count <= 2; count++)
-            status = sqlite3_create_function(db, functions[k].name, count, flags, NULL, functions[k].call, NULL, NULL);
+        for (int count = 1; !status && count <= 2; count++)
+            status = sqlite3_create_function(db, functions[k].name, count, flags | functions[k].more, NULL, functions[k].call, NULL, NULL);
     return status;
 }

@@ -77,6 +77,21 @@ ANSWERS = [
     ("text('0001-01-01 00:00:00+00 BC')", "0000-01-01T00:00:00Z"),
     ("text('9999-12-31 23:59:59.999999+00')", "9999-12-31T23:59:59.999999Z"),
     ("text('1969-12-31 23:59:59.999999+00')", "1969-12-31T23:59:59.999999Z"),
+    # time zones of the server: Berlin was two hours ahead of UTC, Kathmandu 5:30 and later 5:45, and New York five behind
+    ("text('1985-04-12 23:20:50.52+00', 'rfc3339', 'Europe/Berlin')", "1985-04-13T01:20:50.52+02:00"),
+    ("text('1985-04-12 23:20:50.52+00', 'rfc2822', 'America/New_York')", "Fri, 12 Apr 1985 18:20:50 -0500"),
+    ("text('1985-04-12 23:20:50.52+00', 'rfc3339', 'Asia/Kathmandu')", "1985-04-13T04:50:50.52+05:30"),
+    ("text('1986-04-12 23:20:50.52+00', 'rfc3339', 'asia/kathmandu')", "1986-04-13T05:05:50.52+05:45"),
+    ("text('1985-04-12 23:20:50.52+00', '%d.%m.%Y %H:%M %z', 'Europe/Berlin')", "13.04.1985 01:20 +0200"),
+    ("text('1985-04-12 23:20:50.52+00', 'rfc3339', 'UTC')", "1985-04-12T23:20:50.52Z"),
+    # Berlin's local mean time was 53:28 ahead of UTC
+    ("text('1880-01-01 00:00:00+00', '[hour]:[minute]:[second] [offset_hour sign:mandatory]:[offset_minute]:[offset_second]', 'Europe/Berlin')",
+     "00:53:28 +00:53:28"),
+    # names of formats are in any case
+    ("date('1985-04-12T23:20:50.52Z', 'RFC3339')", "1985-04-12"),
+    ("timestamptz('Fri, 21 Nov 1997 09:55:06 -0600', 'Rfc2822')", "1997-11-21 15:55:06+00"),
+    ("text('1985-04-12 23:20:50.52+00', 'ISO8601')", "1985-04-12T23:20:50.520000000Z"),
+    ("place('2021-13-02T03:04:05Z', 'RFC3339')", '(5,month,"month is out of range")'),
     # NULLs
     ("timestamptz(NULL)", "NULL"), ("timestamp(NULL)", "NULL"), ("date(NULL)", "NULL"), ("time(NULL)", "NULL"),
     ("unix_ns(NULL)", "NULL"), ("place(NULL)", "NULL"), ("text(NULL)", "NULL"), ("try_date(NULL)", "NULL"),
@@ -102,12 +117,10 @@ ERRORS = [
     ("timestamptz('12:34', '[hour]:[minute]')", "22007", MISSING, 'The text is "12:34".'),
     (r"date(E'2021-\x1b', '[year]-[month]')", "22007", MONTH, r'Expected month at index 5 of "2021-\x1b".'),
     ("date(repeat('y', 101))", "22007", YEAR, f'Expected year at index 0 of "{"y" * 100}...".'),
-    ("date('2021', '[yaer]')", "22007", "no component has that name", 'At index 1 of the format "[yaer]".'),
-    ("date('2021', 'RFC3339')", "22007", LITERAL, "Expected 'R' at index 0 of \"2021\"."),
+    ("date('2021', 'RFC3339')", "22007", "the 'month' component could not be parsed", 'Expected month at index 4 of "2021".'),
+    ("date('2021', 'RFC-3339')", "22007", LITERAL, "Expected 'R' at index 0 of \"2021\"."),
     # in a description with a %, brackets are literal bytes
     ("time('23:59:59.5', '%H:%M:%S.[subsecond]')", "22007", LITERAL, "Expected '[' at index 9 of \"23:59:59.5\"."),
-    ("date('', repeat('x', 65))", "22007", "the description is too long", f'The format is "{"x" * 65}".'),
-    ("date('2021', '%Q')", "22007", "no component has that name", 'At index 1 of the format "%Q".'),
     # an hour of 24 is invalid
     ("timestamptz('2021-01-02T24:00:00Z')", "22008", "hour is out of range", 'Expected hour at index 11 of "2021-01-02T24:00:00Z".'),
     ("timestamp('2021-01-02T24:00:00', 'iso8601')", "22007", TRAILING, 'Expected hour at index 11 of "2021-01-02T24:00:00".'),
@@ -123,11 +136,29 @@ ERRORS = [
     ("date('-004713-11-23', 'iso8601')", "22008", "date out of range", ""),
     ("date('-999999-01-01', 'iso8601')", "22008", "date out of range", ""),
     ("unix_ns('x')", "22007", YEAR, 'Expected year at index 0 of "x".'),
+    # a mebibyte has 1048576 bytes
+    ("date(repeat('0', 1048577))", "54000", "text is too long to parse (1048577 bytes, max 1048576 bytes)", ""),
+    ("timestamptz(repeat('\u00e9', 524289), 'iso8601')", "54000", "text is too long to parse (1048578 bytes, max 1048576 bytes)", ""),
+]
+
+# Errors of formats, which functions with try_ raise too.
+ERRORS_OF_FORMATS = [
+    ("date('2021', '[yaer]')", "22007", "no component has that name", 'At index 1 of the format "[yaer]".'),
+    ("date('', repeat('x', 65))", "22007", "the description is too long", f'The format is "{"x" * 65}".'),
+    ("date('2021', '%Q')", "22007", "no component has that name", 'At index 1 of the format "%Q".'),
+    ("timestamptz('2021', 'rfc[3339')", "22007", "an opening bracket is not closed", 'At index 3 of the format "rfc[3339".'),
+    ("timestamp(repeat('x', 2000000), '[yaer]')", "22007", "no component has that name", 'At index 1 of the format "[yaer]".'),
+    ("time('x', '[yaer]')", "22007", "no component has that name", 'At index 1 of the format "[yaer]".'),
     ("unix_ns('x', '[')", "22007", "brackets have no component name", 'At index 0 of the format "[".'),
+    ("date('x', repeat(' ', 1048577))", "54000", "format is too long to parse (1048577 bytes, max 1048576 bytes)", ""),
 ]
 
 # These have no counterpart that returns NULL instead.
 ERRORS_ALONE = [
+    ("place(repeat('x', 1048577))", "54000", "text is too long to parse (1048577 bytes, max 1048576 bytes)", ""),
+    ("text('2021-01-02 00:00:00+00', 'rfc3339', 'Europe/Atlantis')", "22023", 'time zone "Europe/Atlantis" not recognized', ""),
+    ("text('1880-01-01 00:00:00+00', 'rfc3339', 'Europe/Berlin')", "22008", "the 'offset second' component has no text in that format", ""),
+    ("text('1880-01-01 00:00:00+00', '%H:%M %z', 'Europe/Berlin')", "22008", "the 'offset second' component has no text in that format", ""),
     ("place('x', '[yaer]')", "22007", "no component has that name", 'At index 1 of the format "[yaer]".'),
     ("text('infinity')", "22008", "timestamp out of range", ""),
     ("text('-infinity')", "22008", "timestamp out of range", ""),

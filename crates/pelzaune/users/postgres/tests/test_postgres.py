@@ -11,7 +11,7 @@ import sys
 import time
 import unittest
 
-from answers import ANSWERS, ERRORS, ERRORS_ALONE, TRAILING
+from answers import ANSWERS, ERRORS, ERRORS_ALONE, ERRORS_OF_FORMATS, TRAILING
 from server import QueryError, Server
 
 BUILT = sys.argv.pop(1)
@@ -77,7 +77,7 @@ class Postgres(unittest.TestCase):
                 self.assertEqual(got, wanted)
 
     def test_errors(self):
-        rows = ERRORS + ERRORS_ALONE
+        rows = ERRORS + ERRORS_OF_FORMATS + ERRORS_ALONE + [(f"try_{call}", *wanted) for call, *wanted in ERRORS_OF_FORMATS]
         for (call, *wanted), got in zip(rows, self.told(it[0] for it in rows), strict=True):
             with self.subTest(call):
                 self.assertEqual(got.split("|"), wanted)
@@ -99,7 +99,7 @@ class Postgres(unittest.TestCase):
 
     def test_changing_formats(self):
         """A format that changes from row to row, and within one expression of a loop."""
-        rows = """('2021-01-02', '%Y-%m-%d'), ('02.01.2021', '%d.%m.%Y'), ('2021-01-02T00:00:00Z', 'rfc3339'), ('?', '%Q'),
+        rows = """('2021-01-02', '%Y-%m-%d'), ('02.01.2021', '%d.%m.%Y'), ('2021-01-02T00:00:00Z', 'rfc3339'), ('?', '%Y'),
             ('?', '')"""
         self.assertEqual(self.server.ask(f"""
             SELECT count(*), count(DISTINCT d), count(d) FROM (SELECT pelzaune_try_date(a, f) AS d
@@ -174,7 +174,7 @@ class Postgres(unittest.TestCase):
         self.assertIn(rb'at index 0 of "\xe9\xff".', done.stderr)
 
     def test_huge(self):
-        size = 100_000_000
+        size = 1_000_000
         rows = [
             (f"timestamptz('2021-01-02T03:04:05.' || repeat('1', {size}) || 'Z')", "2021-01-02 03:04:05.111111+00"),
             (f"timestamptz('02 Jan 2021 03:04 GMT (' || repeat('x', {size}) || ')', 'rfc2822')", "2021-01-02 03:04:00+00"),
@@ -186,6 +186,11 @@ class Postgres(unittest.TestCase):
                 self.assertEqual(self.server.ask(f"SELECT pelzaune_{call}"), [wanted])
         with self.assertRaisesRegex(QueryError, 'Expected year at index 0 of "x{100}[.]{3}"[.]'):
             self.server.ask(f"SELECT pelzaune_date(repeat('x', {size}))")
+        # 1048576 bytes are parsed, and a text of more isn't even decompressed.
+        self.assertEqual(self.server.ask("""SELECT pelzaune_date('2021-01-02T03:04:05.' || repeat('1', 1048555) || 'Z');
+            CREATE TEMPORARY TABLE long AS SELECT repeat('x', 100000000) AS a; SELECT pelzaune_try_date(a) IS NULL FROM long"""), ["2021-01-02", "t"])
+        with self.assertRaisesRegex(QueryError, r"text is too long to parse \(100000000 bytes, max 1048576 bytes\)"):
+            self.server.ask("SELECT pelzaune_time(repeat('x', 100000000))")
 
     def test_compressed(self):
         """Texts that the server stores compressed, or out of line, as text and as format."""
@@ -213,6 +218,46 @@ class Postgres(unittest.TestCase):
         self.assertIn("canceling statement due to user request", errors)
         self.assertLess(time.monotonic() - cancelled, MOST_SECONDS)
         self.assertEqual(self.server.ask("SELECT pelzaune_date('2021-01-02T03:04:05Z')"), ["2021-01-02"])
+
+    def test_one_call_is_short(self):
+        """A statement is cancelled between two calls, of which each takes less than 50 milliseconds for the longest texts."""
+        texts = ["'2021-01-02T03:04:05.' || repeat('1', 1048555) || 'Z'", "'02 Jan 2021 03:04 GMT ' || repeat('(', 524276) || repeat(')', 524276)",
+                 "'02 Jan 2021 03:04 GMT (' || repeat('x', 1048552) || ')'", "repeat(' ', 1048576)"]
+        for text in texts:
+            for call in ("unix_ns", "place"):
+                for form in ("rfc3339", "rfc2822", "iso8601", "[year]-[month]-[day]T[hour]:[minute]:[second].[subsecond]Z"):
+                    is_short = self.server.ask(f"""CREATE FUNCTION pg_temp.shortest(a text) RETURNS interval LANGUAGE plpgsql AS $$
+                        DECLARE since timestamptz; shortest interval := '1 hour';
+                        BEGIN
+                            FOR k IN 1..5 LOOP
+                                since := clock_timestamp();
+                                PERFORM pelzaune_{'try_' if call == 'unix_ns' else ''}{call}(a, '{form}');
+                                shortest := least(shortest, clock_timestamp() - since);
+                            END LOOP;
+                            RETURN shortest;
+                        END $$;
+                        SELECT pg_temp.shortest({text}) < interval '50 milliseconds'""")
+                    self.assertEqual(is_short, ["t"], (text, call, form))
+
+    def test_timeout(self):
+        begun = time.monotonic()
+        with self.assertRaisesRegex(QueryError, "canceling statement due to statement timeout"):
+            self.server.ask("SET statement_timeout = 300; SELECT count(pelzaune_try_date(repeat('9', 1000000) || k)) FROM generate_series(1, 100000000) k")
+        self.assertLess(time.monotonic() - begun, MOST_SECONDS)
+
+    def test_upgrade(self):
+        """Functions of 1.0 and their dependents remain, and those of the newest version have comments."""
+        comments = """SELECT count(*), count(obj_description(p.oid, 'pg_proc')) FROM pg_proc p JOIN pg_depend d ON d.objid = p.oid
+            AND d.deptype = 'e' JOIN pg_extension e ON e.oid = d.refobjid WHERE e.extname = 'pelzaune'"""
+        version = "SELECT extversion FROM pg_extension WHERE extname = 'pelzaune'"
+        self.server.ask("CREATE DATABASE upgraded")
+        self.assertEqual(self.server.ask(f"""CREATE EXTENSION pelzaune VERSION '1.0'; {version}; {comments};
+            CREATE TABLE log(a text, at timestamptz GENERATED ALWAYS AS (pelzaune_timestamptz(a)) STORED);
+            CREATE VIEW texts AS SELECT pelzaune_text(at, 'rfc2822', '+01:00') AS a FROM log;
+            INSERT INTO log VALUES ('1985-04-12T23:20:50.52Z');
+            ALTER EXTENSION pelzaune UPDATE; {version}; {comments}; SELECT a FROM texts""", "upgraded"),
+            ["1.0", "12|0", "1.1", "12|12", "Sat, 13 Apr 1985 00:20:50 +0100"])
+        self.assertEqual(self.server.ask(f"{version}; {comments}"), ["1.1", "12|12"])
 
     def test_definitions(self):
         """Each function is immutable, strict and parallel safe, with a cost above the default."""

@@ -2,7 +2,7 @@
  *
  *     log_seconds [rfc3339|rfc2822|iso8601] [SEPARATOR]
  *
- * A field ends at the separator, by default a space. A line with a rejected field is printed unchanged, and the error
+ * The format is in any case. A field ends at the separator, by default a space. A line with a rejected field is printed unchanged, and the error
  * is printed to standard error. The exit status is 1 if a line was rejected, and 2 for wrong arguments. */
 #define _POSIX_C_SOURCE 200809L
 #include "pelzaune.h"
@@ -10,13 +10,14 @@
 #include <stdio.h>
 #include <stdlib.h>
 #include <string.h>
+#include <strings.h>
 #include <sys/types.h>
 
 static uint32_t format_named(const char *name)
 {
-    if (strcmp(name, "rfc3339") == 0) return PELZAUNE_RFC3339;
-    if (strcmp(name, "rfc2822") == 0) return PELZAUNE_RFC2822;
-    if (strcmp(name, "iso8601") == 0) return PELZAUNE_ISO8601;
+    if (strcasecmp(name, "rfc3339") == 0) return PELZAUNE_RFC3339;
+    if (strcasecmp(name, "rfc2822") == 0) return PELZAUNE_RFC2822;
+    if (strcasecmp(name, "iso8601") == 0) return PELZAUNE_ISO8601;
     return 0;
 }
 

@@ -11,7 +11,7 @@ version=$1 target=$(realpath -m "$2") python=${PYTHON:-python3}
 at=$(mktemp -d)
 trap 'rm -rf "$at"' EXIT
 all=$at/pelzaune-$version
-mkdir -p "$all/c/include" "$all/c/lib/pkgconfig" "$all/rust/lib" "$all/python"
+mkdir -p "$all/c/include" "$all/c/lib" "$all/rust/lib" "$all/python"
 cp ../../LICENSE-MIT ../../LICENSE-Apache ../../NOTICE users/dist/README.md "$all"
 
 cp users/dist/c.md "$all/c/README.md"
@@ -20,7 +20,8 @@ cp include/pelzaune.h "$all/c/include"
 cp out/libpelzaune.a "$all/c/lib"
 cp out/c/libpelzaune.so "$all/c/lib/libpelzaune.so.1"
 ln -s libpelzaune.so.1 "$all/c/lib/libpelzaune.so"
-sed -e 's|@PREFIX@|/usr/local|' -e 's|@LIBDIR@|${prefix}/lib|' -e "s|@VERSION@|$version|" pelzaune.pc.in > "$all/c/lib/pkgconfig/pelzaune.pc"
+users/c/packaging/configs.sh "$version" /c /c/lib "$all/c/lib"
+cp out/c/pelzaune.3 "$all/c"
 
 cp -r users/rust/. "$all/rust"
 cp users/dist/rust.md "$all/rust/README.md"

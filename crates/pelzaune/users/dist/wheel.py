@@ -3,16 +3,22 @@
     wheel.py FOLDER VERSION TARGET PAGE LICENCE..
 
 FOLDER has the package `pelzaune` with its extension module. The wheel is written into TARGET, with the page as its
-description and with the licences. For Linux its name has the oldest glibc with the symbols of the module, which is linked
-to nothing else (PEP 600).
+description, the licences, and the metadata of users/python/pyproject.toml.
+
+Its platform is that of the Python that packs it, such as linux_x86_64. A tag of manylinux would promise any processor of
+that name (PEP 600), and the library requires x86-64-v2, for which there is no tag: the module tests it when imported.
 """
 import base64
 import hashlib
 import os
-import re
 import sys
 import sysconfig
 import zipfile
+
+try:
+    import tomllib
+except ImportError:  # before Python 3.11
+    from setuptools.extern import tomli as tomllib
 
 folder, version, target, page, *licences = sys.argv[1:]
 python = f"cp{sys.version_info.major}{sys.version_info.minor}"
@@ -24,9 +30,6 @@ for name in sorted(os.listdir(f"{folder}/pelzaune")):
             files[f"pelzaune/{name}"] = file.read()
 
 platform = sysconfig.get_platform().replace("-", "_").replace(".", "_")
-if platform.startswith("linux_"):
-    asked = {int(it) for name in files if name.endswith(".so") for it in re.findall(rb"GLIBC_2\.(\d+)\0", files[name])}
-    platform = platform.replace("linux", f"manylinux_2_{max(asked | {17})}")
 tag = f"{python}-{python}-{platform}"
 
 for path in licences:
@@ -34,12 +37,16 @@ for path in licences:
         files[f"{info}/{os.path.basename(path)}"] = file.read()
 with open(page, encoding="utf-8") as file:
     description = file.read()
-files[f"{info}/METADATA"] = (
-    f"Metadata-Version: 2.1\nName: pelzaune\nVersion: {version}\n"
-    "Summary: Parses date-time texts by RFC 3339, RFC 2822 and ISO 8601\n"
-    "License: MIT OR Apache-2.0\nRequires-Python: >=3.10\n"
-    "Provides-Extra: pandas\nRequires-Dist: pandas; extra == \"pandas\"\n"
-    f"Description-Content-Type: text/markdown\n\n{description}").encode()
+with open(os.path.join(os.path.dirname(os.path.abspath(__file__)), "../python/pyproject.toml"), "rb") as file:
+    project = tomllib.load(file)["project"]
+rows = [("Metadata-Version", "2.1"), ("Name", project["name"]), ("Version", version), ("Summary", project["description"]),
+        ("License", project["license"]["text"]), ("Requires-Python", project["requires-python"]),
+        ("Author", ", ".join(it["name"] for it in project["authors"])), ("Keywords", ",".join(project["keywords"]))]
+rows += [("Classifier", it) for it in project["classifiers"]]
+for extra, wanted in project["optional-dependencies"].items():
+    rows += [("Provides-Extra", extra), *(("Requires-Dist", f'{it}; extra == "{extra}"') for it in wanted)]
+rows.append(("Description-Content-Type", "text/markdown"))
+files[f"{info}/METADATA"] = ("".join(f"{name}: {value}\n" for name, value in rows) + f"\n{description}").encode()
 files[f"{info}/WHEEL"] = f"Wheel-Version: 1.0\nGenerator: pelzaune\nRoot-Is-Purelib: false\nTag: {tag}\n".encode()
 record = ""
 for name, data in files.items():

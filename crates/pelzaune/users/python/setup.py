@@ -13,7 +13,19 @@ if os.path.exists(os.path.join(HERE, "lib")):
 if not os.path.exists(ARCHIVE):
     raise SystemExit(f"no {ARCHIVE}: run make in the folder of the library, or set PELZAUNE_HOME")
 
+
+def page():
+    """The page of a source archive, which the repository keeps elsewhere."""
+    path = os.path.join(HERE, "README.md")
+    if not os.path.exists(path):
+        return ""
+    with open(path, encoding="utf-8") as file:
+        return file.read()
+
+
 setup(
+    long_description=page(),
+    long_description_content_type="text/markdown",
     ext_modules=[
         Extension(
             "pelzaune._pelzaune",

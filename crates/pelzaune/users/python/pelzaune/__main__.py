@@ -3,31 +3,51 @@
     python -m pelzaune [--format FORMAT] [TEXT..]
 
 The format is rfc3339, rfc2822, iso8601 or a description. Without a text it reads lines of standard input. The exit status
-is 1 if a text was rejected.
+is 0 if all texts were parsed, 1 if one was rejected, and 2 for wrong arguments.
 """
 import argparse
+import os
 import sys
 
 import pelzaune
 
-FORMATS = {"rfc3339": pelzaune.RFC3339, "rfc2822": pelzaune.RFC2822, "iso8601": pelzaune.ISO8601}
+
+def options():
+    parser = argparse.ArgumentParser(prog="python -m pelzaune", description="Prints each text as a datetime and as nanoseconds since 1970.")
+    parser.add_argument("--version", action="version", version=f"pelzaune {pelzaune.__version__}")
+    parser.add_argument("--format", default="rfc3339", help="rfc3339, rfc2822, iso8601 or a description (default: %(default)s)")
+    parser.add_argument("texts", nargs="*", metavar="TEXT", help="without one, lines of standard input")
+    return parser
+
+
+def check(parser, form):
+    """Exits with status 2 if the format is a malformed description."""
+    try:
+        pelzaune.column(b"", form)
+    except pelzaune.DescriptionError as error:
+        at = "" if error.index is None else f", at index {error.index}"
+        parser.error(f"argument --format: {error}{at}")
+
+
+def line_of(text, form):
+    nanoseconds = pelzaune.unix_ns(text, form)
+    return f"{pelzaune.parse(text, form).isoformat()} {nanoseconds}"
 
 
 def main():
-    parser = argparse.ArgumentParser(prog="python -m pelzaune", description="Prints each text as a datetime and as nanoseconds since 1970.")
-    parser.add_argument("--format", default="rfc3339", help="rfc3339, rfc2822, iso8601 or a description")
-    parser.add_argument("texts", nargs="*", metavar="TEXT", help="without one, lines of standard input")
+    parser = options()
     given = parser.parse_args()
-    form = FORMATS.get(given.format, given.format)
-    refused = False
-    for text in given.texts or (line.rstrip("\n") for line in sys.stdin):
+    form = os.fsencode(given.format)
+    check(parser, form)
+    texts = map(os.fsencode, given.texts) if given.texts else (it.removesuffix(b"\n").removesuffix(b"\r") for it in sys.stdin.buffer)
+    status = 0
+    for text in texts:
         try:
-            nanoseconds = pelzaune.unix_ns(text, form)
-            print(pelzaune.parse(text, form).isoformat(), nanoseconds)
+            print(line_of(text, form))
         except pelzaune.ParseError as error:
-            print(f"{text}: {error}", file=sys.stderr)
-            refused = True
-    return 1 if refused else 0
+            print(f"{text.decode(errors='backslashreplace')}: {error}", file=sys.stderr)
+            status = 1
+    return status
 
 
 if __name__ == "__main__":

@@ -3,9 +3,9 @@
 >>> import pelzaune
 >>> pelzaune.parse("1985-04-12T23:20:50.52Z")
 datetime.datetime(1985, 4, 12, 23, 20, 50, 520000, tzinfo=datetime.timezone.utc)
->>> pelzaune.unix_ns("Fri, 02 Jan 1970 00:00:00 GMT", pelzaune.RFC2822)
+>>> pelzaune.unix_ns("Fri, 02 Jan 1970 00:00:00 GMT", pelzaune.Format.RFC2822)
 86400000000000
->>> pelzaune.parse_date("2020-W53-6", pelzaune.ISO8601)
+>>> pelzaune.parse_date("2020-W53-6", "iso8601")
 datetime.date(2021, 1, 2)
 >>> try:
 ...     pelzaune.parse("1985-04-31T00:00:00Z")
@@ -13,7 +13,8 @@ datetime.date(2021, 1, 2)
 ...     print(error, "|", error.component)
 day is out of range for the other components | day
 
-A format may be a description too, of strftime if it contains a `%`, and else in brackets:
+A format is a member of `Format` (which are also attributes of the module), its name in any case, or a description: one of
+strftime if it contains a `%`, and otherwise one in brackets:
 
 >>> pelzaune.parse("02/Jan/2021:03:04:05 +0000", "%d/%b/%Y:%H:%M:%S %z")
 datetime.datetime(2021, 1, 2, 3, 4, 5, tzinfo=datetime.timezone.utc)
@@ -37,7 +38,8 @@ The lines of a file become a column of numbers, with `NO_COUNT` for a rejected l
 array('q', [86400000000000, 1, -9223372036854775808])
 
 So do the texts of a list, of any other iterable, of an array of numpy or of a Series of pandas (for a Series as the result
-see `pelzaune.pandas`). A rejected text raises an error, or, with errors="none", has its index in a second array:
+see `pelzaune.pandas`). A rejected text raises an error, or, with errors="none" or "coerce", has its index in a second
+array:
 
 >>> pelzaune.parse_many(["1970-01-02T00:00:00Z", "1970-13-01T00:00:00Z"])
 Traceback (most recent call last):
@@ -46,10 +48,17 @@ pelzaune.ParseError: text 1: month is out of range
 >>> pelzaune.parse_many(["1970-01-02T00:00:00Z", "1970-13-01T00:00:00Z"], errors="none")
 (array('q', [86400000000000, -9223372036854775808]), array('q', [1]))
 
-A datetime is written too:
+Lines and texts without an offset may have one from an argument: a tzinfo, an offset, or the name of a time zone.
 
->>> pelzaune.format_datetime(pelzaune.parse("1985-04-12T23:20:50.52-08:30"), pelzaune.RFC2822)
+>>> pelzaune.parse_many(["1970-01-02T00:00:00"], "iso8601", offset="+01:00")
+array('q', [82800000000000])
+
+A datetime is formatted too, also in another time zone:
+
+>>> pelzaune.format_datetime(pelzaune.parse("1985-04-12T23:20:50.52-08:30"), "rfc2822")
 'Fri, 12 Apr 1985 23:20:50 -0830'
+>>> pelzaune.format_datetime(pelzaune.parse("1985-04-12T23:20:50.52-08:30"), zone="Europe/Berlin")
+'1985-04-13T09:50:50.52+02:00'
 
 A text is a `str` or `bytes`, and is parsed as a whole. A call never returns a value for a text that its format rejects.
 """
@@ -60,6 +69,7 @@ from pelzaune._pelzaune import (
     RFC3339,
     Description,
     DescriptionError,
+    Format,
     FormatError,
     ParseError,
     column,
@@ -74,7 +84,7 @@ from pelzaune._pelzaune import (
 )
 
 __all__ = [
-    "ISO8601", "NO_COUNT", "RFC2822", "RFC3339", "Description", "DescriptionError", "FormatError", "ParseError", "column", "column_into",
-    "format_datetime", "parse", "parse_date", "parse_many", "parse_parts", "parse_time", "unix_ns",
+    "ISO8601", "NO_COUNT", "RFC2822", "RFC3339", "Description", "DescriptionError", "Format", "FormatError", "ParseError", "column",
+    "column_into", "format_datetime", "parse", "parse_date", "parse_many", "parse_parts", "parse_time", "unix_ns",
 ]
 __version__ = "1.0.0"

@@ -1,10 +1,16 @@
 import array
 import datetime
+import enum
 from typing import Any, Final, Iterable, Literal, Optional, Tuple, Union, final, overload
 
-RFC3339: Final[int]
-RFC2822: Final[int]
-ISO8601: Final[int]
+class Format(enum.IntEnum):
+    RFC3339: int
+    RFC2822: int
+    ISO8601: int
+
+RFC3339: Final = Format.RFC3339
+RFC2822: Final = Format.RFC2822
+ISO8601: Final = Format.ISO8601
 NO_COUNT: Final[int]
 __version__: str
 
@@ -35,19 +41,23 @@ def parse_parts(
 ) -> Tuple[Optional[datetime.date], Optional[datetime.time], Optional[datetime.timezone]]: ...
 def unix_ns(text: _Text, format: _Format = ...) -> int: ...
 
+_Zone = Union[str, datetime.tzinfo]
+
 # `texts` are those of a list, of any other iterable, of an array of numpy or of a Series of pandas.
 @overload
-def parse_many(texts: Iterable[_Text], format: _Format = ..., errors: Literal["raise"] = ...) -> "array.array[int]": ...
+def parse_many(
+    texts: Iterable[_Text], format: _Format = ..., errors: Literal["raise"] = ..., offset: Optional[_Zone] = ...
+) -> "array.array[int]": ...
 @overload
 def parse_many(
-    texts: Iterable[_Text], format: _Format = ..., *, errors: Literal["none"]
+    texts: Iterable[_Text], format: _Format = ..., *, errors: Literal["none", "coerce"], offset: Optional[_Zone] = ...
 ) -> Tuple["array.array[int]", "array.array[int]"]: ...
 @overload
 def parse_many(
-    texts: Iterable[_Text], format: _Format, errors: Literal["none"]
+    texts: Iterable[_Text], format: _Format, errors: Literal["none", "coerce"], offset: Optional[_Zone] = ...
 ) -> Tuple["array.array[int]", "array.array[int]"]: ...
 
 # `text` and `out` are any contiguous buffers, of bytes and of signed numbers of 64 bits.
-def column(text: Any, format: _Format = ...) -> "array.array[int]": ...
-def column_into(text: Any, out: Any, format: _Format = ...) -> Tuple[int, int]: ...
-def format_datetime(value: datetime.datetime, format: int = ...) -> str: ...
+def column(text: Any, format: _Format = ..., offset: Optional[_Zone] = ...) -> "array.array[int]": ...
+def column_into(text: Any, out: Any, format: _Format = ..., offset: Optional[_Zone] = ...) -> Tuple[int, int]: ...
+def format_datetime(value: datetime.datetime, format: Union[int, str, bytes] = ..., zone: Optional[_Zone] = ...) -> str: ...

@@ -1,7 +1,7 @@
 /* The extension module: texts to Python's dates, times and numbers, and back. */
-#include "asking.h"
 #include "columns.h"
 #include "describing.h"
+#include "formatting.h"
 #include "many.h"
 
 /* Python has the years 1 to 9999, and raises an error for any other. */
@@ -149,48 +149,6 @@ static PyObject *unix_ns(GIVEN)
     return sum;
 }
 
-/* The offset of a datetime in seconds ahead of UTC. */
-static int offset_of(PyObject *value, int32_t *offset)
-{
-    PyObject *delta = PyObject_CallMethod(value, "utcoffset", NULL);
-    int known = delta && PyDelta_Check(delta);
-    if (delta && !known) raise(format_error, "a datetime without a zone has no text", PyUnicode_FromString("offset hour"));
-    if (known && PyDateTime_DELTA_GET_MICROSECONDS(delta)) {
-        raise(format_error, "an offset of a part of a second has no text", PyUnicode_FromString("offset second"));
-        known = 0;
-    }
-    if (known) *offset = PyDateTime_DELTA_GET_DAYS(delta) * 86400 + PyDateTime_DELTA_GET_SECONDS(delta);
-    Py_XDECREF(delta);
-    return known;
-}
-
-static PyObject *format_datetime(GIVEN)
-{
-    static const char *const names[] = { "value", "format" };
-    PyObject *values[2];
-    question asked;
-    uint8_t text[PELZAUNE_MOMENT_TEXT];
-    size_t length;
-    int32_t offset;
-    (void)self;
-    if (!arguments("format_datetime", names, 1, 2, given, count, named, values) || !format_of(values[1], &asked)) return NULL;
-    if (asked.held) {
-        PyErr_SetString(PyExc_TypeError, "format must be RFC3339, RFC2822 or ISO8601: no text is written by a description");
-        return NULL;
-    }
-    if (!PyDateTime_Check(values[0])) {
-        PyErr_Format(PyExc_TypeError, "value must be datetime, not %s", Py_TYPE(values[0])->tp_name);
-        return NULL;
-    }
-    if (!offset_of(values[0], &offset)) return NULL;
-    pelzaune_moment m = { PyDateTime_GET_YEAR(values[0]), 1000 * (uint32_t)PyDateTime_DATE_GET_MICROSECOND(values[0]), offset,
-        (uint8_t)PyDateTime_GET_MONTH(values[0]), (uint8_t)PyDateTime_GET_DAY(values[0]), (uint8_t)PyDateTime_DATE_GET_HOUR(values[0]),
-        (uint8_t)PyDateTime_DATE_GET_MINUTE(values[0]), (uint8_t)PyDateTime_DATE_GET_SECOND(values[0]) };
-    pelzaune_status status = pelzaune_format_moment(asked.number, &m, text, sizeof text, &length);
-    if (status != PELZAUNE_OK) return raise(format_error, pelzaune_text(status), name_of(PELZAUNE_COMPONENT(status)));
-    return PyUnicode_FromStringAndSize((const char *)text, (Py_ssize_t)length);
-}
-
 #define CALL(name, signature, doc) { #name, (PyCFunction)(void (*)(void))name, METH_FASTCALL | METH_KEYWORDS, #name signature "\n--\n\n" doc }
 #define OF_TEXT "(text, format=RFC3339)"
 
@@ -200,23 +158,28 @@ static PyMethodDef methods[] = {
         "a leap second is the last microsecond before it. Raises ParseError, also outside the years 1 to 9999."),
     CALL(parse_date, OF_TEXT, "The date of a whole text. Raises ParseError, also outside the years 1 to 9999."),
     CALL(parse_time, OF_TEXT, "The time of a whole text, without a zone. Digits after the microsecond are dropped. Raises ParseError."),
-    CALL(parse_parts, OF_TEXT, "The date, the time and the zone of a whole text, each None where the text says too little of it.\n\n"
+    CALL(parse_parts, OF_TEXT, "The date, the time and the zone of a whole text, each None if the text has too little of it.\n\n"
         "Raises ParseError."),
     CALL(unix_ns, OF_TEXT, "The nanoseconds from 1970-01-01T00:00:00Z to the instant of a whole text, which needs an offset.\n\n"
         "They are exact, and of any size. Raises ParseError."),
-    CALL(column, OF_TEXT, "The nanoseconds of each line of a text, as array('q'). A line that is refused has NO_COUNT.\n\n"
-        "The text is str, or any contiguous buffer. A line ends with LF, which the last may lack. Other threads run\n"
-        "meanwhile. Raises ParseError where the format is none."),
-    CALL(column_into, "(text, out, format=RFC3339)", "Puts the nanoseconds of each line of a text into a writable buffer of numbers of 64 bits.\n\n"
-        "As many lines are parsed as the buffer has numbers. Answers how many lines the text has, and how many of the\n"
-        "parsed ones are refused and have NO_COUNT. Raises ParseError where the format is none."),
-    CALL(parse_many, "(texts, format=RFC3339, errors='raise')", "The nanoseconds of each text of an iterable, as array('q').\n\n"
+    CALL(column, "(text, format=RFC3339, offset=None)", "The nanoseconds of each line of a text, as array('q'). A rejected line has NO_COUNT.\n\n"
+        "The text is a str, or any contiguous buffer. A line ends with LF or CR LF, which are optional after the last one. A\n"
+        "line without an offset has that of the argument: a tzinfo, an offset such as '+05:30', or the name of a time zone.\n"
+        "Other threads run meanwhile, and signals are handled. Raises ValueError for a bad format."),
+    CALL(column_into, "(text, out, format=RFC3339, offset=None)", "Stores the nanoseconds of each line of a text in a buffer.\n\n"
+        "The buffer is writable, has signed numbers of 64 bits, and doesn't overlap the text. As many lines are parsed as it\n"
+        "has numbers. Returns how many lines the text has, and how many of the parsed ones are rejected and have NO_COUNT.\n"
+        "Raises ValueError for a bad format, and for a buffer that overlaps the text."),
+    CALL(parse_many, "(texts, format=RFC3339, errors='raise', offset=None)", "The nanoseconds of each text of an iterable, as array('q').\n\n"
         "The texts are str or bytes, in a list or any other iterable, an array of numpy (of U, S or object) or a Series of\n"
-        "pandas. Other threads run while they are parsed. A text that is refused, or whose nanoseconds 64 bits don't hold,\n"
-        "raises ParseError, whose `text_index` is the index of the text. With errors='none' it has NO_COUNT, and the\n"
-        "answer is a pair: the array, and another with the indices of such texts. What is no text raises TypeError."),
-    CALL(_parse_present, "(texts, format, errors, missing)", "The same where some objects stand for a missing text, for pelzaune.pandas."),
-    CALL(format_datetime, "(value, format=RFC3339)", "The text of a datetime with a zone. Raises FormatError where it has none in that format."),
+        "pandas. Other threads run while they are parsed. A text without an offset has that of the argument, as in column.\n"
+        "A rejected text, and one whose nanoseconds don't fit 64 bits, raises ParseError with its index as `text_index`. With\n"
+        "errors='none' or 'coerce' it has NO_COUNT, and the result is a pair: the array, and another with the indices of\n"
+        "such texts. An object that isn't a text raises TypeError."),
+    CALL(_parse_present, "(texts, format, errors, offset, missing)", "As parse_many, if some objects stand for a missing text: for pelzaune.pandas."),
+    CALL(format_datetime, "(value, format=RFC3339, zone=None)", "The text of a datetime that has a zone.\n\n"
+        "It is in another zone, if there is an argument: a tzinfo, an offset such as '+05:30', or the name of a time zone. A\n"
+        "Timestamp of pandas keeps its nanoseconds. Raises FormatError if the datetime has no text in that format."),
     { NULL, NULL, 0, NULL },
 };
 
@@ -236,28 +199,44 @@ static PyObject *add_error(PyObject *made, const char *name, PyObject *base, con
 static int add_names(PyObject *made)
 {
     parse_error = add_error(made, "ParseError", PyExc_ValueError,
-        "Why a text has no value. `component` is the name of the component that is wrong, and `index` that of the byte that\n"
-        "can't be read; or None. A part that the calendar refuses has no index. `text_index` is the index of a text of many.",
+        "The error of a rejected text. `component` is the name of the component that it is about, and `index` that of the byte\n"
+        "at which the text fails; or None. A date that the calendar hasn't has no index. `text_index` is the index of a text\n"
+        "of many.",
         Py_BuildValue("{s:O,s:O,s:O}", "component", Py_None, "index", Py_None, "text_index", Py_None));
     description_error = !parse_error ? NULL : add_error(made, "DescriptionError", parse_error,
-        "Why a text is no description. `index` is that of its first fault, or None where it is too long.",
+        "The error of a malformed description. `index` is that of its first fault, or None if it is too long.",
         NULL);
     format_error = add_error(made, "FormatError", PyExc_ValueError,
-        "Why a datetime has no text. `component` is the name of the component that the format has no text for, or None.",
+        "The error of a datetime that a format can't write. `component` is the name of the component that it can't, or None.",
         Py_BuildValue("{s:O}", "component", Py_None));
     if (!parse_error || !description_error || !format_error || add_description(made)) return -1;
     PyObject *arrays = PyImport_ImportModule("array");
-    array_of_q = arrays ? PyObject_CallMethod(arrays, "array", "s[i]", "q", 0) : NULL;
+    array_of_q = arrays ? PyObject_CallMethod(arrays, "array", "s", "q") : NULL;
     PyObject *least = PyLong_FromLongLong(PELZAUNE_NO_COUNT);
-    int failed = !array_of_q || !least || PyModule_AddObjectRef(made, "NO_COUNT", least);
+    frombytes = PyUnicode_InternFromString("frombytes");
+    int failed = !array_of_q || !frombytes || !least || PyModule_AddObjectRef(made, "NO_COUNT", least);
     Py_XDECREF(arrays);
     Py_XDECREF(least);
-    return failed || PyModule_AddIntConstant(made, "RFC3339", PELZAUNE_RFC3339) || PyModule_AddIntConstant(made, "RFC2822", PELZAUNE_RFC2822)
-        || PyModule_AddIntConstant(made, "ISO8601", PELZAUNE_ISO8601);
+    return failed || add_formats(made);
+}
+
+/* Whether the processor has the instructions of the library, which are those of x86-64-v2. */
+static int has_instructions(void)
+{
+#ifdef __x86_64__
+    __builtin_cpu_init();
+    return __builtin_cpu_supports("ssse3") && __builtin_cpu_supports("sse4.2") && __builtin_cpu_supports("popcnt");
+#else
+    return 1;
+#endif
 }
 
 PyMODINIT_FUNC PyInit__pelzaune(void)
 {
+    if (!has_instructions()) {
+        PyErr_SetString(PyExc_ImportError, "pelzaune requires a processor with x86-64-v2, as those from 2009 on have");
+        return NULL;
+    }
     PyDateTime_IMPORT;
     if (!PyDateTimeAPI) return NULL;
     if (pelzaune_version() >> 8 != PELZAUNE_VERSION >> 8) {

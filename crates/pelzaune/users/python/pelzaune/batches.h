@@ -21,6 +21,8 @@ typedef struct {
     size_t length, room;
     size_t count, missing;         /* the number of texts, and of missing ones */
     size_t places[MOST_TEXTS + 1]; /* where each text starts, and the end: equal to the next where the text is missing */
+    int64_t entries[MOST_TEXTS];   /* the number of each text */
+    int64_t refused[MOST_TEXTS];   /* the indices of rejected texts */
 } batch;
 
 /* The result of taking a text. */

@@ -2,95 +2,87 @@
 #ifndef COLUMNS_H
 #define COLUMNS_H
 
-#include "asking.h"
+#include "blocks.h"
+#include "numbers.h"
 
-static PyObject *array_of_q; /* array('q', [0]) */
+/* The most entries that are collected before they are appended to the result: those of some milliseconds. */
+enum { MOST_ENTRIES = 1 << 19 };
 
-/* The lines of a column: a buffer that is exported to us, or bytes that a call may read without the interpreter's lock. */
+/* The entries of lines: a buffer with room for some, of which the first are filled. */
 typedef struct {
-    Py_buffer held;
-    int is_held;
-    uint8_t *copy; /* of a buffer that other threads may change meanwhile */
-    question asked;
-} lines;
+    int64_t *start;
+    size_t filled, room;
+    int is_fixed;   /* whether lines without room are only counted */
+    size_t counted; /* the lines of all blocks */
+    size_t refused;
+    size_t wanted;  /* the lines of a block that found no room, or 0 */
+} entries_of_lines;
 
-/* Releases the lines. */
-static void release(lines *these)
+/* Parses blocks until they end, there is no room for one, or the time is up. Needs no lock, except for a zone. Returns 0 if
+ * there is no memory. */
+static int parse_some(lines *these, entries_of_lines *out)
 {
-    if (these->is_held) PyBuffer_Release(&these->held);
-    PyMem_RawFree(these->copy);
-}
-
-/* Gets the lines of a `str` or of a contiguous buffer, and the format. */
-static int take_lines(PyObject *text, PyObject *format, lines *these)
-{
-    these->is_held = 0;
-    these->copy = NULL;
-    if (!format_of(format, &these->asked)) return 0;
-    if (PyUnicode_Check(text) || PyBytes_Check(text)) {
-        these->asked.bytes = bytes_of(text, "text", &these->asked.length);
-        return these->asked.bytes != NULL;
-    }
-    if (PyObject_GetBuffer(text, &these->held, PyBUF_SIMPLE)) return 0;
-    these->is_held = 1;
-    these->asked.bytes = these->held.buf;
-    these->asked.length = (size_t)these->held.len;
-    if (these->held.readonly) return 1;
-    these->copy = PyMem_RawMalloc(these->asked.length + 1);
-    if (!these->copy) {
-        PyErr_NoMemory();
-        release(these);
-        return 0;
-    }
-    memcpy(these->copy, these->held.buf, these->asked.length);
-    these->asked.bytes = these->copy;
+    int64_t start = nanoseconds_now();
+    size_t room, count;
+    do {
+        size_t refused;
+        if (!out->wanted && !next_block(these)) return 0;
+        room = out->room - out->filled;
+        count = parse_block(&these->asked, out->start + out->filled, room, &refused);
+        out->wanted = !out->is_fixed && count > room ? count : 0;
+        if (out->wanted) return 1;
+        out->counted += count;
+        out->refused += refused;
+        out->filled += count < room ? count : room;
+        room -= count < room ? count : room;
+    } while (these->left && (out->is_fixed || room > 2 * count) && nanoseconds_now() - start < MOST_NANOSECONDS && !has_raised(&these->asked));
     return 1;
 }
 
-/* Parses as many lines as there are entries, and returns how many lines there are, without the interpreter's lock. */
-static size_t read_lines(const question *asked, int64_t *entries, size_t capacity, size_t *refused)
+/* Does so without the interpreter's lock, and then handles signals. Returns 0 with an error. */
+static int parse_unlocked(lines *these, entries_of_lines *out)
 {
-    size_t all;
-    Py_BEGIN_ALLOW_THREADS
-    all = asked->held
-        ? pelzaune_described_column(asked->held, asked->bytes, asked->length, entries, capacity, refused)
-        : pelzaune_column(asked->number, asked->bytes, asked->length, entries, capacity, refused);
-    Py_END_ALLOW_THREADS
-    return all;
+    PyThreadState *others = these->asked.offset.zone ? NULL : PyEval_SaveThread();
+    int has_memory = parse_some(these, out);
+    if (others) PyEval_RestoreThread(others);
+    if (PyErr_Occurred() || PyErr_CheckSignals()) return 0;
+    if (!has_memory) PyErr_NoMemory();
+    return has_memory;
 }
 
-/* An unknown format is raised before any line is parsed. */
-static int is_format(const question *asked)
+/* Makes room for entries. It is a little more than none where the text is short. */
+static int make_room(entries_of_lines *out, size_t room)
 {
-    if (asked->held || (asked->number >= PELZAUNE_RFC3339 && asked->number <= PELZAUNE_ISO8601)) return 1;
-    raise(parse_error, pelzaune_text(PELZAUNE_UNKNOWN_FORMAT), Py_NewRef(Py_None));
-    return 0;
+    PyMem_RawFree(out->start);
+    out->start = PyMem_RawMalloc(room * sizeof *out->start + 1);
+    out->room = out->start ? room : 0;
+    if (!out->start) PyErr_NoMemory();
+    return out->start != NULL;
 }
 
-/* An array('q') of this many numbers, whose buffer is exported. */
-static PyObject *make_array(size_t count, Py_buffer *entries)
+/* Moves the entries to the end of the result, and makes room for a block that found none. */
+static int flush(entries_of_lines *out, PyObject *result)
 {
-    PyObject *made = PySequence_Repeat(array_of_q, (Py_ssize_t)count);
-    if (made && PyObject_GetBuffer(made, entries, PyBUF_WRITABLE)) Py_CLEAR(made);
-    return made;
+    if (!append(result, out->start, out->filled)) return 0;
+    out->filled = 0;
+    return out->wanted <= out->room || make_room(out, out->wanted);
 }
 
 static PyObject *column(GIVEN)
 {
-    static const char *const names[] = { "text", "format" };
-    PyObject *values[2];
+    static const char *const names[] = { "text", "format", "offset" };
+    PyObject *values[3];
     lines these;
-    Py_buffer entries;
-    size_t refused;
+    entries_of_lines out = { 0 };
     (void)self;
-    if (!arguments("column", names, 1, 2, given, count, named, values) || !take_lines(values[0], values[1], &these)) return NULL;
-    PyObject *made = is_format(&these.asked) ? make_array(read_lines(&these.asked, NULL, 0, &refused), &entries) : NULL;
-    if (made) {
-        read_lines(&these.asked, entries.buf, (size_t)entries.len / sizeof(int64_t), &refused);
-        PyBuffer_Release(&entries);
-    }
+    if (!arguments("column", names, 1, 3, given, count, named, values) || !take_lines(values[0], values[1], values[2], &these)) return NULL;
+    PyObject *result = make_array();
+    int found = result && make_room(&out, these.left < MOST_ENTRIES ? these.left : MOST_ENTRIES);
+    while (found && (these.left || out.wanted)) found = parse_unlocked(&these, &out) && flush(&out, result);
+    if (!found) Py_CLEAR(result);
+    PyMem_RawFree(out.start);
     release(&these);
-    return made;
+    return result;
 }
 
 /* Whether a buffer has signed numbers of 64 bits in this processor's byte order. */
@@ -102,21 +94,35 @@ static int is_of_numbers(const Py_buffer *entries)
         && (!entries->len || (uintptr_t)entries->buf % sizeof(int64_t) == 0);
 }
 
+/* Whether a buffer has bytes of the lines. */
+static int overlaps(const lines *these, const Py_buffer *entries)
+{
+    uintptr_t text = (uintptr_t)these->next, out = (uintptr_t)entries->buf;
+    return these->left && entries->len && text < out + (size_t)entries->len && out < text + these->left;
+}
+
+/* Raises an error for a buffer that can't have the entries. */
+static int may_have(const lines *these, const Py_buffer *entries)
+{
+    if (!is_of_numbers(entries)) PyErr_SetString(PyExc_TypeError, "out must be a buffer of signed numbers of 64 bits, as array('q') is");
+    else if (overlaps(these, entries)) PyErr_SetString(PyExc_ValueError, "text and out must not overlap");
+    else return 1;
+    return 0;
+}
+
 static PyObject *column_into(GIVEN)
 {
-    static const char *const names[] = { "text", "out", "format" };
-    PyObject *values[3], *answer = NULL;
+    static const char *const names[] = { "text", "out", "format", "offset" };
+    PyObject *values[4], *answer = NULL;
     lines these;
     Py_buffer entries;
     (void)self;
-    if (!arguments("column_into", names, 2, 3, given, count, named, values) || !take_lines(values[0], values[2], &these)) return NULL;
-    if (is_format(&these.asked) && PyObject_GetBuffer(values[1], &entries, PyBUF_WRITABLE | PyBUF_C_CONTIGUOUS | PyBUF_FORMAT) == 0) {
-        size_t refused = 0;
-        if (!is_of_numbers(&entries)) PyErr_SetString(PyExc_TypeError, "out must be a buffer of signed numbers of 64 bits, as array('q') is");
-        else {
-            size_t all = read_lines(&these.asked, entries.buf, (size_t)entries.len / sizeof(int64_t), &refused);
-            answer = Py_BuildValue("nn", (Py_ssize_t)all, (Py_ssize_t)refused);
-        }
+    if (!arguments("column_into", names, 2, 4, given, count, named, values) || !take_lines(values[0], values[2], values[3], &these)) return NULL;
+    if (PyObject_GetBuffer(values[1], &entries, PyBUF_WRITABLE | PyBUF_C_CONTIGUOUS | PyBUF_FORMAT) == 0) {
+        entries_of_lines out = { .start = entries.buf, .room = (size_t)entries.len / sizeof(int64_t), .is_fixed = 1 };
+        int found = may_have(&these, &entries);
+        while (found && these.left) found = parse_unlocked(&these, &out);
+        if (found) answer = Py_BuildValue("nn", (Py_ssize_t)out.counted, (Py_ssize_t)out.refused);
         PyBuffer_Release(&entries);
     }
     release(&these);

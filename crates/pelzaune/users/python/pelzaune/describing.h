@@ -8,8 +8,11 @@ static PyObject *description_new(PyTypeObject *type, PyObject *given, PyObject *
 {
     static char *names[] = { "text", NULL };
     PyObject *text;
+    size_t length;
     pelzaune_description held;
-    if (!PyArg_ParseTupleAndKeywords(given, named, "O:Description", names, &text) || !describe(text, &held)) return NULL;
+    if (!PyArg_ParseTupleAndKeywords(given, named, "O:Description", names, &text)) return NULL;
+    const uint8_t *bytes = bytes_of(text, "text", description_error, &length);
+    if (!bytes || !describe(bytes, length, &held)) return NULL;
     description *made = (description *)type->tp_alloc(type, 0);
     if (made) {
         made->held = held;
@@ -18,9 +21,19 @@ static PyObject *description_new(PyTypeObject *type, PyObject *given, PyObject *
     return (PyObject *)made;
 }
 
+/* The text may be of a subclass of str, and have attributes that refer to the object. As a tuple it needs no tp_clear: the
+ * attributes are cleared, so that no call ever finds an object without its text. */
+static int description_traverse(PyObject *self, visitproc visit, void *arg)
+{
+    Py_VISIT(Py_TYPE(self));
+    Py_VISIT(((description *)self)->text);
+    return 0;
+}
+
 static void description_free(PyObject *self)
 {
     PyTypeObject *type = Py_TYPE(self);
+    PyObject_GC_UnTrack(self);
     Py_XDECREF(((description *)self)->text);
     type->tp_free(self);
     Py_DECREF(type);
@@ -56,31 +69,32 @@ static PyObject *description_text(PyObject *self, void *none)
 }
 
 static PyMethodDef description_methods[] = {
-    { "__reduce__", description_reduce, METH_NOARGS, "As what another process makes it anew." },
+    { "__reduce__", description_reduce, METH_NOARGS, "The call that makes it again, in another process." },
     { NULL, NULL, 0, NULL },
 };
 
 static PyGetSetDef description_parts[] = {
-    { "text", description_text, NULL, "The text that it was read of.", NULL },
+    { "text", description_text, NULL, "The text that it was parsed from.", NULL },
     { NULL, NULL, NULL, NULL, NULL },
 };
 
 static PyType_Slot description_slots[] = {
     { Py_tp_new, description_new },
     { Py_tp_dealloc, description_free },
+    { Py_tp_traverse, description_traverse },
     { Py_tp_repr, description_repr },
     { Py_tp_richcompare, description_compare },
     { Py_tp_hash, description_hash },
     { Py_tp_methods, description_methods },
     { Py_tp_getset, description_parts },
-    { Py_tp_doc, "Description(text)\n--\n\nA format of your own, which is read once, for many texts.\n\n"
-        "It is as strftime has it where the text has a %, as %Y-%m-%d, and else in brackets, as [year]-[month]-[day].\n"
-        "Raises DescriptionError." },
+    { Py_tp_doc, "Description(text)\n--\n\nA format of your own, which is parsed once, for many texts.\n\n"
+        "It is one of strftime if it contains a %, such as %Y-%m-%d, and otherwise in brackets, such as\n"
+        "[year]-[month]-[day]. Raises DescriptionError." },
     { 0, NULL },
 };
 
-static PyType_Spec description_spec = { "pelzaune.Description", sizeof(description), 0, Py_TPFLAGS_DEFAULT | Py_TPFLAGS_IMMUTABLETYPE,
-    description_slots };
+static PyType_Spec description_spec = { "pelzaune.Description", sizeof(description), 0,
+    Py_TPFLAGS_DEFAULT | Py_TPFLAGS_HAVE_GC | Py_TPFLAGS_IMMUTABLETYPE, description_slots };
 
 static int add_description(PyObject *made)
 {

@@ -1,10 +1,14 @@
-from typing import Any, Literal, Union
+import datetime
+from typing import Any, Literal, Optional, Union
 
-import pandas  # type: ignore
 from pelzaune import Description
 
 __all__ = ["to_datetime"]
 
+# A Series of a Series, and a DatetimeIndex of an Index, a list, a tuple or an array.
 def to_datetime(
-    series: "pandas.Series[Any]", format: Union[int, str, bytes, Description] = ..., errors: Literal["raise", "none"] = ...
-) -> "pandas.Series[Any]": ...
+    series: Any,
+    format: Union[int, str, bytes, Description] = ...,
+    errors: Literal["raise", "none", "coerce"] = ...,
+    offset: Optional[Union[str, datetime.tzinfo]] = ...,
+) -> Any: ...

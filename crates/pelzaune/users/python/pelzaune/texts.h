@@ -20,7 +20,6 @@ typedef struct {
     uint32_t *wide;     /* the characters of an element */
     size_t width;       /* of an element, in characters, for which there is room */
     size_t index;       /* of the next text */
-    size_t expected;    /* the number of elements at the start */
     PyObject *missing;  /* a tuple of the objects that represent a missing text, as NaN does then; or NULL */
     int refuses;        /* whether a rejected text has an entry instead of raising an error */
 } source;
@@ -116,10 +115,8 @@ static int open_source(PyObject *given, source *from)
     if (is_list(all) || is_array(all)) {
         from->elements = Py_NewRef(all);
         int found = hold(from);
-        if (found == 1) {
-            from->expected = (size_t)from->held.shape[0];
-            PyBuffer_Release(&from->held);
-        } else Py_CLEAR(from->elements);
+        if (found == 1) PyBuffer_Release(&from->held);
+        else Py_CLEAR(from->elements);
         if (found) {
             Py_DECREF(all);
             return found == 1;
@@ -148,11 +145,11 @@ static int is_missing(const source *from, PyObject *owner)
     return 0;
 }
 
-/* A text without bytes is rejected if it is a str without UTF-8, as with half of a surrogate pair. It ends its batch,
- * since objects may have been collected while its error was made. Any other error stays raised, with its index. */
+/* A text without bytes is rejected if it is a str that UTF-8 can't encode, as with half of a surrogate pair. It ends its
+ * batch, since objects may have been collected while its error was made. Any other error stays raised, with its index. */
 static int without_bytes(const source *from, batch *into)
 {
-    if (!from->refuses || !PyErr_ExceptionMatches(PyExc_UnicodeError)) {
+    if (!from->refuses || !PyErr_ExceptionMatches(parse_error)) {
         tell_text(from->index);
         return ERROR;
     }
@@ -166,7 +163,7 @@ static int take_object(const source *from, PyObject *owner, batch *into)
     int found = ERROR;
     if (PyUnicode_Check(owner) || PyBytes_Check(owner)) {
         size_t length;
-        const uint8_t *bytes = bytes_of(owner, "text", &length);
+        const uint8_t *bytes = bytes_of(owner, "text", parse_error, &length);
         found = bytes ? add_text(into, bytes, length) : without_bytes(from, into);
     } else if (is_missing(from, owner)) found = add_missing(into);
     else {
@@ -206,7 +203,7 @@ static int take_wide(const source *from, size_t count, batch *into)
 {
     for (size_t k = 0; k < count; k++)
         if (from->wide[k] > 0x10ffff) {
-            PyErr_Format(PyExc_UnicodeError, "text %zu has a character that Unicode hasn't", from->index);
+            raise(parse_error, "a character is not in range(0x110000)", Py_NewRef(Py_None));
             return without_bytes(from, into);
         }
     PyObject *made = PyUnicode_FromKindAndData(PyUnicode_4BYTE_KIND, from->wide, (Py_ssize_t)count);
@@ -280,10 +277,10 @@ static int next_object(const source *from, batch *into)
  * them. */
 static int gather(source *from, batch *into)
 {
+    into->count = into->missing = into->length = into->places[0] = 0;
     int found = from->elements ? hold(from) : 1;
     if (found == 0) PyErr_SetString(PyExc_RuntimeError, "the array of texts was changed while it was read");
     if (found != 1) return ERROR;
-    into->count = into->missing = into->length = into->places[0] = 0;
     while (found == TEXT && has_room(into)) {
         found = from->elements ? next_element(from, into) : next_object(from, into);
         if (found >= TEXT) from->index++;

@@ -24,9 +24,8 @@ class Arguments(unittest.TestCase):
                 self.assertRaises(TypeError, call, it)
             for it in (None, 1.5, [], bytearray(b"%Y")):
                 self.assertRaises(TypeError, call, "2021", it)
-            self.assertRaises(OverflowError, call, "2021", -1)
-            self.assertRaises(OverflowError, call, "2021", 2**70)
-            self.assertRaises(pelzaune.ParseError, call, "2021", 2**32 + 1)
+            for it in (-1, 0, 4, 2**32 + 1, 2**70, -2**70):
+                self.assertRaises(ValueError, call, "2021", it)
 
     def test_counts(self):
         for call in (*OF_TEXT, pelzaune.column):
@@ -46,7 +45,7 @@ class Arguments(unittest.TestCase):
         self.assertRaises(TypeError, pelzaune.Description)
         self.assertRaises(TypeError, pelzaune.Description, "%Y", "%Y")
         self.assertRaises(TypeError, pelzaune.Description, form="%Y")
-        self.assertRaises(UnicodeEncodeError, pelzaune.Description, "%Y\ud800")
+        self.assertRaises(pelzaune.DescriptionError, pelzaune.Description, "%Y\ud800")
         self.assertRaises(pelzaune.DescriptionError, pelzaune.Description, "%")
         self.assertRaises(TypeError, type, "More", (pelzaune.Description,), {})
         form = pelzaune.Description("%Y")
@@ -109,8 +108,14 @@ class Texts(unittest.TestCase):
 
     def test_odd_characters(self):
         for call in (*OF_TEXT, pelzaune.column):
-            self.assertRaises(UnicodeEncodeError, call, "2021\ud800")
-            self.assertRaises(UnicodeEncodeError, call, "2021", "%Y\udfff")
+            for text, index in (("2021\ud800", 4), ("\u00e9\udfff\u00e9", 2), ("\U0001f550\ud800", 4)):
+                with self.assertRaisesRegex(pelzaune.ParseError, "surrogates not allowed") as caught:
+                    call(text)
+                self.assertEqual((caught.exception.index, caught.exception.component), (index, None))
+                self.assertIsInstance(caught.exception.__cause__, UnicodeEncodeError)
+            with self.assertRaises(pelzaune.DescriptionError) as caught:
+                call("2021", "%Y\udfff")
+            self.assertEqual(caught.exception.index, 2)
         for text in ("2021-01-02T03:04:05Z\0", "\x002021-01-02T03:04:05Z", "2021-01-02T03:04:05\u00e9", "\U0001f550", "2021\u201301-02T03:04:05Z"):
             for form in FORMATS:
                 for call in OF_TEXT:
@@ -183,11 +188,17 @@ class Buffers(unittest.TestCase):
         self.assertEqual(column_into(self.LINE, array.array("q")), (1, 0))
 
     def test_one_buffer_as_text_and_out(self):
-        both = bytearray(self.LINE + b"1234")
-        both = both[:24]
-        numbers = memoryview(both).cast("q")
-        self.assertEqual(pelzaune.column_into(both, numbers)[0], 2)
-        self.assertEqual(numbers[0], 10**9)
+        both = bytearray(self.LINE + b"123") * 4
+        before, view = bytes(both), memoryview(both)
+        numbers = view.cast("q")
+        for text, out in ((both, numbers), (view[:1], numbers), (view[88:], numbers[11:]), (view[:9], numbers[1:2]), (view[15:17], numbers[1:2])):
+            with self.assertRaisesRegex(ValueError, "text and out must not overlap"):
+                pelzaune.column_into(text, out)
+        self.assertEqual(both, before)
+        # Buffers that touch, and empty ones, share no byte.
+        self.assertEqual(pelzaune.column_into(view[:24], numbers[3:5]), (2, 1))
+        self.assertEqual(pelzaune.column_into(view[:0], numbers), (0, 0))
+        self.assertEqual(pelzaune.column_into(view, numbers[:0])[0], 5)
 
     def test_held_while_read(self):
         lines = bytearray(self.LINE * 20000)
@@ -219,7 +230,7 @@ class Buffers(unittest.TestCase):
                     pelzaune.column(it)
             self.assertEqual(sys.getrefcount(it), before)
         lines = bytearray(self.LINE)
-        self.assertRaises(pelzaune.ParseError, pelzaune.column, lines, 9)
+        self.assertRaises(ValueError, pelzaune.column, lines, 9)
         self.assertRaises(pelzaune.ParseError, pelzaune.column, lines, "[yaer]")
         lines.append(0)  # nothing holds it
 

@@ -174,7 +174,7 @@ class Held(unittest.TestCase):
             lambda: pelzaune.parse_many(other),
             lambda: pelzaune.parse_many([text], other),
             lambda: pelzaune.parse_many([text], errors=other),
-            lambda: pelzaune._pelzaune._parse_present([text, None, other, 0.0], 1, "none", (None, other)),
+            lambda: pelzaune._pelzaune._parse_present([text, None, other, 0.0], 1, "none", None, (None, other)),
         ]
 
     def ask(self, call):
@@ -215,13 +215,13 @@ class Held(unittest.TestCase):
     def test_missing(self):
         present = pelzaune._pelzaune._parse_present
         texts, least = [TEXT, None, float("nan"), "?", Ellipsis], "1677-09-21T00:12:43.145224192Z"
-        answer = present(texts, 1, "none", (None, Ellipsis))
+        answer = present(texts, 1, "none", None, (None, Ellipsis))
         self.assertEqual([it.tolist() for it in answer], [[10**9] + [pelzaune.NO_COUNT] * 4, [3]])
-        self.assertRaisesRegex(TypeError, "text 4 must be str or bytes, not ellipsis", present, texts, 1, "none", (None,))
-        self.assertRaisesRegex(TypeError, "text 1 must be str or bytes, not float", present, [None, 1.5], 1, "none", (None,))
-        self.assertRaisesRegex(pelzaune.ParseError, "text 3", present, texts, 1, "raise", (None,))
-        self.assertRaisesRegex(pelzaune.ParseError, "text 1: the instant is out of range", present, [None, least], 1, "raise", (None,))
-        self.assertEqual([it.tolist() for it in present([None, least], 1, "none", (None,))], [[pelzaune.NO_COUNT] * 2, [1]])
+        self.assertRaisesRegex(TypeError, "text 4 must be str or bytes, not ellipsis", present, texts, 1, "none", None, (None,))
+        self.assertRaisesRegex(TypeError, "text 1 must be str or bytes, not float", present, [None, 1.5], 1, "none", None, (None,))
+        self.assertRaisesRegex(pelzaune.ParseError, "text 3", present, texts, 1, "raise", None, (None,))
+        self.assertRaisesRegex(pelzaune.ParseError, "text 1: the instant is out of range", present, [None, least], 1, "raise", None, (None,))
+        self.assertEqual([it.tolist() for it in present([None, least], 1, "none", None, (None,))], [[pelzaune.NO_COUNT] * 2, [1]])
 
     def test_missing_among_others(self):
         r, counts = random.Random(5), {TEXT: 10**9, TEXT.encode(): 10**9}
@@ -230,7 +230,7 @@ class Held(unittest.TestCase):
             texts = r.choices(kinds, weights, k=MANY)
             wanted = [counts.get(it, pelzaune.NO_COUNT) for it in texts], [k for k, it in enumerate(texts) if kinds.index(it) > 4]
             for it in (texts, tuple(texts), iter(texts)):
-                answer = pelzaune._pelzaune._parse_present(it, 1, "none", (None, Ellipsis))
+                answer = pelzaune._pelzaune._parse_present(it, 1, "none", None, (None, Ellipsis))
                 self.assertEqual(tuple(them.tolist() for them in answer), wanted)
 
 

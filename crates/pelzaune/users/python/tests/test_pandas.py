@@ -1,4 +1,5 @@
 """Tests of pelzaune.pandas, and of parse_many over Series (Debian: python3-pandas)."""
+import datetime
 import decimal
 import doctest
 import os
@@ -82,18 +83,42 @@ class Times(unittest.TestCase):
             self.same(to_datetime(texts, errors="none"), [ONE] + [pandas.NaT] * 3, list("abcd"))
         self.same(to_datetime(pandas.Series(["1677-09-21T00:12:43.145224193Z"])), [pandas.Timestamp.min])
         self.same(to_datetime(pandas.Series(["2262-04-11T23:47:16.854775807Z"])), [pandas.Timestamp.max])
-        with self.assertRaises(UnicodeEncodeError) as caught:
+        with self.assertRaisesRegex(pelzaune.ParseError, "surrogates") as caught:
             to_datetime(pandas.Series([None, "\ud800"]))
         self.assertEqual(caught.exception.text_index, 1)
         self.same(to_datetime(pandas.Series([TEXT, "\ud800", "\u00e9"]), errors="none"), [ONE] + [pandas.NaT] * 2)
 
     def test_arguments(self):
-        for wrong in ([TEXT], TEXT, None, numpy.array([TEXT]), pandas.Index([TEXT]), pandas.DataFrame({"a": [TEXT]})):
-            self.assertRaisesRegex(TypeError, "series must be a pandas Series", to_datetime, wrong)
-        for errors in ("coerce", "ignore", None):
+        for wrong in (TEXT, TEXT.encode(), None, 5, numpy.array(TEXT), numpy.array([[TEXT]]), pandas.DataFrame({"a": [TEXT]}), {TEXT}, iter([TEXT])):
+            self.assertRaisesRegex(TypeError, "series must be a Series, an Index, a list or an array of one dimension, not", to_datetime, wrong)
+        for errors in ("ignore", "Coerce", None):
             self.assertRaises(ValueError, to_datetime, pandas.Series([TEXT]), errors=errors)
         self.assertRaises(pelzaune.DescriptionError, to_datetime, pandas.Series([TEXT]), "[moth]")
-        self.assertRaisesRegex(pelzaune.ParseError, "no format", to_datetime, pandas.Series([], dtype=object), 9)
+        self.assertRaisesRegex(ValueError, "format must be", to_datetime, pandas.Series([], dtype=object), 9)
+
+    def test_kinds(self):
+        """Others than a Series become a DatetimeIndex, as by pandas.to_datetime."""
+        texts = [TEXT, "1970-01-01T00:00:02Z"]
+        kinds = [texts, tuple(texts), numpy.array(texts), numpy.array(texts, dtype=object), numpy.array(texts, dtype="S"), pandas.Index(texts),
+                 pandas.Index(texts, dtype="string", name="at"), pandas.CategoricalIndex(texts), pandas.array(texts, dtype="string"),
+                 pandas.Categorical(texts)]
+        for it in kinds:
+            got = to_datetime(it)
+            self.assertEqual(str(got.dtype), "datetime64[ns, UTC]")
+            theirs = pandas.to_datetime([text.decode() for text in it] if getattr(it, "dtype", None) == "S20" else it, utc=True)
+            pandas.testing.assert_index_equal(got, theirs)
+        for errors in ("none", "coerce"):
+            got = to_datetime([TEXT, None, "?"], errors=errors)
+            pandas.testing.assert_index_equal(got, pandas.to_datetime([TEXT, None, "?"], utc=True, errors="coerce"))
+            self.same(to_datetime(pandas.Series([TEXT, "?"]), errors=errors), [ONE, pandas.NaT])
+        self.assertEqual(len(to_datetime([])), 0)
+
+    def test_offsets(self):
+        """01:00 is 00:00 in UTC on a clock that is an hour ahead."""
+        texts = ["1970-01-01T01:00:01", None, TEXT]
+        for offset in ("+01:00", datetime.timezone(datetime.timedelta(hours=1)), "Europe/Berlin"):
+            self.same(to_datetime(pandas.Series(texts), "iso8601", offset=offset), [ONE, pandas.NaT, ONE])
+        pandas.testing.assert_index_equal(to_datetime(texts, offset="+01:00"), pandas.DatetimeIndex([ONE, pandas.NaT, ONE]))
 
     def test_left_as_it_was(self):
         texts = pandas.Series([TEXT, None, "?"], name="at")
@@ -103,6 +128,20 @@ class Times(unittest.TestCase):
         self.assertTrue(abs(sys.getrefcount(None) - held) < 500)
         times[0] = pandas.NaT
         pandas.testing.assert_series_equal(texts, before)
+
+
+class Texts(unittest.TestCase):
+    def test_nanoseconds(self):
+        at = pandas.Timestamp("1985-04-12T23:20:50.123456789-08:30")
+        self.assertEqual(pelzaune.format_datetime(at), "1985-04-12T23:20:50.123456789-08:30")
+        self.assertEqual(pelzaune.format_datetime(at, zone="Europe/Berlin"), "1985-04-13T09:50:50.123456789+02:00")
+        self.assertEqual(pelzaune.format_datetime(pandas.Timestamp("1970-01-01T00:00:00.000000001Z")), "1970-01-01T00:00:00.000000001Z")
+        r = random.Random(9)
+        for count in (r.randrange(-2**62, 2**62) for _ in range(2000)):
+            at = pandas.Timestamp(count, unit="ns", tz="UTC")
+            self.assertEqual(pelzaune.unix_ns(pelzaune.format_datetime(at)), count)
+        self.assertRaises(pelzaune.FormatError, pelzaune.format_datetime, pandas.Timestamp("2021-01-02"))
+        self.assertRaisesRegex(ValueError, "NaT", pelzaune.format_datetime, pandas.NaT)
 
 
 class Many(unittest.TestCase):

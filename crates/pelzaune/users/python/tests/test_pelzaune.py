@@ -197,7 +197,6 @@ class Refusals(unittest.TestCase):
         self.refused("2021-01-02T03:04:0\u0665Z", "the 'second' component could not be parsed", "second")
         self.refused("", "the 'year' component could not be parsed", "year")
         self.refused("2021-01-02T03:04:05Z\n", "unexpected trailing characters; the end of input was expected", None)
-        self.refused("2021-01-02T03:04:05Z", "no format has that number", None, format=9)
         self.refused("2021-01-02", "the `Parsed` struct did not include enough information to construct the type", None,
                      format=pelzaune.ISO8601, call=pelzaune.unix_ns)
 
@@ -220,7 +219,6 @@ class Refusals(unittest.TestCase):
         self.assertIsNone(index("2021-02-30T03:04:05Z"))
         self.assertIsNone(index("2021-13", pelzaune.ISO8601))
         self.assertEqual(index("2021-13-02", pelzaune.ISO8601), 7)
-        self.assertIsNone(index("2021-13", 9))
 
     def test_faults_of_descriptions(self):
         self.refused("2021", "no component has that name", None, format="[yaer]")
@@ -250,7 +248,6 @@ class Refusals(unittest.TestCase):
         self.assertEqual(why(when.replace(tzinfo=odd), pelzaune.RFC3339)[1], "offset second")
         odd = datetime.timezone(datetime.timedelta(microseconds=1))
         self.assertEqual(why(when.replace(tzinfo=odd), pelzaune.RFC3339)[1], "offset second")
-        self.assertEqual(why(when, 9), ("no format has that number", None))
 
     def test_what_python_lacks(self):
         self.refused("0000-01-02T03:04:05Z", "year is out of the range 1 to 9999 of datetime", "year")
@@ -261,8 +258,7 @@ class Refusals(unittest.TestCase):
         for wrong in (5, None, bytearray(b"2021-01-02T03:04:05Z")):
             self.assertRaises(TypeError, pelzaune.parse, wrong)
         self.assertRaises(TypeError, pelzaune.parse, "2021", 1.5)
-        self.assertRaises(OverflowError, pelzaune.parse, "2021", -1)
-        self.assertRaises(UnicodeEncodeError, pelzaune.parse, "\ud800")
+        self.assertRaises(pelzaune.ParseError, pelzaune.parse, "\ud800")
         self.assertIsNone(pelzaune.ParseError("text").component)
 
     def test_pickled(self):
@@ -274,14 +270,30 @@ class Refusals(unittest.TestCase):
 
 
 class Program(unittest.TestCase):
-    def run_on(self, *words, given=""):
-        done = subprocess.run([sys.executable, "-m", "pelzaune", *words], input=given, capture_output=True, text=True)
-        return done.stdout, done.stderr, done.returncode
+    def run_on(self, *words, given=b""):
+        done = subprocess.run([sys.executable, "-m", "pelzaune", *words], input=given, capture_output=True)
+        return done.stdout.decode(), done.stderr.decode(), done.returncode
 
     def test_texts(self):
         self.assertEqual(self.run_on("1985-04-12T23:20:50.52Z"), ("1985-04-12T23:20:50.520000+00:00 482196050520000000\n", "", 0))
-        self.assertEqual(self.run_on("--format", "rfc2822", given="Fri, 02 Jan 1970 00:00:00 GMT\nx\n"),
+        self.assertEqual(self.run_on("--format", "rfc2822", given=b"Fri, 02 Jan 1970 00:00:00 GMT\nx\n"),
                          ("1970-01-02T00:00:00+00:00 86400000000000\n", "x: the 'day' component could not be parsed\n", 1))
+        # In files of Windows lines end with CR LF.
+        self.assertEqual(self.run_on("--format", "ISO8601", given=b"1970-01-02T00Z\r\n"), ("1970-01-02T00:00:00+00:00 86400000000000\n", "", 0))
+
+    def test_arguments(self):
+        self.assertEqual(self.run_on("--version"), (f"pelzaune {pelzaune.__version__}\n", "", 0))
+        for form, reason in (("[yaer]", "no component has that name, at index 1"), ("-" * 65, "the description is too long")):
+            out, error, status = self.run_on("--format=" + form, "2021")
+            self.assertEqual((out, error.split("\n")[-2], status), ("", f"python -m pelzaune: error: argument --format: {reason}", 2))
+        self.assertEqual(self.run_on("--form")[2], 2)
+
+    def test_other_bytes(self):
+        """Bytes that aren't UTF-8, in a line and in an argument, are rejected like other texts."""
+        wanted = ("", "\\xff\\xfe: the 'year' component could not be parsed\n", 1)
+        self.assertEqual(self.run_on(given=b"\xff\xfe\n"), wanted)
+        self.assertEqual(self.run_on(b"\xff\xfe"), wanted)
+        self.assertEqual(self.run_on("--format", b"\xff[unix_timestamp]", b"\xff1")[2], 0)
 
 
 class Documents(unittest.TestCase):

@@ -7,6 +7,7 @@ import pelzaune
 import pelzaune.pandas
 
 day = pelzaune.Description("[day].[month].[year]")
+form: pelzaune.Format = pelzaune.Format.ISO8601
 text: str = "1985-04-12T23:20:50.52Z"
 
 moment: datetime.datetime = pelzaune.parse(text)
@@ -15,12 +16,15 @@ time: datetime.time = pelzaune.parse_time("23:20", "%H:%M")
 parts: Tuple[Optional[datetime.date], Optional[datetime.time], Optional[datetime.timezone]] = pelzaune.parse_parts(text, pelzaune.ISO8601)
 nanoseconds: int = pelzaune.unix_ns(text, format=pelzaune.RFC3339)
 entries: "array.array[int]" = pelzaune.column(text + "\n", pelzaune.RFC3339)
+by_name: "array.array[int]" = pelzaune.column(text, "rfc3339", offset=datetime.timezone.utc)
 many: "array.array[int]" = pelzaune.parse_many([text, b""], pelzaune.RFC3339, errors="raise")
 lenient: Tuple["array.array[int]", "array.array[int]"] = pelzaune.parse_many((it for it in [text]), errors="none")
+coerced: Tuple["array.array[int]", "array.array[int]"] = pelzaune.parse_many([text], form, "coerce", "+01:00")
 by_day: Tuple["array.array[int]", "array.array[int]"] = pelzaune.parse_many([text], day, "none")
 to_datetime = pelzaune.pandas.to_datetime
 counts: Tuple[int, int] = pelzaune.column_into(b"", entries)
 written: str = pelzaune.format_datetime(moment, pelzaune.RFC2822)
+shown: str = pelzaune.format_datetime(moment, "rfc2822", zone="Europe/Berlin")
 version: str = pelzaune.__version__
 
 try:

@@ -17,6 +17,8 @@ for line in sys.stdin.buffer:
     texts[name].append((text, count if -(2**63) <= count < 2**63 else pelzaune.NO_COUNT))
 sys.stdout.write("".join(answers))
 for name, all_of in texts.items():
-    entries = pelzaune.column(b"".join(text + b"\n" for text, _ in all_of), FORMATS[name])
+    # A CR before LF ends the line with it, so a text that ends with CR needs another.
+    lines = b"".join(text + (b"\r\n" if text.endswith(b"\r") else b"\n") for text, _ in all_of)
+    entries = pelzaune.column(lines, FORMATS[name])
     if entries.tolist() != [count for _, count in all_of]:
         sys.exit(f"the column of {name.decode()} differs")

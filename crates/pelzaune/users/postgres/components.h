@@ -16,7 +16,7 @@ typedef struct {
     int64_t count, days;
     pelzaune_moment moment;
     pelzaune_status status;
-    int lacks_second; /* whether the seconds of the offset aren't written yet */
+    int has_offset_hour, has_offset_second; /* whether these are written */
     size_t length;
     uint8_t text[WRITTEN_MOST];
 } writing;
@@ -183,7 +183,7 @@ static void put_timestamp(writing *it, bytes component)
 static void put_offset_hour(writing *it, bytes component)
 {
     int32_t offset = it->moment.offset;
-    it->lacks_second |= offset % 60 != 0;
+    it->has_offset_hour = 1;
     put_sign(it, component, offset < 0, 0);
     put_number(it, component, 2, (uint64_t)(offset < 0 ? -offset : offset) / 3600);
 }
@@ -202,7 +202,7 @@ static void put_offset_minute(writing *it, bytes component)
 static void put_offset_second(writing *it, bytes component)
 {
     int32_t offset = it->moment.offset;
-    it->lacks_second = 0;
+    it->has_offset_second = 1;
     put_number(it, component, 2, (uint64_t)(offset < 0 ? -offset : offset) % 60);
 }
 

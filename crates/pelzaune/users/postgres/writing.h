@@ -129,11 +129,11 @@ static void write_described(writing *it, bytes described, int64_t count, int32_t
     it->moment = moment_of_count(count, offset);
     it->days = days_of((pelzaune_date){ it->moment.year, it->moment.month, it->moment.day });
     it->status = PELZAUNE_OK;
-    it->lacks_second = 0;
+    it->has_offset_hour = it->has_offset_second = 0;
     it->length = 0;
     if (syntax_of(described) == PELZAUNE_STRFTIME) write_strftime(it, described);
     else write_items(it, &to, 0);
-    if (!it->status && it->lacks_second) it->status = PELZAUNE_NO_TEXT + 256u * OFFSET_SECOND_OF_STATUS;
+    if (!it->status && it->has_offset_hour && !it->has_offset_second && offset % 60) it->status = PELZAUNE_NO_TEXT + 256u * OFFSET_SECOND_OF_STATUS;
 }
 
 #endif

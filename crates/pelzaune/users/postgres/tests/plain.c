@@ -86,9 +86,23 @@ static void test_texts(void)
         for (size_t n = 0; n < sizeof texts / sizeof *texts; n++) take(formats[k], texts[n]);
 }
 
+/* An offset of 53 minutes and 28 seconds, as Berlin's local mean time had, has no text without the seconds. */
+static void test_offsets(void)
+{
+    static const char *const formats[] = { "[offset_hour sign:mandatory]:[offset_minute]:[offset_second]", "%z", "[offset_second][offset_hour]", "%H" };
+    static const char *const texts[] = { "+00:53:28", NULL, "2800", "00" };
+    for (size_t k = 0; k < sizeof formats / sizeof *formats; k++) {
+        writing it;
+        write_described(&it, bytes_of_words(formats[k]), -3208 * INT64_C(1000000), 3208);
+        assert(it.status == (texts[k] ? PELZAUNE_OK : PELZAUNE_NO_TEXT + 256u * OFFSET_SECOND_OF_STATUS));
+        assert(!texts[k] || (it.length == strlen(texts[k]) && memcmp(it.text, texts[k], it.length) == 0));
+    }
+}
+
 int main(void)
 {
     test_days();
+    test_offsets();
     test_ranges();
     test_texts();
     return 0;

@@ -220,7 +220,9 @@ class Postgres(unittest.TestCase):
         self.assertEqual(self.server.ask("SELECT pelzaune_date('2021-01-02T03:04:05Z')"), ["2021-01-02"])
 
     def test_one_call_is_short(self):
-        """A statement is cancelled between two calls, of which each takes less than 50 milliseconds for the longest texts."""
+        """A statement is cancelled between two calls, of which each takes less than 50 milliseconds for the longest texts. On a
+        machine that has more to run than it has processors, a call waits for others, and may take that many times as long."""
+        most = 50 * max(1, os.getloadavg()[0] / os.cpu_count())
         texts = ["'2021-01-02T03:04:05.' || repeat('1', 1048555) || 'Z'", "'02 Jan 2021 03:04 GMT ' || repeat('(', 524276) || repeat(')', 524276)",
                  "'02 Jan 2021 03:04 GMT (' || repeat('x', 1048552) || ')'", "repeat(' ', 1048576)"]
         for text in texts:
@@ -229,14 +231,14 @@ class Postgres(unittest.TestCase):
                     is_short = self.server.ask(f"""CREATE FUNCTION pg_temp.shortest(a text) RETURNS interval LANGUAGE plpgsql AS $$
                         DECLARE since timestamptz; shortest interval := '1 hour';
                         BEGIN
-                            FOR k IN 1..5 LOOP
+                            FOR k IN 1..10 LOOP
                                 since := clock_timestamp();
                                 PERFORM pelzaune_{'try_' if call == 'unix_ns' else ''}{call}(a, '{form}');
                                 shortest := least(shortest, clock_timestamp() - since);
                             END LOOP;
                             RETURN shortest;
                         END $$;
-                        SELECT pg_temp.shortest({text}) < interval '50 milliseconds'""")
+                        SELECT pg_temp.shortest({text}) < interval '{most:.0f} milliseconds'""")
                     self.assertEqual(is_short, ["t"], (text, call, form))
 
     def test_timeout(self):

@@ -127,18 +127,33 @@ static inline int has_raised(const question *asked)
     return asked->offset.zone && PyErr_Occurred();
 }
 
-/* The nanoseconds of a text, which may take its offset from the arguments. A zone is asked only with the interpreter's lock,
- * and may raise an error: then the result is that of the text without it. */
-static pelzaune_status nanoseconds_of(const question *asked, int64_t *count)
+/* Whether a status is about the hour of an offset, as that of a text of RFC 3339 without one is. */
+static int is_of_offset(pelzaune_status status)
+{
+    return PELZAUNE_COMPONENT(status) == 14;
+}
+
+/* The nanoseconds of a text that may have no offset, and is rejected without one. A zone is asked with the interpreter's
+ * lock, and may raise an error: then the status is that of the text without it. */
+static pelzaune_status nanoseconds_at(const question *asked, pelzaune_status status, int64_t *count)
 {
     pelzaune_local local;
     int32_t offset = asked->offset.fixed;
-    pelzaune_status status = ASK(nanoseconds, *asked, count);
-    int is_missing = status == PELZAUNE_INSUFFICIENT || (status && !asked->held && asked->number != PELZAUNE_ISO8601);
-    if (!is_missing || !asked->offset.is_given || status == PELZAUNE_TOO_WIDE || local_of(asked, &local)) return status;
+    int is_open = asked->held || asked->number == PELZAUNE_ISO8601; /* whether the format has texts without an offset */
+    if (is_open ? status != PELZAUNE_INSUFFICIENT : asked->number == PELZAUNE_RFC3339 && !is_of_offset(status)) return status;
+    pelzaune_status other = local_of(asked, &local);
+    if (other) return is_of_offset(status) && !is_of_offset(other) ? other : status;
     if (local.year < 1677 || local.year > 2262) return PELZAUNE_TOO_WIDE;
     if (asked->offset.zone && !offset_at(asked->offset.zone, &local, &offset)) return status;
     return count_of(&local, offset, count);
+}
+
+/* The nanoseconds of a text, which may take its offset from the arguments. */
+static inline pelzaune_status nanoseconds_of(const question *asked, int64_t *count)
+{
+    pelzaune_status status = ASK(nanoseconds, *asked, count);
+    if (!status || !asked->offset.is_given || status == PELZAUNE_TOO_WIDE) return status;
+    return nanoseconds_at(asked, status, count);
 }
 
 #endif

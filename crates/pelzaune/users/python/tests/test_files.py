@@ -65,7 +65,7 @@ class Offsets(unittest.TestCase):
     def test_fixed(self):
         """A clock that is ahead shows an hour later than UTC, so its hour is counted earlier."""
         for form, texts in (("rfc3339", ["1970-01-02T00:00:00", "1970-01-02 00:00:00.5"]), ("rfc2822", ["Fri, 02 Jan 1970 00:00:00", "2 Jan 1970 00:00 "]),
-                            ("iso8601", ["1970-01-02T00:00", "19700102T00,5"]), ("%d.%m.%Y %H:%M:%S", ["02.01.1970 00:00:00", "03.01.1970 00:00:00"])):
+                            ("iso8601", ["1970-01-02T00:00", "19700102T0030"]), ("%d.%m.%Y %H:%M:%S", ["02.01.1970 00:00:00", "03.01.1970 00:00:00"])):
             self.assertEqual(many(texts, form, "none"), ([NONE] * 2, [0, 1]))
             utc = many(texts, form, offset="Z")
             self.assertEqual(utc[0], 24 * HOUR)
@@ -83,9 +83,13 @@ class Offsets(unittest.TestCase):
         texts = ["1970-01-02T00:00:00Z", "1970-01-01T23:00:00-01:00", "1970-13-01T00:00:00", "1970-01-02", "", "1970-01-02T00:00:00+", "1970-01-02T00:00:0"]
         for form in ("rfc3339", "iso8601"):
             self.assertEqual(many(texts, form, "none", "+05:00")[0], [24 * HOUR] * 2 + [NONE] * 5)
-            with self.assertRaisesRegex(pelzaune.ParseError, "text 0: the 'month'|text 0: month|text 0: unexpected") as caught:
+            with self.assertRaises(pelzaune.ParseError) as caught:
                 pelzaune.parse_many(texts[2:], form, offset="+05:00")
             self.assertEqual(caught.exception.text_index, 0)
+        # Of two errors that of the month is the first.
+        with self.assertRaisesRegex(pelzaune.ParseError, "text 0: .*month") as caught:
+            pelzaune.parse_many(texts[2:], offset="+05:00")
+        self.assertEqual((caught.exception.component, caught.exception.index), ("month", 5))
         self.assertEqual(many(["1", "-1"], "[unix_timestamp]", offset="+05:00"), [10**9, -(10**9)])
 
     def test_zones(self):

@@ -4,9 +4,9 @@ use Rattle.std.specs.Char.Escape.{escape_ascii}
 use Rattle.std.proofs.Common.{ap, subst, sym, ◌∙◌}
 use Rattle.time_values.specs.Calendar.{greatest_year}
 use Rattle.time_locating.specs.Misses.{Wanted, these_bytes, named, the_end}
-use Rattle.restamp_stream.specs.declared.action.LineAction.{LineAction}
-use Rattle.restamp_stream.specs.declared.action.LineAction.TheVariants.{Without, Rewritten, Dropped, Refused}
-use Rattle.restamp_lines.specs.Job.{Verdict, without, rewritten, dropped, refused, IsJudged}
+use Rattle.restamp_stream.specs.Reports.{Action, action_of}
+use Rattle.restamp_stream.specs.declared.action.LineAction.TheVariants.{Refused}
+use Rattle.restamp_lines.specs.Job.{Verdict, refused, IsJudged}
 use Rattle.restamp_lines.specs.ErrorLocation.{IsMissingField, why_text, IsErrorLocation, ErrorLocation}
 use Rattle.restamp_formats.specs.Reason.{Reason}
 use Rattle.restamp_lines.specs.declared.job.Job.{Job}
@@ -55,15 +55,8 @@ abbrev pub expected_text : Option Wanted → List ℕ
 expected_text None = []
 expected_text (Some wanted) = codes ": expected " ++ wanted_text wanted
 
--- the action of a line with that verdict
-abbrev pub action_of : Verdict → LineAction
-action_of without = Without
-action_of (rewritten start n text) = Rewritten start (start + n) (record { items = text })
-action_of dropped = Dropped
-action_of (refused column reason) = Refused
-
 -- A line of that front has that action.
-abbrev pub IsAction : ℕ → Job → List ℕ → LineAction → Type 0
+abbrev pub IsAction : ℕ → Job → List ℕ → Action → Type 0
 IsAction Y job front action = (verdict : Verdict) × IsJudged Y job front verdict × (action ≡ action_of verdict)
 
 -- the text of an error in a front, for a reason or a missing part, with the name of the zone that it may be about, with
@@ -87,17 +80,15 @@ IsReason Y job zone shows_lines front column text =
     × ReportsError Y job zone shows_lines front begin reason column text
 
 -- A front has exactly one action.
-pub one_action : (job : Job) (front : List ℕ) (a b : LineAction)
+pub one_action : (job : Job) (front : List ℕ) (a b : Action)
     → IsAction greatest_year job front a → IsAction greatest_year job front b → a ≡ b
 one_action job front a b p q = p.2 ∙ ap action_of (one_verdict job front p.0 q.0 p.1 q.1) ∙ sym q.2
 
 -- A front with that verdict has its error at that column, and that text reports it.
 Tells : Job → List ℕ → Bool → List ℕ → ℕ → List ℕ → Verdict → Type 0
-Tells job zone shows_lines front column text without = ⊥
-Tells job zone shows_lines front column text (rewritten start n bytes) = ⊥
-Tells job zone shows_lines front column text dropped = ⊥
-Tells job zone shows_lines front column text (refused begin reason) =
-    ReportsError greatest_year job zone shows_lines front begin reason column text
+Tells job zone shows_lines front column text (Refused r) =
+    ReportsError greatest_year job zone shows_lines front r.column r.reason column text
+Tells job zone shows_lines front column text verdict = ⊥
 
 -- A front is rejected at one column and for one reason.
 pub one_reason : (job : Job) (zone : List ℕ) (shows_lines : Bool) (front : List ℕ) (column other : ℕ)

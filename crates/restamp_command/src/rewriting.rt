@@ -19,10 +19,9 @@ use crate::request::Request;
 use byte_streams::{Sink, Unwritten};
 use restamp_formats::{Brief, Reason};
 use restamp_in_place::{Folder, Made, Target, Unreplaced, replace_file};
-use restamp_lines::{ErrorLocation, Job, Verdict, Why};
+use restamp_lines::{ErrorLocation, Job, Refusal, Why};
 use restamp_stream::{Block, LineAction, Opening, Rewriting, Stop, Stream, Tally};
 use std::alloc::Global;
-use time_values::text::Text;
 
 /// A job, which decides the action of each line, and how a rejected line is reported.
 #[derive(Clone, Copy)]
@@ -36,6 +35,8 @@ pub struct Restamping<'a> {
 }
 
 impl Rewriting for Restamping<'_> {
+    type Refusal = Refusal<Brief>;
+
     ghost use Rattle.time_values.specs.Calendar.{greatest_year};
     ghost use Rattle.restamp_command.specs.Rewriting as spec;
 
@@ -50,27 +51,15 @@ impl Rewriting for Restamping<'_> {
         spec.one_reason restamping.job restamping.zone.now restamping.shows_lines front column other reason why p q };
 
     #[inline(always)]
-    fn action(&self, front: &[u8]) -> LineAction {
-        let mut text = Text::new();
-        match self.job.judge::<Brief>(front, &mut text) {
-            Verdict::Without => LineAction::Without,
-            Verdict::Rewritten { start, length } => LineAction::Rewritten {
-                begin: start,
-                end: start + length,
-                text,
-            },
-            Verdict::Dropped => LineAction::Dropped,
-            Verdict::Refused { .. } => LineAction::Refused,
-        }
+    fn action(&self, front: &[u8]) -> LineAction<Refusal<Brief>> {
+        self.job.judge::<Brief>(front)
     }
 
     #[inline(never)]
     fn write_reason<L: Sink>(&self, front: &[u8], log: &mut L) -> Result<(), Unwritten> {
-        match self.job.judge::<Reason>(front, &mut Text::new()) {
-            Verdict::Refused { column, reason } => self.write_location(front, column, reason, log),
-            Verdict::Without => Ok(()),
-            Verdict::Rewritten { .. } => Ok(()),
-            Verdict::Dropped => Ok(()),
+        match self.job.judge::<Reason>(front) {
+            LineAction::Refused(refusal) => self.write_location(front, refusal, log),
+            LineAction::Without | LineAction::Rewritten { .. } | LineAction::Dropped => Ok(()),
         }
     }
 }
@@ -82,19 +71,18 @@ impl Restamping<'_> {
     fn write_location<L: Sink>(
         &self,
         front: &[u8],
-        column: usize,
-        reason: Reason,
+        refusal: Refusal<Reason>,
         log: &mut L,
     ) -> Result<(), Unwritten>
-        ensures reported { OnOk result (WritesReason (ReportsError greatest_year self.now.job self.now.zone.now self.now.shows_lines front.now column (seen reason))
+        ensures reported { OnOk result (WritesReason (ReportsError greatest_year self.now.job self.now.zone.now self.now.shows_lines front.now refusal.column (seen refusal.reason))
             (L.contents log.old) (L.contents log.new)) }
         ensures cause { HasCause result (L.faults log.old) (L.faults log.new) }
     {
+        let Refusal { column, reason } = refusal;
         let ErrorLocation { column, expected } = self.job.find_location(front, column, reason);
-        let missing_field = self.job.find_missing_field(front, reason);
         let why = Why {
             reason,
-            missing_field,
+            missing_field: self.job.find_missing_field(front, reason),
             zone: self.zone,
         };
         if self.shows_lines {
@@ -163,11 +151,10 @@ pub fn replace<F: Folder, L: Sink + Drop>(
         target.entry.shown.now settings) (L.contents log) (L.contents result.0) result.1)
         before (F.events folder.new) target.entry.name.now (option_map (λ second. second.now) target.entry.backup) result.2) }
 {
-    let shows_lines = request.shows_lines;
     let rewriting = Restamping {
         job: request.job(),
         zone: request.given.local.zone_name(),
-        shows_lines,
+        shows_lines: request.shows_lines,
     };
     replace_file(
         &rewriting,

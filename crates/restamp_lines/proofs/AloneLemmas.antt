@@ -1,6 +1,5 @@
 -- The match from a byte of a line on, unless it starts or ends inside a word or a number.
-use Rattle.std.specs.Prelude.{Option, Result, min, slice_range}
-use Rattle.std.proofs.Common.{◌≡◌, ℕ, ◌+◌, ◌<◌, true, List, length, get_or, drop, refl, None, Some, take}
+use Rattle.std.proofs.Common.{◌≡◌, ℕ, ◌+◌, ◌<◌, true, List, length, get_or, drop, refl, None, Some, take, Option, Result, min, slice_range}
 use Rattle.std.proofs.lemmas.List.{take_min}
 use Rattle.restamp_place.proofs.WordLemmas.{tail_range}
 use Rattle.restamp_formats.specs.Reading.{IsDated}

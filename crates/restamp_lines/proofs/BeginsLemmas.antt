@@ -1,10 +1,9 @@
 -- A format matches nothing from a byte that its texts can't start with.
-use Rattle.std.proofs.Common.{◌≡◌, ℕ, zero, suc, ◌+◌, ◌<◌, ◌≤◌, ◌++◌, ℤ, pos, Bool, true, false, not, List, [], ◌∷◌, codes, length, get_or, take, drop, refl, sym, subst, arith, inl, inr, get_or-drop, get_or-take, ◌∙◌, None, Err}
-use Rattle.std.specs.Prelude.{Option, ◌&&◌, ◌||◌, ◌-ℤ◌}
+use Rattle.std.proofs.Common.{◌≡◌, ℕ, zero, suc, ◌+◌, ◌<◌, ◌≤◌, ◌++◌, ℤ, pos, Bool, true, false, not, List, [], ◌∷◌, codes, length, get_or, take, drop, refl, sym, subst, arith, inl, inr, get_or-drop, get_or-take, ◌∙◌, None, Some, Err, MatchBool, MatchOption, Option, ◌&&◌, ◌||◌, ◌-ℤ◌}
 use Rattle.std.specs.Char.{is_ascii_digit}
 use Rattle.std.proofs.lemmas.Int.{ints}
 use Rattle.std.proofs.lemmas.Bool.{and_from, and_left, or_from, or_left, or_parts, or_right, true≢false}
-use Rattle.std.proofs.lemmas.List.{take_more}
+use Rattle.std.proofs.lemmas.List.Elements.{All-head, All-tail}
 use Rattle.time_values.specs.Refusal.{Refusal, component as of_component}
 use Rattle.time_values.specs.declared.offset_date_time.OffsetDateTime.{OffsetDateTime}
 use Rattle.time_values.specs.declared.utc_offset.UtcOffset.{UtcOffset}
@@ -26,7 +25,7 @@ use Rattle.time_readers.specs.declared.rfc3339.Place.TheVariants.{Year, YearDash
 use Rattle.time_record.specs.Components.{component_fault}
 use Rattle.time_record.specs.Reading.{IsFault, IsFaultAll, NoReading, Reads, ReadsAll, Refuses}
 use Rattle.time_record.specs.Record.{empty}
-use Rattle.restamp_lines.specs.Begins.{IsInNone, component_firsts, digits, format_firsts, has_year, is_in, may_be_of, numbers, padded, steps_firsts}
+use Rattle.restamp_lines.specs.Begins.{IsInNone, IsNotIn, component_firsts, digits, format_firsts, has_year, is_in, may_be_of, numbers, padded, steps_firsts}
 use Rattle.restamp_lines.specs.Job.{AreTriedAlone, MatchesAlone, MatchesFrom, is_inside}
 use Rattle.restamp_formats.specs.Reading.{AreYearsTried, IsDated, IsRead, ParsesLocally, at_offset, in_year, undated, year_after}
 use Rattle.restamp_formats.specs.declared.local.Clocks.{Clocks}
@@ -37,7 +36,6 @@ use Rattle.restamp_lines.specs.declared.job.TheConstants.{REACH}
 use Rattle.restamp_formats.specs.declared.reading.Defaults.{Defaults}
 use Rattle.restamp_formats.specs.declared.reading.Reading.{Reading}
 use Rattle.restamp_formats.specs.declared.reading.Reading.TheVariants as reading
-use Rattle.restamp_lines.proofs.CaseLemmas.{MatchBool-from, MatchOption-from}
 use Rattle.restamp_lines.proofs.MailBegins.{digit-first, mail-fails, run-first}
 
 -- the first byte of a text
@@ -130,10 +128,18 @@ refused Y reading.Rfc3339 text none = (of_component (codes "year"), λ defaults.
 refused Y (reading.Zoned zones) text none = (of_component (codes "year"), λ defaults. (Err _, inl (Year, year-fails text none, refl), refl))
 refused Y reading.Rfc2822 text none =
     (of_component (codes "day"), λ defaults. (Err _, (Err _, inl (mail_place.Day, mail-fails text none, refl), refl), refl))
-refused Y reading.Iso8601 text none = absurd (true≢false none)
+refused Y reading.Iso8601 text none = absurd (grind (arith, or_parts))
 refused Y (reading.Described d) text none = let h = steps-refuse Y d text none in (h.0, λ defaults. (Err h.0, inl h.1, refl))
 refused Y (reading.Complete d) text none = let h = steps-refuse Y d text none in (h.0, λ defaults. (Err h.0, inl h.1, refl))
 refused Y (reading.Counted d) text none = let h = steps-refuse Y d text none in (h.0, λ defaults. (Err h.0, inl h.1, refl))
+
+MatchBool-from : (b : Bool) {P Q : Type 0} → (b ≡ true → P) → (b ≡ false → Q) → MatchBool b P Q
+MatchBool-from true on off = on refl
+MatchBool-from false on off = off refl
+
+MatchOption-from : {A : Type 0} (o : Option A) {P : Type 0} {Q : A → Type 0} → P → ((a : A) → Q a) → MatchOption o P Q
+MatchOption-from None p q = p
+MatchOption-from (Some a) p q = q a
 
 -- an offset of 0
 no_offset : UtcOffset
@@ -191,7 +197,11 @@ tried-nothing : (Y : ℕ) (job : Job) (line : List ℕ) (k : ℕ) (formats : Lis
     → AreTriedAlone Y job line k formats None
 tried-nothing Y job line k [] none = refl
 tried-nothing Y job line k (format ∷ formats) none =
-    (None, matches-nothing Y job line k format (unlike format (drop k line) none.0), tried-nothing Y job line k formats none.1)
+    let x = first (drop k line) in (
+      None,
+      matches-nothing Y job line k format (unlike format (drop k line) (All-head (IsNotIn x) format formats none)),
+      tried-nothing Y job line k formats (All-tail (IsNotIn x) format formats none),
+    )
 
 -- The line has no match at all from a byte that is inside a word or a number, or that no text of any format starts with.
 pub matches-none : (Y : ℕ) (job : Job) (line : List ℕ) (f : Firsts)
@@ -211,15 +221,3 @@ joined a b = record { signs = a.signs || b.signs; mail = a.mail || b.mail; other
 -- a byte that isn't among the joined first bytes is in neither set
 pub in-joined : (a b : Firsts) (x : ℕ) → is_in (joined a b) x ≡ false → (is_in a x ≡ false) × (is_in b x ≡ false)
 in-joined a b x none = (grind (arith, or_parts), grind (arith, or_parts))
-
-none-push : (x : ℕ) (formats : List Reading) (format : Reading) → IsInNone x formats → is_in (format_firsts format) x ≡ false
-    → IsInNone x (formats ++ format ∷ [])
-none-push x [] format none h = (h, tt)
-none-push x (first ∷ formats) format none h = (none.0, none-push x formats format none.1 h)
-
--- no text of one more format starts with the byte
-pub none-more : (x : ℕ) (formats : List Reading) (i : ℕ) (format : Reading) → i < length formats → format ≡ get_or formats i format
-    → IsInNone x (take i formats) → is_in (format_firsts format) x ≡ false → IsInNone x (take (i + 1) formats)
-none-more x formats i format below is none h =
-    let more : take (i + 1) formats ≡ take i formats ++ format ∷ [] = take_more formats i format below ∙ rw (← is) refl in
-    rw more (none-push x (take i formats) format none h)

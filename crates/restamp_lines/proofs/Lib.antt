@@ -1,4 +1,3 @@
-mod CaseLemmas
 mod MailBegins
 pub mod BeginsLemmas
 pub mod OneVerdict

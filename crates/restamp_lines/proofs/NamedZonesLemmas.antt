@@ -1,15 +1,14 @@
 -- A verdict is unchanged by tables of zones that differ only in names that aren't in the line.
-use Rattle.std.proofs.Common.{◌≡◌, ℕ, Bool, true, false, List, [], ◌∷◌, take, drop, ◌∙◌, None, Some}
-use Rattle.std.specs.Prelude.{Option, MatchOption, MatchBool, slice_range}
+use Rattle.std.proofs.Common.{◌≡◌, ℕ, Bool, true, false, List, [], ◌∷◌, take, drop, ◌∙◌, None, Some, Option, MatchOption, MatchBool, is_some, option_map, slice_range}
 use Rattle.std.proofs.lemmas.Result.{MatchResult-weaker}
 use Rattle.time_values.specs.Calendar.{greatest_year}
 use Rattle.time_zones.specs.Suffix.{StandsIn}
-use Rattle.restamp_place.specs.Cuts as Cuts
-use Rattle.restamp_place.specs.Cuts.{span_of, body_of, body_length}
+use Rattle.restamp_place.specs.Cuts.{span_of, body_of, body_length, is_prefix}
 use Rattle.restamp_place.specs.declared.cuts.Place.{Place}
-use Rattle.restamp_lines.specs.Job.{Verdict, IsJudgedAnywhere, IsJudgedAt, IsJudgedPart, IsPut, IsFirst, MatchesAlone, AreTriedAlone, MatchesFrom, is_inside, missed}
+use Rattle.restamp_place.specs.declared.fields.Span.{Span}
+use Rattle.restamp_lines.specs.Job.{Verdict, IsJudgedAnywhere, IsJudgedIn, part_in, part_of, IsPut, IsFirst, MatchesAlone, AreTriedAlone, MatchesFrom, is_inside, missed}
 use Rattle.restamp_formats.specs.Laws.{AreEquivalent, AllEquivalent}
-use Rattle.restamp_lines.specs.Laws.{DiffersInZones, NeedsNamedZones}
+use Rattle.restamp_lines.specs.Laws.{DiffersInZones, DependsOnNamedZones}
 use Rattle.restamp_lines.specs.declared.job.Job.{Job}
 use Rattle.restamp_lines.specs.declared.job.TheConstants.{REACH}
 use Rattle.restamp_formats.specs.declared.reading.Reading.{Reading}
@@ -18,29 +17,20 @@ use Rattle.restamp_formats.proofs.EquivalentFormats.{deeper, of_take, of_drop, o
 
 -- what follows in each case follows in all of them
 bool_alike : (b : Bool) {P Q P' Q' : Type 0} → (P → P') → (Q → Q') → MatchBool b P Q → MatchBool b P' Q'
-bool_alike true f g p = f p
-bool_alike false f g q = g q
+bool_alike true f g = f
+bool_alike false f g = g
 
 option_alike : {A : Type 0} (o : Option A) {P P' : Type 0} {Q Q' : A → Type 0} → (P → P') → ((a : A) → Q a → Q' a)
     → MatchOption o P Q → MatchOption o P' Q'
-option_alike None f g p = f p
-option_alike (Some a) f g q = g a q
+option_alike None f g = f
+option_alike (Some a) f g = g a
 
 module _ (Y : ℕ) (job other : Job) (line : List ℕ) (same : DiffersInZones line job other) where
-  put_alike : (start : ℕ) (said : Match) (verdict : Verdict) → IsPut Y job start said verdict → IsPut Y other start said verdict
-  put_alike start said verdict p = rw (same.form, same.since, same.until) at p
+  put_alike : (start : ℕ) (matched : Match) (verdict : Verdict) → IsPut Y job start matched verdict → IsPut Y other start matched verdict
+  put_alike start matched verdict p = rw (same.form, same.since, same.until) at p
 
   missed_alike : missed job ≡ missed other
   missed_alike = cc
-
-  judged_part : (is_prefix : Bool) (start : ℕ) (text : List ℕ) (verdict : Verdict) → StandsIn text line
-      → IsJudgedPart Y job is_prefix start text verdict → IsJudgedPart Y other is_prefix start text verdict
-  judged_part is_prefix start text verdict stands p = (
-    p.0,
-    rw same.defaults at (in_turn_alike Y is_prefix text _ _ _ _ job.defaults p.0 (part_alike text line _ _ stands same.first)
-        (parts_alike text line _ _ stands same.others) p.1),
-    MatchResult-weaker p.0 p.2 (λ said. put_alike start said verdict) (λ e is. is),
-  )
 
   says_alone : (body : List ℕ) (k : ℕ) (format next : Reading) (a : Option Match) → StandsIn body line → AreEquivalent line format next
       → MatchesAlone Y job body k format a → MatchesAlone Y other body k next a
@@ -80,12 +70,25 @@ module _ (Y : ℕ) (job other : Job) (line : List ℕ) (same : DiffersInZones li
     option_alike p.0 (λ is. is ∙ missed_alike) (λ f. put_alike f.0 f.1 verdict) p.2,
   )
 
-  judged_at : (at : Place) (verdict : Verdict) → IsJudgedAt Y job at line verdict → IsJudgedAt Y other at line verdict
-  judged_at at verdict =
-      option_alike (span_of at line) (λ is. is ∙ missed_alike)
-      (λ s. judged_part (Cuts.is_prefix at) s.start (slice_range line s.start s.stop) verdict (of_range s.start s.stop line))
+  judged_in : (found : Option Span) (prefix : Bool) (verdict : Verdict) → IsJudgedIn Y job (option_map (part_in line prefix) found) verdict
+      → IsJudgedIn Y other (option_map (part_in line prefix) found) verdict
+  judged_in None prefix verdict p = p ∙ missed_alike
+  judged_in (Some span) prefix verdict p =
+      let text = slice_range line span.start span.stop in
+      let stands = of_range span.start span.stop line in (
+        p.0,
+        rw same.defaults at (in_turn_alike Y prefix text _ _ _ _ job.defaults p.0 (part_alike text line _ _ stands same.first)
+            (parts_alike text line _ _ stands same.others) p.1),
+        MatchResult-weaker p.0 p.2 (λ matched. put_alike span.start matched verdict) (λ e is. is),
+      )
 
-pub needs_named_zones : NeedsNamedZones greatest_year
+  judged_at : (place : Option Place) (verdict : Verdict) → IsJudgedIn Y job (part_of place line) verdict
+      → IsJudgedIn Y other (part_of place line) verdict
+  judged_at None verdict = λ p. p ∙ missed_alike
+  judged_at (Some place) verdict = judged_in (span_of place line) (is_prefix place) verdict
+
+pub needs_named_zones : DependsOnNamedZones greatest_year
 needs_named_zones job other line verdict same p =
     let Y = greatest_year in
-    rw (← same.place) (option_alike job.place (judged_anywhere Y job other line same verdict) (λ at. judged_at Y job other line same at verdict) p)
+    rw (← same.place) (bool_alike (is_some job.place) (judged_at Y job other line same job.place verdict)
+    (judged_anywhere Y job other line same verdict) p)

@@ -1,20 +1,19 @@
 -- A second run changes nothing.
-use Rattle.std.proofs.Common.{◌≡◌, ℕ, ◌+◌, Bool, true, false, List, length, subst, refl, arith, None, Some, Ok}
-use Rattle.std.specs.Prelude.{Option, nat_lt, MatchBool}
+use Rattle.std.proofs.Common.{◌≡◌, ℕ, ◌+◌, Bool, true, false, List, length, subst, refl, arith, None, Some, Ok, Option, nat_lt, MatchBool}
 use Rattle.time_values.specs.Moments.{offset_instant}
 use Rattle.time_values.specs.Calendar.{greatest_year}
 use Rattle.time_values.specs.Shown.{Items}
 use Rattle.time_values.specs.declared.offset_date_time.OffsetDateTime.{OffsetDateTime}
-use Rattle.restamp_place.specs.Cuts.{span_of}
 use Rattle.restamp_formats.specs.Form.{IsWritten}
-use Rattle.restamp_lines.specs.Job.{Verdict, IsPut, IsJudged, is_before, is_kept, rewritten, dropped, refused}
+use Rattle.restamp_stream.specs.declared.action.LineAction.TheVariants.{Dropped}
+use Rattle.restamp_lines.specs.Job.{Verdict, IsPut, IsJudged, is_before, is_kept, rewritten, refused}
 use Rattle.restamp_lines.specs.Laws.{ChangesNothing}
 use Rattle.restamp_formats.specs.Reading.{said}
 use Rattle.restamp_formats.specs.Reason.{too_far}
 use Rattle.restamp_lines.specs.declared.job.Job.{Job}
 use Rattle.restamp_lines.specs.declared.job.TheConstants.{LIMIT}
 use Rattle.restamp_lines.proofs.OneVerdict.{one_verdict}
-use Rattle.restamp_formats.proofs.ParseLemmas.{in_turn-first, on_some}
+use Rattle.restamp_formats.proofs.ParseLemmas.{in_turn-first}
 use Rattle.restamp_formats.proofs.WrittenAgain.{back, shown_instant}
 
 -- moments with one instant lie within the same bounds
@@ -31,7 +30,7 @@ same_kept job v w e = rw (same_before job.since v w false e, same_before job.unt
 -- the verdict on a line with a text that is written as itself again, unless the text ends too far behind
 abbrev Put : Bool → Bool → ℕ → List ℕ → Verdict → Type 0
 Put far kept start bytes verdict =
-    MatchBool far (verdict ≡ refused (start + 1) too_far) (MatchBool kept (verdict ≡ rewritten start (length bytes) bytes) (verdict ≡ dropped))
+    MatchBool far (verdict ≡ refused (start + 1) too_far) (MatchBool kept (verdict ≡ rewritten start (length bytes) bytes) (verdict ≡ Dropped))
 
 put_back : (job : Job) (far kept : Bool) (start : ℕ) (w : OffsetDateTime) (bytes : List ℕ) (text : Items)
     → IsWritten greatest_year job.form w (Ok text) → bytes ≡ text.items → is_kept greatest_year job w ≡ kept
@@ -40,16 +39,15 @@ put_back : (job : Job) (far kept : Bool) (start : ℕ) (w : OffsetDateTime) (byt
 put_back job true kept start w bytes text again same e f none = (refused (start + 1) too_far, rw (none, f) refl, refl)
 put_back job false true start w bytes text again same e f none =
     (rewritten start (length bytes) text.items, rw (none, f, e) (Ok text, again, grind arith), cc)
-put_back job false false start w bytes text again same e f none = (dropped, rw (none, f, e) refl, refl)
+put_back job false false start w bytes text again same e f none = (Dropped, rw (none, f, e) refl, refl)
 
 pub changes_nothing : ChangesNothing greatest_year
-changes_nothing job place line span v bytes verdict at closed found part is judged_so =
+changes_nothing job place line span v bytes verdict at closed found here is judged_so =
     let it = back job.first.now job.defaults job.form v bytes is in
     let s = said it.0 (length bytes) in
     let far = nat_lt LIMIT (span.start + length bytes) in
     let put = put_back job far (is_kept greatest_year job v) span.start it.0 bytes it.1.text it.1.again it.1.same
     (same_kept job v it.0 (shown_instant job.form.clock v it.0 it.1.shown)) refl (omega arith) in
     let read = in_turn-first greatest_year job.first.now job.others.now false bytes job.defaults s it.1.says in
-    let first : IsJudged greatest_year job line put.0 =
-    on_some job.place place _ _ at (on_some (span_of place line) span _ _ found (rw (closed, part) (Ok s, read, put.1))) in
+    let first : IsJudged greatest_year job line put.0 = rw (at, found, closed, here) (Ok s, read, put.1) in
     subst (Put far (is_kept greatest_year job v) span.start bytes) (one_verdict job line put.0 verdict first judged_so) put.2

@@ -1,7 +1,7 @@
 -- No public contract rests on this file.
 --
 -- The bytes that the texts of a format may start with.
-use Rattle.std.specs.Prelude.{◌≡◌, ℕ, ◌-◌, Bool, true, false, not, if◌then◌else◌, ◌&&◌, ◌||◌, ◌==◌, List, [], ◌∷◌, slice_index}
+use Rattle.std.specs.Prelude.{◌≡◌, ℕ, ◌-◌, Bool, true, false, not, if◌then◌else◌, ◌&&◌, ◌||◌, ◌==◌, List, ◌∷◌, All, slice_index}
 use Rattle.std.specs.Char.{is_ascii_digit}
 use Rattle.time_digits.specs.declared.Padding.{Padding}
 use Rattle.time_digits.specs.declared.Padding.TheVariants as padding
@@ -52,8 +52,7 @@ is_in f x =
 -- the bytes, or any byte if spaces pad the text
 abbrev pub padded : Padding → Firsts → Firsts
 padded padding.Space f = all
-padded padding.Zero f = f
-padded padding.None f = f
+padded padding f = f
 
 -- the first bytes of a component's text
 abbrev pub component_firsts : Component → Firsts
@@ -83,10 +82,12 @@ format_firsts (reading.Described d) = steps_firsts d
 format_firsts (reading.Complete d) = steps_firsts d
 format_firsts (reading.Counted d) = steps_firsts d
 
--- no text of any of the formats starts with the byte
+-- no text of the format, or of any of the formats, starts with the byte
+abbrev pub IsNotIn : ℕ → Reading → Type 0
+IsNotIn x format = is_in (format_firsts format) x ≡ false
+
 abbrev pub IsInNone : ℕ → List Reading → Type 0
-IsInNone x [] = Unit {0}
-IsInNone x (format ∷ formats) = (is_in (format_firsts format) x ≡ false) × IsInNone x formats
+IsInNone x = All (IsNotIn x)
 
 -- a text may start at that place of a line
 abbrev pub may_begin : Firsts → List ℕ → ℕ → Bool
@@ -113,7 +114,4 @@ abbrev pub may_be_of : Reading → List ℕ → Bool
 may_be_of reading.Rfc3339 bytes = has_year bytes
 may_be_of (reading.Zoned zones) bytes = has_year bytes
 may_be_of reading.Rfc2822 bytes = may_be_mail bytes
-may_be_of reading.Iso8601 bytes = true
-may_be_of (reading.Described d) bytes = is_in (steps_firsts d) (slice_index bytes 0)
-may_be_of (reading.Complete d) bytes = is_in (steps_firsts d) (slice_index bytes 0)
-may_be_of (reading.Counted d) bytes = is_in (steps_firsts d) (slice_index bytes 0)
+may_be_of format bytes = is_in (format_firsts format) (slice_index bytes 0)

@@ -1,5 +1,5 @@
 -- The location of the error in a rejected timestamp, and what was expected there. `Y` is the greatest year.
-use Rattle.std.specs.Prelude.{◌≡◌, ℕ, ◌+◌, ◌⊎◌, Bool, true, false, List, [], drop, slice_range, Option, None, Some, MatchBool, MatchOption, Result, MatchResult, not, ◌&&◌, ◌||◌, if◌then◌else◌, is_some}
+use Rattle.std.specs.Prelude.{◌≡◌, ℕ, ◌+◌, ◌⊎◌, Bool, true, false, List, [], drop, Option, None, Some, MatchBool, MatchOption, Result, MatchResult, not, ◌&&◌, ◌||◌, if◌then◌else◌, is_some, unwrap_or}
 use Rattle.std.specs.Option.{option_map}
 use Rattle.time_values.specs.Refusal.{Refusal, trailing, insufficient}
 use Rattle.time_values.specs.Dates as Dates
@@ -21,10 +21,10 @@ use Rattle.time_locating.specs.Misses.{LocatesTree, Wanted, first_byte, the_end}
 use Rattle.time_locating.specs.Rfc2822 as located_mail
 use Rattle.time_locating.specs.Rfc3339 as located_rfc3339
 use Rattle.time_locating.specs.declared.located.Located.{Located}
-use Rattle.restamp_place.specs.Cuts.{span_of, is_prefix}
 use Rattle.restamp_formats.specs.Reading.{IsReadInFront, completed, has_year, in_year}
 use Rattle.restamp_formats.specs.Reason.{Reason, suffix, unread, text_with}
 use Rattle.restamp_formats.specs.Zoned.{IsLongestSuffix, Suffix}
+use Rattle.restamp_lines.specs.Job.{Part, part_of}
 use Rattle.restamp_lines.specs.declared.job.Job.{Job}
 use Rattle.restamp_formats.specs.declared.reading.Reading.{Reading}
 use Rattle.restamp_formats.specs.declared.reading.Reading.TheVariants as reading
@@ -57,31 +57,27 @@ abbrev pub MatchesPrefix : Outcome.Reading → List ℕ → Bool → Type 0
 MatchesPrefix reads text true = IsMatched true reads text
 MatchesPrefix reads text false = IsMatched true reads text → ⊥
 
--- the column of an index in a part of a line that starts at `start`; the first column of the part if there is no index
-abbrev pub column_at : ℕ → Option ℕ → ℕ
-column_at start None = start + 1
-column_at start (Some index) = start + index + 1
+-- The location of a rejected value in a part: the start of the component that the error reports as out of range, or the
+-- start of the part.
+abbrev pub IsValueLocation : Marking → Part → Refusal → ErrorLocation → Type 0
+IsValueLocation marks p e w =
+    (index : Option ℕ) × IsValueAt marks p.text empty (range_name e) index
+    × (w ≡ error_location (p.start + unwrap_or index 0 + 1) None)
 
--- The location of a rejected value: the start of the component that the error reports as out of range.
-abbrev pub IsValueLocation : Marking → ℕ → List ℕ → Refusal → ErrorLocation → Type 0
-IsValueLocation marks start text e w =
-    (index : Option ℕ) × IsValueAt marks text empty (range_name e) index
-    × (w ≡ error_location (column_at start index) None)
-
--- The location where a format fails to match a part of a line.
-abbrev pub IsMismatchLocation : Outcome.Reading → Locating → ℕ → List ℕ → ErrorLocation → Type 0
-IsMismatchLocation reads locates start text w =
-    (at : Located) × IsLocated reads locates text empty (Some at)
-    × (w ≡ error_location (column_at start (Some at.index)) (Some (wants at.expected)))
+-- The location where a format fails to match a part.
+abbrev pub IsMismatchLocation : Outcome.Reading → Locating → Part → ErrorLocation → Type 0
+IsMismatchLocation reads locates p w =
+    (at : Located) × IsLocated reads locates p.text empty (Some at)
+    × (w ≡ error_location (p.start + at.index + 1) (Some (wants at.expected)))
 
 -- The location of the error in a part of a line that a format of these relations rejects.
-abbrev pub IsLocationBy : Outcome.Reading → Locating → Marking → Bool → ℕ → List ℕ → Refusal → ErrorLocation → Type 0
-IsLocationBy reads locates marks is_prefix start text e w =
-    (IsMatched is_prefix reads text × IsValueLocation marks start text e w)
-    ⊎ ((IsMatched is_prefix reads text → ⊥) × IsMismatchLocation reads locates start text w)
+abbrev pub IsLocationBy : Outcome.Reading → Locating → Marking → Part → Refusal → ErrorLocation → Type 0
+IsLocationBy reads locates marks p e w =
+    (IsMatched p.is_prefix reads p.text × IsValueLocation marks p e w)
+    ⊎ ((IsMatched p.is_prefix reads p.text → ⊥) × IsMismatchLocation reads locates p w)
 
 -- the location of the error by a description
-abbrev pub IsTreeLocation : ℕ → Tree → Bool → ℕ → List ℕ → Refusal → ErrorLocation → Type 0
+abbrev pub IsTreeLocation : ℕ → Tree → Part → Refusal → ErrorLocation → Type 0
 IsTreeLocation Y tree = IsLocationBy (Description.Reads Y tree) (LocatesTree Y first_byte tree) (MarksTree Y tree)
 
 -- bytes follow the text
@@ -89,77 +85,58 @@ abbrev pub is_trailing : Refusal → Bool
 is_trailing trailing = true
 is_trailing e = false
 
--- the location of the error in a prefix by RFC 3339
-abbrev pub IsPrefixLocation : ℕ → ℕ → List ℕ → Refusal → ErrorLocation → Type 0
-IsPrefixLocation Y = IsLocationBy (Rfc3339.Reads Y) located_rfc3339.Locates located_rfc3339.Marks true
+-- the location of the error by RFC 3339
+abbrev pub IsRfc3339Location : ℕ → Part → Refusal → ErrorLocation → Type 0
+IsRfc3339Location Y = IsLocationBy (Rfc3339.Reads Y) located_rfc3339.Locates located_rfc3339.Marks
 
 -- the location behind the suffix that follows a prefix by RFC 3339
-abbrev pub IsLocationBehind : ℕ → List ℕ → Match → ErrorLocation → Type 0
-IsLocationBehind start text front w =
-    (s : Suffix) × IsLongestSuffix (drop front.length text) s
-    × (w ≡ error_location (start + front.length + s.len + 1) (Some the_end))
+abbrev pub IsLocationBehind : Part → Match → ErrorLocation → Type 0
+IsLocationBehind p front w =
+    (s : Suffix) × IsLongestSuffix (drop front.length p.text) s
+    × (w ≡ error_location (p.start + front.length + s.len + 1) (Some the_end))
 
 -- the location of bytes that follow a text with a suffix
-abbrev pub IsTailLocation : ℕ → ℕ → List ℕ → Refusal → ErrorLocation → Type 0
-IsTailLocation Y start text e w =
-    (outcome : Result Match Refusal) × IsReadInFront Y text outcome
-    × MatchResult outcome (λ front. IsLocationBehind start text front w) (λ _. IsPrefixLocation Y start text e w)
+abbrev pub IsTailLocation : ℕ → Part → Refusal → ErrorLocation → Type 0
+IsTailLocation Y p e w =
+    (outcome : Result Match Refusal) × IsReadInFront Y p.text outcome
+    × MatchResult outcome (λ front. IsLocationBehind p front w) (λ _. IsRfc3339Location Y p e w)
 
 -- the location of the error in a part of a line that may have a suffix
-abbrev pub IsZonedLocation : ℕ → ℕ → List ℕ → Refusal → ErrorLocation → Type 0
-IsZonedLocation Y start text e w =
-    MatchBool (is_trailing e) (IsTailLocation Y start text e w) (IsPrefixLocation Y start text e w)
+abbrev pub IsZonedLocation : ℕ → Part → Refusal → ErrorLocation → Type 0
+IsZonedLocation Y p e w =
+    let front = record p { is_prefix = true } in
+    MatchBool (is_trailing e) (IsTailLocation Y front e w) (IsRfc3339Location Y front e w)
 
 -- The location of the error by any of the formats. Defaults have no effect, since they only supply what a text omits.
-abbrev pub IsPartLocation : ℕ → Reading → Bool → ℕ → List ℕ → Refusal → ErrorLocation → Type 0
-IsPartLocation Y reading.Rfc3339 = IsLocationBy (Rfc3339.Reads Y) located_rfc3339.Locates located_rfc3339.Marks
-IsPartLocation Y (reading.Zoned zones) = λ _. IsZonedLocation Y
+abbrev pub IsPartLocation : ℕ → Reading → Part → Refusal → ErrorLocation → Type 0
+IsPartLocation Y reading.Rfc3339 = IsRfc3339Location Y
+IsPartLocation Y (reading.Zoned zones) = IsZonedLocation Y
 IsPartLocation Y reading.Rfc2822 = IsLocationBy (Rfc2822.Reads Y) located_mail.Locates located_mail.Marks
 IsPartLocation Y reading.Iso8601 = IsLocationBy (Iso8601.Reads Y) (located_iso.Locates Y) (iso_marks.Marks Y)
 IsPartLocation Y (reading.Described d) = IsTreeLocation Y (steps_shape d)
 IsPartLocation Y (reading.Complete d) = IsTreeLocation Y (steps_shape d)
 IsPartLocation Y (reading.Counted d) = IsTreeLocation Y (steps_shape d)
 
--- the error of a timestamp that no format matches
-abbrev pub refusal_in : Reason → Option Refusal
-refusal_in (unread e) = Some e
-refusal_in reason = None
-
--- The location of the error in a line whose timestamp no format matches, by the first format; `otherwise` if the line
--- has no timestamp.
-abbrev pub IsUnreadAt : ℕ → Job → List ℕ → Refusal → ErrorLocation → ErrorLocation → Type 0
-IsUnreadAt Y job line e otherwise w =
-    MatchOption job.place (w ≡ otherwise)
-    (λ place. MatchOption (span_of place line) (w ≡ otherwise)
-    (λ span. IsPartLocation Y job.first.now (is_prefix place) span.start (slice_range line span.start span.stop) e w))
-
--- a suffix rejects the moment
-abbrev pub is_of_suffix : Reason → Bool
-is_of_suffix (suffix fault) = true
-is_of_suffix reason = false
-
 -- The location of a suffix that rejects the moment of its prefix by RFC 3339; `otherwise` if there is no such
 -- prefix.
-abbrev pub IsSuffixLocation : ℕ → ℕ → List ℕ → ErrorLocation → ErrorLocation → Type 0
-IsSuffixLocation Y start text otherwise w =
-    (outcome : Result Match Refusal) × IsReadInFront Y text outcome
-    × MatchResult outcome (λ front. w ≡ error_location (start + front.length + 1) None) (λ _. w ≡ otherwise)
+abbrev pub IsSuffixLocation : ℕ → Part → ErrorLocation → ErrorLocation → Type 0
+IsSuffixLocation Y p otherwise w =
+    (outcome : Result Match Refusal) × IsReadInFront Y p.text outcome
+    × MatchResult outcome (λ front. w ≡ error_location (p.start + front.length + 1) None) (λ _. w ≡ otherwise)
 
--- the location of that suffix in a line; `otherwise` if the line has no timestamp
-abbrev pub IsRefusedBySuffix : ℕ → Job → List ℕ → ErrorLocation → ErrorLocation → Type 0
-IsRefusedBySuffix Y job line otherwise w =
-    MatchOption job.place (w ≡ otherwise)
-    (λ place. MatchOption (span_of place line) (w ≡ otherwise)
-    (λ span. IsSuffixLocation Y span.start (slice_range line span.start span.stop) otherwise w))
+-- The location of the error in a part that was rejected for a reason: `otherwise`, unless no format matches it, or its
+-- suffix rejects it. If no format matches, it is the location by the first.
+abbrev pub IsReasonLocation : ℕ → Reading → Part → Reason → ErrorLocation → ErrorLocation → Type 0
+IsReasonLocation Y format p (unread e) otherwise w = IsPartLocation Y format p e w
+IsReasonLocation Y format p (suffix fault) otherwise w = IsSuffixLocation Y p otherwise w
+IsReasonLocation Y format p reason otherwise w = w ≡ otherwise
 
--- The location of the error in a timestamp that was rejected at a column for a reason: that column, unless no format
--- matches it, or its suffix rejects it.
+-- The location of the error in a timestamp that was rejected at a column for a reason: that column if the line has no
+-- part for a timestamp.
 abbrev pub IsErrorLocation : ℕ → Job → List ℕ → ℕ → Reason → ErrorLocation → Type 0
 IsErrorLocation Y job line column reason w =
-    MatchOption (refusal_in reason)
-    (MatchBool (is_of_suffix reason) (IsRefusedBySuffix Y job line (error_location column None) w)
-    (w ≡ error_location column None))
-    (λ e. IsUnreadAt Y job line e (error_location column None) w)
+    MatchOption (part_of job.place line) (w ≡ error_location column None)
+    (λ p. IsReasonLocation Y job.first.now p reason (error_location column None) w)
 
 -- The error has one location, and one report of what was expected there, which may be `None`.
 abbrev pub OneErrorLocation : ℕ → Type 0
@@ -228,35 +205,24 @@ IsMissingFieldBy Y reads refuses defaults text result =
 -- The missing part by any of the formats. RFC 3339 and RFC 2822 give all of a moment, and a complete description gets
 -- no defaults.
 abbrev pub IsMissingFieldIn : ℕ → Reading → Defaults → List ℕ → Option MissingField → Type 0
-IsMissingFieldIn Y reading.Rfc3339 defaults text result = result ≡ None
-IsMissingFieldIn Y (reading.Zoned zones) defaults text result = result ≡ None
-IsMissingFieldIn Y reading.Rfc2822 defaults text result = result ≡ None
-IsMissingFieldIn Y reading.Iso8601 defaults text result =
-    IsMissingFieldBy Y (Iso8601.Reads Y) (Iso8601.Refuses Y) defaults text result
-IsMissingFieldIn Y (reading.Described d) defaults text result =
-    IsMissingFieldBy Y (Description.Reads Y (steps_shape d))
-    (Description.Refuses Y (steps_shape d)) defaults text result
-IsMissingFieldIn Y (reading.Complete d) defaults text result = result ≡ None
-IsMissingFieldIn Y (reading.Counted d) defaults text result =
-    IsMissingFieldBy Y (Description.Reads Y (steps_shape d))
-    (Description.Refuses Y (steps_shape d)) defaults text result
+IsMissingFieldIn Y reading.Iso8601 = IsMissingFieldBy Y (Iso8601.Reads Y) (Iso8601.Refuses Y)
+IsMissingFieldIn Y (reading.Described d) =
+    IsMissingFieldBy Y (Description.Reads Y (steps_shape d)) (Description.Refuses Y (steps_shape d))
+IsMissingFieldIn Y (reading.Counted d) =
+    IsMissingFieldBy Y (Description.Reads Y (steps_shape d)) (Description.Refuses Y (steps_shape d))
+IsMissingFieldIn Y format = λ defaults text result. result ≡ None
 
--- the error for missing information, and the reason with it
-abbrev pub is_incomplete : Refusal → Bool
-is_incomplete insufficient = true
-is_incomplete e = false
-
+-- information is missing
 abbrev pub is_insufficient : Reason → Bool
-is_insufficient (unread e) = is_incomplete e
+is_insufficient (unread insufficient) = true
 is_insufficient reason = false
 
 -- The missing part of a line's timestamp that was rejected for a reason, by the first format.
 abbrev pub IsMissingField : ℕ → Job → List ℕ → Reason → Option MissingField → Type 0
 IsMissingField Y job line reason result =
     MatchBool (is_insufficient reason)
-    (MatchOption job.place (result ≡ None)
-    (λ place. MatchOption (span_of place line) (result ≡ None)
-    (λ span. IsMissingFieldIn Y job.first.now (dated job.defaults) (slice_range line span.start span.stop) result)))
+    (MatchOption (part_of job.place line) (result ≡ None)
+    (λ p. IsMissingFieldIn Y job.first.now (dated job.defaults) p.text result))
     (result ≡ None)
 
 -- the printed text of why a timestamp isn't rewritten, with the name of its zone: the reason, or the missing part in

@@ -1,44 +1,47 @@
 -- The verdict on a line. `Y` is the greatest year.
-use Rattle.std.specs.Prelude.{◌≡◌, ℕ, ◌+◌, ◌-◌, ◌<◌, ◌≤◌, nat_lt, Bool, true, false, MatchBool, ◌&&◌, not, int_lt, List, [], ◌∷◌, length, take, drop, slice_index, slice_range, if◌then◌else◌, Option, None, Some, Result, Ok, Err, MatchOption, MatchResult}
+use Rattle.std.specs.Prelude.{◌≡◌, ℕ, ◌+◌, ◌-◌, ◌<◌, ◌≤◌, nat_lt, Bool, true, false, MatchBool, ◌&&◌, not, int_lt, List, [], ◌∷◌, length, take, drop, slice_index, slice_range, if◌then◌else◌, Option, None, Some, is_some, Result, Ok, Err, MatchOption, MatchResult}
 use Rattle.std.specs.Char.{is_ascii_alphanumeric}
+use Rattle.std.specs.Option.{option_map}
+use Rattle.restamp_place.specs.declared.cuts.Place.{Place}
+use Rattle.restamp_place.specs.declared.fields.Span.{Span}
 use Rattle.time_values.specs.Moments.{offset_instant}
 use Rattle.time_values.specs.Shown.{Items}
 use Rattle.time_values.specs.declared.offset_date_time.OffsetDateTime.{OffsetDateTime}
 use Rattle.restamp_place.specs.Cuts.{span_of, body_of, is_prefix}
-use Rattle.restamp_place.specs.declared.cuts.Place.{Place}
 use Rattle.restamp_formats.specs.Form.{IsWritten}
 use Rattle.restamp_formats.specs.Reading.{IsDated, IsReadInTurn}
 use Rattle.restamp_formats.specs.Reason.{Reason, missing, too_far}
 use Rattle.restamp_lines.specs.declared.job.Job.{Job}
 use Rattle.restamp_lines.specs.declared.job.TheConstants.{LIMIT, REACH}
-use Rattle.restamp_lines.specs.declared.job.Verdict as declared
-use Rattle.restamp_lines.specs.declared.job.Verdict.TheVariants as variant
+use Rattle.restamp_lines.specs.declared.part.Part as declared_part
+use Rattle.restamp_lines.specs.declared.job.Refusal.{Refusal}
+use Rattle.restamp_stream.specs.declared.action.LineAction.{LineAction}
+use Rattle.restamp_stream.specs.declared.action.LineAction.TheVariants.{Without, Rewritten, Dropped, Refused}
 use Rattle.restamp_formats.specs.declared.reading.Reading.{Reading}
 use Rattle.restamp_formats.specs.declared.reading.Match.{Match}
 
--- The verdict on a line: it has no timestamp; a text replaces `length` bytes from `start` on; it is dropped; or it is
--- kept, and reported with a column from 1 and a reason.
-pub data Verdict : Type 0 where
-  without : Verdict
-  rewritten : ℕ → ℕ → List ℕ → Verdict
-  dropped : Verdict
-  refused : ℕ → Reason → Verdict
+-- The verdict on a line: its action. A line is rejected with a column from 1, and a reason.
+abbrev pub Verdict : Type 0
+Verdict = LineAction (Refusal Reason)
 
--- The verdict satisfies a relation, with `text` as the text of a rewritten line. `IsOf` relates the reason of a
--- rejected line to what the caller keeps of it.
-abbrev pub GivesVerdict : {E : Type 0} → (Reason → E → Type 0) → (Verdict → Type 0) → declared.Verdict E → Items
-    → Type 0
-GivesVerdict IsOf P variant.Without text = P without
-GivesVerdict IsOf P (variant.Rewritten start length) text = P (rewritten start length text.items)
-GivesVerdict IsOf P variant.Dropped text = P dropped
-GivesVerdict IsOf P (variant.Refused column e) text = (reason : Reason) × IsOf reason e × P (refused column reason)
+-- a text replaces `length` bytes from `start` on
+abbrev pub rewritten : ℕ → ℕ → List ℕ → Verdict
+rewritten start length text = Rewritten start (start + length) (record { items = text })
 
--- the replaced bytes end within the first n bytes
-abbrev pub EndsWithin : {E : Type 0} → ℕ → declared.Verdict E → Type 0
-EndsWithin n variant.Without = Unit {0}
-EndsWithin n (variant.Rewritten start length) = start + length ≤ n
-EndsWithin n variant.Dropped = Unit {0}
-EndsWithin n (variant.Refused column e) = Unit {0}
+abbrev pub refused : ℕ → Reason → Verdict
+refused column reason = Refused (record { column = column; reason = reason })
+
+-- The verdict satisfies a relation. `IsOf` relates the reason of a rejected line to what the caller keeps of it.
+abbrev pub GivesVerdict : {E : Type 0} → (Reason → E → Type 0) → (Verdict → Type 0) → LineAction (Refusal E) → Type 0
+GivesVerdict IsOf P Without = P Without
+GivesVerdict IsOf P (Rewritten begin end text) = P (Rewritten begin end text)
+GivesVerdict IsOf P Dropped = P Dropped
+GivesVerdict IsOf P (Refused r) = (reason : Reason) × IsOf reason r.reason × P (refused r.column reason)
+
+-- the replaced bytes are within the first n bytes
+abbrev pub EndsWithin : {R : Type 0} → ℕ → LineAction R → Type 0
+EndsWithin n (Rewritten begin end text) = (begin ≤ end) × (end ≤ n)
+EndsWithin n action = Unit {0}
 
 -- the moment is before the bound; `otherwise` without a bound
 abbrev pub is_before : ℕ → OffsetDateTime → Option OffsetDateTime → Bool → Bool
@@ -51,42 +54,56 @@ is_kept Y job v = not (is_before Y v job.since false) && is_before Y v job.until
 
 -- the verdict on a line with a match in the part that starts at `start`, by the text that replaces it
 abbrev pub verdict_of : ℕ → Match → Result Items Reason → Verdict
-verdict_of start said (Ok text) = rewritten (start + said.start) said.length text.items
-verdict_of start said (Err e) = refused (start + said.start + 1) e
+verdict_of start matched (Ok text) = Rewritten (start + matched.start) (start + matched.start + matched.length) text
+verdict_of start matched (Err e) = refused (start + matched.start + 1) e
 
 -- the verdict on a match whose moment is written
 abbrev pub IsWrittenOver : ℕ → Job → ℕ → Match → Verdict → Type 0
-IsWrittenOver Y job start said verdict =
-    (text : Result Items Reason) × IsWritten Y job.form said.moment text × (verdict ≡ verdict_of start said text)
+IsWrittenOver Y job start matched verdict =
+    (text : Result Items Reason) × IsWritten Y job.form matched.moment text × (verdict ≡ verdict_of start matched text)
 
 -- the verdict on a match whose moment is dropped unless it lies within the bounds
 abbrev pub IsPutWithin : ℕ → Job → ℕ → Match → Verdict → Type 0
-IsPutWithin Y job start said verdict =
-    MatchBool (is_kept Y job said.moment) (IsWrittenOver Y job start said verdict) (verdict ≡ dropped)
+IsPutWithin Y job start matched verdict =
+    MatchBool (is_kept Y job matched.moment) (IsWrittenOver Y job start matched verdict) (verdict ≡ Dropped)
 
 -- The verdict on a match. A match that ends after the first `LIMIT` bytes is rejected, whatever the bounds.
 abbrev pub IsPut : ℕ → Job → ℕ → Match → Verdict → Type 0
-IsPut Y job start said verdict =
-    MatchBool (nat_lt LIMIT (start + said.start + said.length)) (verdict ≡ refused (start + said.start + 1) too_far)
-    (IsPutWithin Y job start said verdict)
+IsPut Y job start matched verdict =
+    MatchBool (nat_lt LIMIT (start + matched.start + matched.length))
+    (verdict ≡ refused (start + matched.start + 1) too_far) (IsPutWithin Y job start matched verdict)
 
 -- the verdict on a line without a timestamp
 abbrev pub missed : Job → Verdict
-missed job = if job.requires_timestamp then refused 1 missing else without
+missed job = if job.requires_timestamp then refused 1 missing else Without
 
--- The verdict on a line whose timestamp is the part that starts at `start`: the first format that matches parses it,
--- and it is written if it lies within the bounds.
-abbrev pub IsJudgedPart : ℕ → Job → Bool → ℕ → List ℕ → Verdict → Type 0
-IsJudgedPart Y job is_prefix start text verdict =
+-- the part of a line that is its timestamp, or that starts with it if `is_prefix` is true
+pub record Part : Type 0 where
+  pub start : ℕ
+  pub is_prefix : Bool
+  pub text : List ℕ
+
+-- the part without the address of its text
+abbrev pub seen_part : declared_part.Part → Part
+seen_part p = record { start = p.start; is_prefix = p.is_prefix; text = p.text.now }
+
+-- the part of a line in that span
+abbrev pub part_in : List ℕ → Bool → Span → Part
+part_in line is_prefix s = record { start = s.start; is_prefix = is_prefix; text = slice_range line s.start s.stop }
+
+-- the part of a line at a place; `None` if there is no place, or the line has no such part
+abbrev pub part_of : Option Place → List ℕ → Option Part
+part_of None line = None
+part_of (Some place) line = option_map (part_in line (is_prefix place)) (span_of place line)
+
+-- The verdict on a line whose timestamp lies in that part, or which has none: the first format that matches parses the
+-- part, and the moment is written if it lies within the bounds.
+abbrev pub IsJudgedIn : ℕ → Job → Option Part → Verdict → Type 0
+IsJudgedIn Y job None verdict = verdict ≡ missed job
+IsJudgedIn Y job (Some p) verdict =
     (read : Result Match Reason)
-    × IsReadInTurn Y job.first.now job.others.now is_prefix text job.defaults read
-    × MatchResult read (λ said. IsPut Y job start said verdict) (λ e. verdict ≡ refused (start + 1) e)
-
--- The verdict on a line whose timestamp is at that place.
-abbrev pub IsJudgedAt : ℕ → Job → Place → List ℕ → Verdict → Type 0
-IsJudgedAt Y job place line verdict =
-    MatchOption (span_of place line) (verdict ≡ missed job)
-    (λ span. IsJudgedPart Y job (is_prefix place) span.start (slice_range line span.start span.stop) verdict)
+    × IsReadInTurn Y job.first.now job.others.now p.is_prefix p.text job.defaults read
+    × MatchResult read (λ matched. IsPut Y job p.start matched verdict) (λ e. verdict ≡ refused (p.start + 1) e)
 
 -- The bytes right before and right at a place of a line are both ASCII letters or digits.
 abbrev pub is_inside : List ℕ → ℕ → Bool
@@ -136,4 +153,5 @@ IsJudgedAnywhere Y job line verdict =
 -- the verdict on a line
 abbrev pub IsJudged : ℕ → Job → List ℕ → Verdict → Type 0
 IsJudged Y job line verdict =
-    MatchOption job.place (IsJudgedAnywhere Y job line verdict) (λ place. IsJudgedAt Y job place line verdict)
+    MatchBool (is_some job.place) (IsJudgedIn Y job (part_of job.place line) verdict)
+    (IsJudgedAnywhere Y job line verdict)

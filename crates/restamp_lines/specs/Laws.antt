@@ -4,7 +4,8 @@ use Rattle.time_values.specs.declared.offset_date_time.OffsetDateTime.{OffsetDat
 use Rattle.restamp_place.specs.Cuts.{span_of, is_prefix}
 use Rattle.restamp_place.specs.declared.cuts.Place.{Place}
 use Rattle.restamp_place.specs.declared.fields.Span.{Span}
-use Rattle.restamp_lines.specs.Job.{Verdict, rewritten, dropped, refused, is_kept, IsJudged}
+use Rattle.restamp_stream.specs.declared.action.LineAction.TheVariants.{Dropped}
+use Rattle.restamp_lines.specs.Job.{Verdict, rewritten, refused, is_kept, IsJudged}
 use Rattle.restamp_formats.specs.Reason.{too_far}
 use Rattle.restamp_lines.specs.declared.job.Job.{Job}
 use Rattle.restamp_lines.specs.declared.job.TheConstants.{LIMIT}
@@ -25,7 +26,7 @@ ChangesNothing Y =
     → slice_range line span.start span.stop ≡ bytes
     → IsReadable Y job.first.now job.defaults job.form v bytes → IsJudged Y job line verdict
     → MatchBool (nat_lt LIMIT (span.start + length bytes)) (verdict ≡ refused (span.start + 1) too_far)
-    (MatchBool (is_kept Y job v) (verdict ≡ rewritten span.start (length bytes) bytes) (verdict ≡ dropped))
+    (MatchBool (is_kept Y job v) (verdict ≡ rewritten span.start (length bytes) bytes) (verdict ≡ Dropped))
 
 -- the jobs are equal, except for tables of zones that have the same zones for each name in the line
 pub record DiffersInZones (line : List ℕ) (job other : Job) : Type 0 where
@@ -39,7 +40,7 @@ pub record DiffersInZones (line : List ℕ) (job other : Job) : Type 0 where
   pub requires_timestamp : job.requires_timestamp ≡ other.requires_timestamp
 
 -- the verdict on a line depends only on zones whose names are in it where a timestamp may end
-abbrev pub NeedsNamedZones : ℕ → Type 0
-NeedsNamedZones Y =
+abbrev pub DependsOnNamedZones : ℕ → Type 0
+DependsOnNamedZones Y =
     (job other : Job) (line : List ℕ) (verdict : Verdict) → DiffersInZones line job other
     → IsJudged Y job line verdict → IsJudged Y other line verdict

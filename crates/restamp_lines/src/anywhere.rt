@@ -8,11 +8,11 @@ ghost use Rattle.restamp_lines.specs.Job as spec;
 
 mod fast;
 
-use crate::job::{Job, REACH, Verdict};
+use crate::job::{Job, REACH, Refusal};
 use fast::Firsts;
 use restamp_formats::{Brief, FromReason, Match, Reading, parse_dated};
 use restamp_place::body_of;
-use time_values::text::Text;
+use restamp_stream::LineAction;
 
 // Whether the bytes right before and right at a place of the line are both ASCII letters or digits.
 fn is_inside(line: &[u8], place: usize) -> bool
@@ -28,26 +28,26 @@ impl Job<'_> {
     // Parses a prefix of the line from a byte on by the format; `None` also where it ends inside a word or a number.
     fn match_alone(&self, line: &[u8], start: usize, reading: &Reading) -> Option<Match>
         requires { start ≤ length line.now }
-        ensures said { spec.MatchesAlone greatest_year self.now line.now start reading.now result }
-        ensures within { IfSome result (λ said. start + said.start + said.length ≤ length line.now) }
+        ensures matched { spec.MatchesAlone greatest_year self.now line.now start reading.now result }
+        ensures within { IfSome result (λ matched. start + matched.start + matched.length ≤ length line.now) }
     {
         let rest = &line[start..];
         let near = &rest[..REACH.min(rest.len())];
-        let Ok(said) = parse_dated::<Brief>(reading, true, near, &self.defaults) else {
+        let Ok(matched) = parse_dated::<Brief>(reading, true, near, &self.defaults) else {
             return None;
         };
-        if is_inside(line, start + said.start + said.length) {
+        if is_inside(line, start + matched.start + matched.length) {
             return None;
         }
-        Some(said)
+        Some(matched)
     }
 
     // Like `match_alone`, without a parse where no text of the format starts with these bytes.
     #[inline(always)]
     fn try_alone(&self, line: &[u8], start: usize, reading: &Reading) -> Option<Match>
         requires { start ≤ length line.now }
-        ensures said { spec.MatchesAlone greatest_year self.now line.now start reading.now result }
-        ensures within { IfSome result (λ said. start + said.start + said.length ≤ length line.now) }
+        ensures matched { spec.MatchesAlone greatest_year self.now line.now start reading.now result }
+        ensures within { IfSome result (λ matched. start + matched.start + matched.length ≤ length line.now) }
     {
         match fast::matches_nothing(self, line, start, reading) {
             Some(()) => None,
@@ -58,12 +58,12 @@ impl Job<'_> {
     // Parses a prefix of the line from a byte on by the first of the other formats that matches.
     fn read_others(&self, line: &[u8], start: usize) -> Option<Match>
         requires { start ≤ length line.now }
-        ensures said { spec.AreTriedAlone greatest_year self.now line.now start self.now.others.now result }
-        ensures within { IfSome result (λ said. start + said.start + said.length ≤ length line.now) }
+        ensures matched { spec.AreTriedAlone greatest_year self.now line.now start self.now.others.now result }
+        ensures within { IfSome result (λ matched. start + matched.start + matched.length ≤ length line.now) }
     {
         for reading in self.others {
-            if let Some(said) = self.try_alone(line, start, reading) {
-                return Some(said);
+            if let Some(matched) = self.try_alone(line, start, reading) {
+                return Some(matched);
             }
         }
         None
@@ -72,21 +72,22 @@ impl Job<'_> {
     // Parses a prefix of the line from a byte on that isn't inside a word or a number.
     fn match_from(&self, line: &[u8], start: usize) -> Option<Match>
         requires { start ≤ length line.now }
-        ensures said { spec.MatchesFrom greatest_year self.now line.now start result }
-        ensures within { IfSome result (λ said. start + said.start + said.length ≤ length line.now) }
+        ensures matched { spec.MatchesFrom greatest_year self.now line.now start result }
+        ensures within { IfSome result (λ matched. start + matched.start + matched.length ≤ length line.now) }
     {
         if is_inside(line, start) {
             return None;
         }
         match self.try_alone(line, start, self.first) {
-            Some(said) => Some(said),
+            Some(matched) => Some(matched),
             None => self.read_others(line, start),
         }
     }
 
     // The next place, from that one on, with a byte that a timestamp can start with; that place itself if unknown.
     fn next_start(&self, firsts: Option<Firsts>, line: &[u8], from: usize) -> usize
-        requires from { from ≤ length line.now }
+        requires some { 0 < from }
+        requires within { from ≤ length line.now }
         requires firsts { IfSome firsts (λ firsts. (x : ℕ) → begins.is_in firsts x ≡ false
             → begins.IsInNone x (self.now.first.now ∷ self.now.others.now)) }
         ensures low { from ≤ result }
@@ -108,10 +109,10 @@ impl Job<'_> {
         ensures within { IfSome result (λ found. found.0 + found.1.start + found.1.length ≤ length line.now) }
     {
         let firsts = fast::all_firsts(self.first, self.others);
-        let mut start = self.next_start(firsts, line, 0);
+        let mut start = 0;
         while start < line.len() {
-            if let Some(said) = self.match_from(line, start) {
-                return Some((start, said));
+            if let Some(matched) = self.match_from(line, start) {
+                return Some((start, matched));
             }
             start = self.next_start(firsts, line, start + 1);
         }
@@ -120,13 +121,12 @@ impl Job<'_> {
 
     // The verdict on a line whose timestamp may be anywhere but in a CR at its end.
     #[inline(never)]
-    pub(crate) fn judge_anywhere<E: FromReason>(&self, line: &[u8], text: &mut Text) -> Verdict<E>
-        ensures verdict { spec.GivesVerdict E.is_of (spec.IsJudgedAnywhere greatest_year self.now line.now) result text.new }
+    pub(crate) fn judge_anywhere<E: FromReason>(&self, line: &[u8]) -> LineAction<Refusal<E>>
+        ensures verdict { spec.GivesVerdict E.is_of (spec.IsJudgedAnywhere greatest_year self.now line.now) result }
         ensures within { spec.EndsWithin (length line.now) result }
     {
-        let body = body_of(line);
-        match self.find_first(body) {
-            Some((start, said)) => self.put(start, said, text),
+        match self.find_first(body_of(line)) {
+            Some((start, matched)) => self.put(start, matched),
             None => self.miss(),
         }
     }

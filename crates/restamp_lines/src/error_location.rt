@@ -1,5 +1,5 @@
 //! Locates the error in a rejected timestamp.
-ghost use Rattle.std.specs.Prelude.{◌≡◌, ◌+◌, ◌<◌, ◌^◌, length};
+ghost use Rattle.std.specs.Prelude.{◌≡◌};
 ghost use Rattle.std.specs.Option.{option_map};
 ghost use Rattle.time_values.specs.Calendar.{greatest_year};
 ghost use Rattle.time_values.specs.Refusal.{refusal_of};
@@ -7,10 +7,11 @@ ghost use Rattle.time_record.specs.Record.{empty};
 ghost use Rattle.time_locating.specs.Located as located;
 ghost use Rattle.restamp_formats.specs.Reason.{seen};
 ghost use Rattle.restamp_lines.specs.ErrorLocation as spec;
+ghost use Rattle.restamp_lines.specs.Job.{seen_part};
 
 use crate::job::Job;
+use crate::part::Part;
 use restamp_formats::{Reading, Reason, read_front_3339};
-use restamp_place::find_span;
 use time_locating::{Expected, Locate};
 use time_parsing::{Iso8601, Parsable, Rfc2822, Rfc3339};
 use time_record::Parsed;
@@ -57,44 +58,31 @@ fn index_of_value<F: Locate>(format: &F, text: &[u8], error: Parse) -> Option<us
     }
 }
 
-// Locates a rejected value in a part of a line that starts at `start`.
-fn find_value<'f, F: Locate>(
-    format: &F,
-    start: usize,
-    text: &[u8],
-    error: Parse,
-) -> ErrorLocation<'f>
-    requires { start + length text.now + 1 < 2 ^ 64 }
-    ensures { spec.IsValueLocation (F.marks format.now) start text.now (refusal_of error) (spec.erased_location result) }
+// Locates a rejected value in a part of a line.
+fn find_value<'f, F: Locate>(format: &F, part: Part<'_>, error: Parse) -> ErrorLocation<'f>
+    ensures { spec.IsValueLocation (F.marks format.now) (seen_part part.entry) (refusal_of error) (spec.erased_location result) }
 {
-    let index = index_of_value(format, text, error).unwrap_or(0);
+    let index = index_of_value(format, part.text, error).unwrap_or(0);
     ErrorLocation {
-        column: start + index + 1,
+        column: part.start + index + 1,
         expected: None,
     }
 }
 
 // Locates the error in a part of a line that the format rejects.
-fn find_by<'f, F: Locate>(
-    format: &'f F,
-    is_prefix: bool,
-    start: usize,
-    text: &[u8],
-    error: Parse,
-) -> ErrorLocation<'f>
-    requires { start + length text.now + 1 < 2 ^ 64 }
-    ensures { spec.IsLocationBy (F.reads format.now) (F.locates format.now) (F.marks format.now) is_prefix start text.now
+fn find_by<'f, F: Locate>(format: &'f F, part: Part<'_>, error: Parse) -> ErrorLocation<'f>
+    ensures { spec.IsLocationBy (F.reads format.now) (F.locates format.now) (F.marks format.now) (seen_part part.entry)
         (refusal_of error) (spec.erased_location result) }
 {
-    if is_prefix && reads_front(format, text) {
-        return find_value(format, start, text, error);
+    if part.is_prefix && reads_front(format, part.text) {
+        return find_value(format, part, error);
     }
-    match format.locate(text, None) {
+    match format.locate(part.text, None) {
         Some(place) => ErrorLocation {
-            column: start + place.index + 1,
+            column: part.start + place.index + 1,
             expected: Some(place.expected),
         },
-        None => find_value(format, start, text, error),
+        None => find_value(format, part, error),
     }
 }
 
@@ -109,49 +97,58 @@ fn is_trailing(error: Parse) -> bool
 }
 
 // Locates the bytes that follow a suffix but aren't allowed, in a part of a line.
-fn find_tail<'f>(start: usize, text: &[u8], error: Parse) -> ErrorLocation<'f>
-    requires { start + length text.now + 1 < 2 ^ 64 }
-    ensures { spec.IsTailLocation greatest_year start text.now (refusal_of error) (spec.erased_location result) }
+fn find_tail<'f>(part: Part<'_>, error: Parse) -> ErrorLocation<'f>
+    ensures { spec.IsTailLocation greatest_year (seen_part part.entry) (refusal_of error) (spec.erased_location result) }
 {
-    match read_front_3339(text) {
+    match read_front_3339(part.text) {
         Ok(front) => ErrorLocation {
-            column: start + front.length + read_suffix(&text[front.length..]).len + 1,
+            column: part.start + front.length + read_suffix(&part.text[front.length..]).len + 1,
             expected: Some(Expected::End),
         },
-        Err(_) => find_by(&Rfc3339, true, start, text, error),
+        Err(_) => find_by(&Rfc3339, part, error),
     }
 }
 
 // Locates the error in a part of a line that may have a suffix.
-fn find_zoned<'f>(start: usize, text: &[u8], error: Parse) -> ErrorLocation<'f>
-    requires { start + length text.now + 1 < 2 ^ 64 }
-    ensures { spec.IsZonedLocation greatest_year start text.now (refusal_of error) (spec.erased_location result) }
+fn find_zoned<'f>(part: Part<'_>, error: Parse) -> ErrorLocation<'f>
+    ensures { spec.IsZonedLocation greatest_year (seen_part part.entry) (refusal_of error) (spec.erased_location result) }
 {
+    let part = Part {
+        start: part.start,
+        is_prefix: true,
+        text: part.text,
+    };
     if is_trailing(error) {
-        return find_tail(start, text, error);
+        return find_tail(part, error);
     }
-    find_by(&Rfc3339, true, start, text, error)
+    find_by(&Rfc3339, part, error)
 }
 
 // Locates the error in a part of a line that the format rejects, whichever it is.
-fn find_in_part<'a>(
-    reading: &'a Reading,
-    is_prefix: bool,
-    start: usize,
-    text: &[u8],
-    error: Parse,
-) -> ErrorLocation<'a>
-    requires { start + length text.now + 1 < 2 ^ 64 }
-    ensures { spec.IsPartLocation greatest_year reading.now is_prefix start text.now (refusal_of error) (spec.erased_location result) }
+fn find_in_part<'a>(reading: &'a Reading, part: Part<'_>, error: Parse) -> ErrorLocation<'a>
+    ensures { spec.IsPartLocation greatest_year reading.now (seen_part part.entry) (refusal_of error) (spec.erased_location result) }
 {
     match reading {
-        Reading::Rfc3339 => find_by(&Rfc3339, is_prefix, start, text, error),
-        Reading::Zoned(_) => find_zoned(start, text, error),
-        Reading::Rfc2822 => find_by(&Rfc2822, is_prefix, start, text, error),
-        Reading::Iso8601 => find_by(&Iso8601, is_prefix, start, text, error),
-        Reading::Described(described) => find_by(described, is_prefix, start, text, error),
-        Reading::Complete(described) => find_by(described, is_prefix, start, text, error),
-        Reading::Counted(described) => find_by(described, is_prefix, start, text, error),
+        Reading::Rfc3339 => find_by(&Rfc3339, part, error),
+        Reading::Zoned(_) => find_zoned(part, error),
+        Reading::Rfc2822 => find_by(&Rfc2822, part, error),
+        Reading::Iso8601 => find_by(&Iso8601, part, error),
+        Reading::Described(described)
+        | Reading::Complete(described)
+        | Reading::Counted(described) => find_by(described, part, error),
+    }
+}
+
+// The start of the suffix that rejects the moment; `otherwise` if no timestamp precedes a suffix.
+fn find_suffix<'a>(part: Part<'_>, otherwise: ErrorLocation<'a>) -> ErrorLocation<'a>
+    ensures { spec.IsSuffixLocation greatest_year (seen_part part.entry) (spec.erased_location otherwise.entry) (spec.erased_location result) }
+{
+    match read_front_3339(part.text) {
+        Ok(front) => ErrorLocation {
+            column: part.start + front.length + 1,
+            expected: None,
+        },
+        Err(_) => otherwise,
     }
 }
 
@@ -170,49 +167,13 @@ impl<'a> Job<'a> {
             column,
             expected: None,
         };
+        let Some(part) = self.find_part(line) else {
+            return otherwise;
+        };
         match reason {
-            Reason::Unread(error) => self.find_unread(line, error, otherwise),
-            Reason::Suffix(_) => self.find_suffix(line, otherwise),
+            Reason::Unread(error) => find_in_part(self.first, part, error),
+            Reason::Suffix(_) => find_suffix(part, otherwise),
             _ => otherwise,
-        }
-    }
-
-    // Locates the error of a timestamp that no format matches; `otherwise` if the line has no timestamp.
-    fn find_unread(
-        &self,
-        line: &[u8],
-        error: Parse,
-        otherwise: ErrorLocation<'a>,
-    ) -> ErrorLocation<'a>
-        ensures { spec.IsUnreadAt greatest_year self.now line.now (refusal_of error) (spec.erased_location otherwise.entry)
-            (spec.erased_location result) }
-    {
-        let Some(place) = self.place else {
-            return otherwise;
-        };
-        let Some(span) = find_span(place, line) else {
-            return otherwise;
-        };
-        let text = &line[span.start..span.stop];
-        find_in_part(self.first, place.is_prefix(), span.start, text, error)
-    }
-
-    // The start of the suffix that rejects the moment; `otherwise` if no timestamp precedes a suffix.
-    fn find_suffix(&self, line: &[u8], otherwise: ErrorLocation<'a>) -> ErrorLocation<'a>
-        ensures { spec.IsRefusedBySuffix greatest_year self.now line.now (spec.erased_location otherwise.entry) (spec.erased_location result) }
-    {
-        let Some(place) = self.place else {
-            return otherwise;
-        };
-        let Some(span) = find_span(place, line) else {
-            return otherwise;
-        };
-        match read_front_3339(&line[span.start..span.stop]) {
-            Ok(front) => ErrorLocation {
-                column: span.start + front.length + 1,
-                expected: None,
-            },
-            Err(_) => otherwise,
         }
     }
 }

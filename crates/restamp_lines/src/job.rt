@@ -1,17 +1,19 @@
 //! The verdict on a line.
 //!
 //! `fast` parses a timestamp without the reason of an error.
-ghost use Rattle.std.specs.Prelude.{◌≡◌, ◌<◌, ◌+◌, ◌^◌, ℕ, length};
+ghost use Rattle.std.specs.Prelude.{◌≡◌, ◌≤◌, ◌<◌, ◌+◌, ◌^◌, ℕ, length, IfSome, Some};
+ghost use Rattle.std.specs.Option.{option_map};
 ghost use Rattle.time_values.specs.Calendar.{greatest_year};
-ghost use Rattle.time_values.specs.Shown.{Items};
 ghost use Rattle.restamp_lines.specs.Job as spec;
 
 mod fast;
 
+use crate::part::Part;
 use restamp_formats::{
     Defaults, Form, FromReason, Match, Reading, Reason, parse_in_turn, write_to,
 };
 use restamp_place::{Place, find_span};
+use restamp_stream::LineAction;
 use std::cmp::Ordering;
 use time_values::OffsetDateTime;
 use time_values::text::Text;
@@ -43,27 +45,13 @@ pub struct Job<'a> {
     pub requires_timestamp: bool,
 }
 
-/// What happens to a line.
-#[derive(Clone, Copy)]
-pub enum Verdict<E> {
-    /// The line has no timestamp, and is kept.
-    Without,
-    /// The text replaces some bytes of the line.
-    Rewritten {
-        /// How many bytes come before the replaced ones.
-        start: usize,
-        /// How many bytes are replaced.
-        length: usize,
-    },
-    /// The line is dropped.
-    Dropped,
-    /// The line is kept, and is reported with its reason.
-    Refused {
-        /// Where the timestamp starts, from 1.
-        column: usize,
-        /// What is kept of the reason.
-        reason: E,
-    },
+/// Why a line is rejected, and where.
+#[derive(Clone, Copy, Debug)]
+pub struct Refusal<E> {
+    /// Where the timestamp starts, from 1.
+    pub column: usize,
+    /// What is kept of the reason.
+    pub reason: E,
 }
 
 // Whether the moment is before the bound; `otherwise` if there is none.
@@ -88,105 +76,89 @@ impl Job<'_> {
 
     // Writes the moment of a match over its bytes, in the part of a line that starts at `start`.
     #[inline(always)]
-    pub(crate) fn put<E: FromReason>(
-        &self,
-        start: usize,
-        said: Match,
-        text: &mut Text,
-    ) -> Verdict<E>
-        requires { start + said.start + said.length + 1 < 2 ^ 64 }
-        ensures put { spec.GivesVerdict E.is_of (spec.IsPut greatest_year self.now start said) result text.new }
-        ensures within { spec.EndsWithin (start + said.start + said.length) result }
+    pub(crate) fn put<E: FromReason>(&self, start: usize, matched: Match) -> LineAction<Refusal<E>>
+        requires { start + matched.start + matched.length + 1 < 2 ^ 64 }
+        ensures put { spec.GivesVerdict E.is_of (spec.IsPut greatest_year self.now start matched) result }
+        ensures within { spec.EndsWithin (start + matched.start + matched.length) result }
     {
-        let column = start + said.start + 1;
-        if LIMIT < start + said.start + said.length {
-            return Verdict::Refused {
-                column,
+        let begin = start + matched.start;
+        let end = begin + matched.length;
+        if LIMIT < end {
+            return LineAction::Refused(Refusal {
+                column: begin + 1,
                 reason: E::from_reason(Reason::TooFar),
-            };
+            });
         }
-        if !self.keeps(said.moment) {
-            return Verdict::Dropped;
+        if !self.keeps(matched.moment) {
+            return LineAction::Dropped;
         }
-        match write_to(said.moment, &self.form, text) {
-            Ok(()) => Verdict::Rewritten {
-                start: start + said.start,
-                length: said.length,
-            },
-            Err(reason) => Verdict::Refused { column, reason },
+        let mut text = Text::new();
+        match write_to(matched.moment, &self.form, &mut text) {
+            Ok(()) => LineAction::Rewritten { begin, end, text },
+            Err(reason) => LineAction::Refused(Refusal {
+                column: begin + 1,
+                reason,
+            }),
         }
     }
 
     // The verdict on a line without a timestamp.
     #[inline(always)]
-    pub(crate) fn miss<E: FromReason>(&self) -> Verdict<E>
-        ensures verdict { (text : Items) → spec.GivesVerdict E.is_of (λ verdict. verdict ≡ spec.missed self.now) result text }
+    pub(crate) fn miss<E: FromReason>(&self) -> LineAction<Refusal<E>>
+        ensures verdict { spec.GivesVerdict E.is_of (λ verdict. verdict ≡ spec.missed self.now) result }
         ensures within { (n : ℕ) → spec.EndsWithin n result }
     {
-        if self.requires_timestamp {
-            return Verdict::Refused {
-                column: 1,
-                reason: E::from_reason(Reason::Missing),
-            };
+        if !self.requires_timestamp {
+            return LineAction::Without;
         }
-        Verdict::Without
+        LineAction::Refused(Refusal {
+            column: 1,
+            reason: E::from_reason(Reason::Missing),
+        })
     }
 
-    // The verdict on a line whose timestamp is the part that starts at `start`, by the first of the formats that matches.
+    // The verdict on a line whose timestamp lies in that part, by the first of the formats that matches.
     // Not inlined, so that it needs no stack beside lines that the fast path matches.
     #[inline(never)]
-    fn judge_in_turn<E: FromReason>(
-        &self,
-        start: usize,
-        is_prefix: bool,
-        part: &[u8],
-        text: &mut Text,
-    ) -> Verdict<E>
-        requires { start + length part.now + 1 < 2 ^ 64 }
-        ensures verdict { spec.GivesVerdict E.is_of (spec.IsJudgedPart greatest_year self.now is_prefix start part.now) result text.new }
-        ensures within { spec.EndsWithin (start + length part.now) result }
+    fn judge_in_turn<E: FromReason>(&self, part: Part<'_>) -> LineAction<Refusal<E>>
+        ensures verdict { spec.GivesVerdict E.is_of (spec.IsJudgedIn greatest_year self.now (Some (spec.seen_part part.entry))) result }
+        ensures within { spec.EndsWithin (part.entry.start + length part.entry.text.now) result }
     {
-        match parse_in_turn(self.first, self.others, is_prefix, part, &self.defaults) {
-            Ok(said) => self.put(start, said, text),
-            Err(reason) => Verdict::Refused {
-                column: start + 1,
+        let (is_prefix, text) = (part.is_prefix, part.text);
+        match parse_in_turn(self.first, self.others, is_prefix, text, &self.defaults) {
+            Ok(matched) => self.put(part.start, matched),
+            Err(reason) => LineAction::Refused(Refusal {
+                column: part.start + 1,
                 reason,
-            },
+            }),
         }
     }
 
-    // The verdict on a line whose timestamp is the part that starts at `start`.
+    // The verdict on a line whose timestamp lies in that part.
     #[inline(always)]
-    fn judge_part<E: FromReason>(
-        &self,
-        start: usize,
-        is_prefix: bool,
-        part: &[u8],
-        text: &mut Text,
-    ) -> Verdict<E>
-        requires { start + length part.now + 1 < 2 ^ 64 }
-        ensures verdict { spec.GivesVerdict E.is_of (spec.IsJudgedPart greatest_year self.now is_prefix start part.now) result text.new }
-        ensures within { spec.EndsWithin (start + length part.now) result }
+    fn judge_part<E: FromReason>(&self, part: Part<'_>) -> LineAction<Refusal<E>>
+        ensures verdict { spec.GivesVerdict E.is_of (spec.IsJudgedIn greatest_year self.now (Some (spec.seen_part part.entry))) result }
+        ensures within { spec.EndsWithin (part.entry.start + length part.entry.text.now) result }
     {
-        match fast::parse(self.first, is_prefix, part, &self.defaults) {
-            Some(said) => self.put(start, said, text),
-            None => self.judge_in_turn(start, is_prefix, part, text),
+        match fast::parse(self.first, part.is_prefix, part.text, &self.defaults) {
+            Some(matched) => self.put(part.start, matched),
+            None => self.judge_in_turn(part),
         }
     }
 
-    // The verdict on a line whose timestamp is at that place.
+    // The part of the line in which its timestamp lies; `None` if it may be anywhere, or the line has no such part.
     #[inline(always)]
-    fn judge_at<E: FromReason>(&self, place: Place<'_>, line: &[u8], text: &mut Text) -> Verdict<E>
-        ensures verdict { spec.GivesVerdict E.is_of (spec.IsJudgedAt greatest_year self.now place.entry line.now) result text.new }
-        ensures within { spec.EndsWithin (length line.now) result }
+    pub(crate) fn find_part<'l>(&self, line: &'l [u8]) -> Option<Part<'l>>
+        ensures part { option_map spec.seen_part result ≡ spec.part_of self.now.place line.now }
+        ensures within { IfSome result (λ part. part.start + length part.text.now ≤ length line.now) }
     {
-        match find_span(place, line) {
-            Some(span) => {
-                let part = &line[span.start..span.stop];
-                self.judge_part(span.start, place.is_prefix(), part, text)
-            }
-            None => self.miss(),
-        }
+        let place = self.place?;
+        let span = find_span(place, line)?;
+        Some(Part {
+            start: span.start,
+            is_prefix: place.is_prefix(),
+            text: &line[span.start..span.stop],
+        })
     }
 
     /// The verdict on a line, which has no LF. It keeps a line whose timestamp is rejected, or ends after the first
@@ -198,16 +170,18 @@ impl Job<'_> {
     /// before it is none, and if its last byte is one, the byte after it is none. A line without such a text has no
     /// timestamp. White space around a mail date stays unless the place ends the timestamp.
     ///
-    /// `text` receives the text of a rewritten line. The type `E` decides how much of the reason of a rejection the
-    /// caller gets: [`Reason`] is all of it.
+    /// The type `E` decides how much of the reason of a rejection the caller gets: [`Reason`] is all of it.
     #[inline(always)]
-    pub fn judge<E: FromReason>(&self, line: &[u8], text: &mut Text) -> Verdict<E>
-        ensures verdict { spec.GivesVerdict E.is_of (spec.IsJudged greatest_year self.now line.now) result text.new }
+    pub fn judge<E: FromReason>(&self, line: &[u8]) -> LineAction<Refusal<E>>
+        ensures verdict { spec.GivesVerdict E.is_of (spec.IsJudged greatest_year self.now line.now) result }
         ensures within { spec.EndsWithin (length line.now) result }
     {
-        match self.place {
-            Some(place) => self.judge_at(place, line, text),
-            None => self.judge_anywhere(line, text),
+        if self.place.is_none() {
+            return self.judge_anywhere(line);
+        }
+        match self.find_part(line) {
+            Some(part) => self.judge_part(part),
+            None => self.miss(),
         }
     }
 }

@@ -1,7 +1,7 @@
 //! Laws of verdicts: each function does nothing, and its contract is the law.
 ghost use Rattle.time_values.specs.Calendar.{greatest_year};
 ghost use Rattle.restamp_formats.specs.Laws.{WritesSameText};
-ghost use Rattle.restamp_lines.specs.Laws.{OneVerdict, ChangesNothing, NeedsNamedZones};
+ghost use Rattle.restamp_lines.specs.Laws.{OneVerdict, ChangesNothing, DependsOnNamedZones};
 
 /// Each line has at most one verdict, whatever the job.
 #[tactic(auto, using(crate::proofs::OneVerdict::one_verdict))]
@@ -23,5 +23,5 @@ pub fn law_second_run()
 /// differ only in other zones have the same verdict.
 #[tactic(auto, using(crate::proofs::NamedZonesLemmas::needs_named_zones))]
 pub fn law_named_zones()
-    ensures { NeedsNamedZones greatest_year }
+    ensures { DependsOnNamedZones greatest_year }
 {}

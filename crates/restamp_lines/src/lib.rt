@@ -6,7 +6,8 @@ mod error_location;
 mod job;
 pub mod laws;
 mod missing;
+mod part;
 
 pub use error_location::{ErrorLocation, law_one_error_location};
-pub use job::{Job, LIMIT, REACH, Verdict};
+pub use job::{Job, LIMIT, REACH, Refusal};
 pub use missing::{Why, law_one_missing_field};

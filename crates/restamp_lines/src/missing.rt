@@ -6,7 +6,6 @@ ghost use Rattle.restamp_formats.specs.Reason.{seen};
 
 use crate::job::Job;
 use restamp_formats::{Defaults, MissingField, Reading, Reason, ReasonDisplay, complete, has_year};
-use restamp_place::find_span;
 use std::fmt;
 use time_parsing::{Iso8601, Parsable};
 use time_record::Parsed;
@@ -156,11 +155,11 @@ fn missing_field_in_text(
     ensures { spec.IsMissingFieldIn greatest_year reading.now defaults.now text.now result }
 {
     match reading {
-        Reading::Rfc3339 | Reading::Zoned(_) => None,
-        Reading::Rfc2822 | Reading::Complete(_) => None,
         Reading::Iso8601 => missing_field_by(&Iso8601, defaults, text),
-        Reading::Described(described) => missing_field_by(described, defaults, text),
-        Reading::Counted(described) => missing_field_by(described, defaults, text),
+        Reading::Described(described) | Reading::Counted(described) => {
+            missing_field_by(described, defaults, text)
+        }
+        Reading::Rfc3339 | Reading::Zoned(_) | Reading::Rfc2822 | Reading::Complete(_) => None,
     }
 }
 
@@ -175,10 +174,8 @@ impl Job<'_> {
         if !is_insufficient(reason) {
             return None;
         }
-        let place = self.place?;
-        let span = find_span(place, line)?;
-        let text = &line[span.start..span.stop];
-        missing_field_in_text(self.first, &dated(&self.defaults), text)
+        let part = self.find_part(line)?;
+        missing_field_in_text(self.first, &dated(&self.defaults), part.text)
     }
 }
 

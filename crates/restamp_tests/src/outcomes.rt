@@ -2,10 +2,11 @@
 use restamp_formats::{
     Brief, Clock, Defaults, Form, Reading, Reason, Writing, find_reading, find_writing,
 };
-use restamp_lines::{Job, Verdict};
+use restamp_lines::Job;
 use restamp_place::Place;
+use restamp_stream::LineAction;
 use std::test::Fail;
-use time_formatting::{FractionDigits, Text};
+use time_formatting::FractionDigits;
 use time_values::{OffsetDateTime, UtcOffset};
 
 // The place of a timestamp, the format to parse it, the format to write it, and a line with such a timestamp.
@@ -96,22 +97,18 @@ fn job_of<'a>(
 
 // Whether both verdicts on a line are equal, and their texts too.
 fn is_one(job: &Job<'_>, line: &[u8]) -> bool {
-    let mut full = Text::new();
-    let mut brief = Text::new();
-    match (
-        job.judge::<Reason>(line, &mut full),
-        job.judge::<Brief>(line, &mut brief),
-    ) {
-        (Verdict::Without, Verdict::Without) | (Verdict::Dropped, Verdict::Dropped) => true,
-        (Verdict::Refused { column, .. }, Verdict::Refused { column: other, .. }) => column
-            == other,
+    match (job.judge::<Reason>(line), job.judge::<Brief>(line)) {
+        (LineAction::Without, LineAction::Without) => true,
+        (LineAction::Dropped, LineAction::Dropped) => true,
+        (LineAction::Refused(full), LineAction::Refused(brief)) => full.column == brief.column,
         (
-            Verdict::Rewritten { start, length },
-            Verdict::Rewritten {
-                start: begin,
-                length: many,
+            LineAction::Rewritten { begin, end, text },
+            LineAction::Rewritten {
+                begin: start,
+                end: stop,
+                text: other,
             },
-        ) => { start == begin && length == many && full.as_bytes() == brief.as_bytes() }
+        ) => begin == start && end == stop && text.as_bytes() == other.as_bytes(),
         _ => false,
     }
 }

@@ -247,23 +247,23 @@ mod anywhere {
     use restamp_formats::{
         Clock, Defaults, Form, Reading, Reason, Writing, find_reading, find_writing, read_dated,
     };
-    use restamp_lines::{Job, REACH, Verdict};
+    use restamp_lines::{Job, REACH, Refusal};
     use restamp_place::Place;
+    use restamp_stream::LineAction;
     use std::test::Fail;
-    use time_formatting::{FractionDigits, Text};
+    use time_formatting::FractionDigits;
 
     const DAY: &[u8] =
         b"[day padding:none] [month repr:long] [year] [hour]:[minute] [offset_hour sign:mandatory]";
 
     const ANYWHERE: Option<Place<'static>> = None;
 
-    // The verdict on a line whose timestamp may be anywhere. Stores the new timestamp in `text`.
+    // The verdict on a line whose timestamp may be anywhere.
     fn verdict_on<'a>(
         line: &[u8],
         first: &'a Reading,
         writing: &'a Writing,
-        text: &mut Text,
-    ) -> Verdict<Reason> {
+    ) -> LineAction<Refusal<Reason>> {
         let job = Job {
             place: ANYWHERE,
             first,
@@ -283,25 +283,24 @@ mod anywhere {
             until: None,
             requires_timestamp: false,
         };
-        job.judge(line, text)
+        job.judge(line)
     }
 
-    // Whether the first timestamp of a line, by a format, starts at `begin` and has `many` bytes, and `seconds` is the
+    // Whether the first timestamp of a line, by a format, starts at `start` and has `many` bytes, and `seconds` is the
     // text of its seconds since 1970.
-    fn is_found(format: &[u8], line: &[u8], begin: usize, many: usize, seconds: &[u8]) -> bool {
+    fn is_found(format: &[u8], line: &[u8], start: usize, many: usize, seconds: &[u8]) -> bool {
         let Ok(first) = find_reading(format) else {
             return false;
         };
         let Ok(writing) = find_writing(b"unix") else {
             return false;
         };
-        let mut text = Text::new();
-        match verdict_on(line, &first, &writing, &mut text) {
-            Verdict::Rewritten { start, length } => {
-                start == begin && length == many && text.as_bytes() == seconds
+        match verdict_on(line, &first, &writing) {
+            LineAction::Rewritten { begin, end, text } => {
+                begin == start && end.checked_sub(begin) == Some(many) && text.as_bytes() == seconds
             }
-            Verdict::Without => many == 0,
-            Verdict::Dropped | Verdict::Refused { .. } => false,
+            LineAction::Without => many == 0,
+            LineAction::Dropped | LineAction::Refused(_) => false,
         }
     }
 
@@ -371,7 +370,7 @@ mod anywhere {
             && line[place].is_ascii_alphanumeric()
     }
 
-    // The start of the first timestamp of the line, and its length, found by trying the format at each byte.
+    // The start and the end of the first timestamp of the line, found by trying the format at each byte.
     fn plain_first(line: &[u8], format: &Reading) -> Option<(usize, usize)> {
         for start in 0..line.len() {
             if is_inside(line, start) {
@@ -381,8 +380,9 @@ mod anywhere {
             let near = &rest[..REACH.min(rest.len())];
             if let Ok(said) = read_dated(format, true, near, &NOTHING_GIVEN) {
                 let begin = start + said.start;
-                if !is_inside(line, begin + said.length) {
-                    return Some((begin, said.length));
+                let end = begin + said.length;
+                if !is_inside(line, end) {
+                    return Some((begin, end));
                 }
             }
         }
@@ -391,12 +391,12 @@ mod anywhere {
 
     // Whether the verdict has the timestamp that `plain_first` finds.
     fn is_plain(line: &[u8], format: &Reading, writing: &Writing) -> bool {
-        match verdict_on(line, format, writing, &mut Text::new()) {
-            Verdict::Rewritten { start, length } => {
-                plain_first(line, format) == Some((start, length))
+        match verdict_on(line, format, writing) {
+            LineAction::Rewritten { begin, end, .. } => {
+                plain_first(line, format) == Some((begin, end))
             }
-            Verdict::Without => plain_first(line, format).is_none(),
-            Verdict::Dropped | Verdict::Refused { .. } => false,
+            LineAction::Without => plain_first(line, format).is_none(),
+            LineAction::Dropped | LineAction::Refused(_) => false,
         }
     }
 

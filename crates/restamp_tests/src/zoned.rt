@@ -1,8 +1,9 @@
 //! Timestamps of RFC 3339 with a suffix of RFC 9557.
 use super::clocks::berlin;
 use restamp_formats::{Clock, Defaults, Form, Reading, Reason, Writing, find_writing, read};
-use restamp_lines::{Job, Verdict};
+use restamp_lines::{Job, Refusal};
 use restamp_place::Place;
+use restamp_stream::LineAction;
 use std::alloc::Global;
 use std::test::Fail;
 use time_formatting::{FractionDigits, Text};
@@ -170,9 +171,11 @@ fn wrong_in<'a>(reading: &'a Reading, writing: &'a Writing, line: &[u8]) -> usiz
         until: None,
         requires_timestamp: false,
     };
-    match job.judge::<Reason>(line, &mut Text::new()) {
-        Verdict::Refused { column, reason } => job.find_location(line, column, reason).column,
-        Verdict::Without | Verdict::Rewritten { .. } | Verdict::Dropped => 0,
+    match job.judge::<Reason>(line) {
+        LineAction::Refused(Refusal { column, reason }) => {
+            job.find_location(line, column, reason).column
+        }
+        LineAction::Without | LineAction::Rewritten { .. } | LineAction::Dropped => 0,
     }
 }
 

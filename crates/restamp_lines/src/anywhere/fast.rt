@@ -100,9 +100,9 @@ fn format_firsts(reading: &Reading) -> Firsts
         Reading::Rfc3339 | Reading::Zoned(_) => DIGITS,
         Reading::Rfc2822 => MAIL,
         Reading::Iso8601 => ALL,
-        Reading::Described(description) => steps_firsts(description.steps()),
-        Reading::Complete(description) => steps_firsts(description.steps()),
-        Reading::Counted(description) => steps_firsts(description.steps()),
+        Reading::Described(description)
+        | Reading::Complete(description)
+        | Reading::Counted(description) => steps_firsts(description.steps()),
     }
 }
 
@@ -237,37 +237,23 @@ fn find_within(firsts: Firsts, line: &[u8], from: usize, to: usize) -> usize
     to
 }
 
-// The first place from `from` on at which a text may start, or the end of the line.
+/// The first place from `from` on at which a timestamp may start, or the end of the line; `None` if unknown.
 #[inline(always)]
-fn find_beginning(firsts: Firsts, line: &[u8], from: usize) -> usize
+pub(super) fn next_start(firsts: Firsts, line: &[u8], from: usize) -> Option<usize>
     requires some { 0 < from }
     requires within { from ≤ length line.now }
-    ensures low { from ≤ result }
-    ensures high { result ≤ length line.now }
-    ensures passed { (k : ℕ) → from ≤ k → k < result → begins.may_begin firsts line.now k ≡ false }
+    ensures within { IfSome result (λ next. (from ≤ next) × (next ≤ length line.now)) }
+    ensures passed { IfSome result (λ next. (k : ℕ) → from ≤ k → k < next → begins.may_begin firsts line.now k ≡ false) }
 {
     let mut at = from;
     while BLOCK <= line.len() - at {
         let first = usize::from(first_within(firsts, line, at));
         if first < BLOCK {
-            return at + first;
+            return Some(at + first);
         }
         at += BLOCK;
     }
-    find_within(firsts, line, at, line.len())
-}
-
-/// The first place from `from` on at which a timestamp may start, or the end of the line; `None` if unknown.
-#[inline(always)]
-pub(super) fn next_start(firsts: Firsts, line: &[u8], from: usize) -> Option<usize>
-    requires { from ≤ length line.now }
-    ensures within { IfSome result (λ next. (from ≤ next) × (next ≤ length line.now)) }
-    ensures passed { IfSome result (λ next. (k : ℕ) → from ≤ k → k < next → begins.may_begin firsts line.now k ≡ false) }
-{
-    if from == 0 {
-        return None;
-    }
-    Some(find_beginning(firsts, line, from))
+    Some(find_within(firsts, line, at, line.len()))
 }
 
 // Whether the bytes start with four digits.
@@ -314,9 +300,9 @@ fn may_be_of(reading: &Reading, bytes: &[u8]) -> bool
         Reading::Rfc3339 | Reading::Zoned(_) => has_year(bytes),
         Reading::Rfc2822 => may_be_mail(bytes),
         Reading::Iso8601 => true,
-        Reading::Described(description) => is_in(steps_firsts(description.steps()), bytes[0]),
-        Reading::Complete(description) => is_in(steps_firsts(description.steps()), bytes[0]),
-        Reading::Counted(description) => is_in(steps_firsts(description.steps()), bytes[0]),
+        Reading::Described(description)
+        | Reading::Complete(description)
+        | Reading::Counted(description) => is_in(steps_firsts(description.steps()), bytes[0]),
     }
 }
 

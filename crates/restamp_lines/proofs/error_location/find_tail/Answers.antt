@@ -7,8 +7,8 @@ use Rattle.restamp_lines.proofs.error_location.find_tail.Goals as goal
 pub returns-in-Ok : goal.returns-in-Ok
 returns-in-Ok c =
     let read = c.read_suffix in
-    let rest = tail_range c.in-Ok.front.length c.args.text.now in
-    let longest = read-longest c.args.text.now c.in-Ok.front read.result _ rest read.ensures.within read.ensures.says read.ensures.longest in
+    let rest = tail_range c.in-Ok.front.length c.args.part.text.now in
+    let longest = read-longest c.args.part.text.now c.in-Ok.front read.result _ rest read.ensures.within read.ensures.says read.ensures.longest in
     (Ok c.in-Ok.front, c.in-Ok.ensures.said, (suffix_of read.result read.ensures.says.0, longest, refl))
 
 pub returns-in-Err : goal.returns-in-Err

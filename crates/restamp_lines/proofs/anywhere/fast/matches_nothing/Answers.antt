@@ -1,5 +1,4 @@
-use Rattle.std.proofs.Common.{◌≡◌, ◌-◌, length, drop, take, arith, length-drop}
-use Rattle.std.proofs.lemmas.List.{take_all}
+use Rattle.std.proofs.Common.{◌≡◌, ◌-◌, length, drop, take, take_all, arith, length-drop}
 use Rattle.time_values.specs.Calendar.{greatest_year}
 use Rattle.restamp_lines.proofs.BeginsLemmas.{matches-nothing}
 use Rattle.restamp_lines.proofs.anywhere.fast.matches_nothing.Goals as goal

@@ -1,5 +1,4 @@
-use Rattle.std.proofs.Common.{drop}
-use Rattle.std.specs.Prelude.{Option}
+use Rattle.std.proofs.Common.{drop, Option}
 use Rattle.time_values.specs.Calendar.{greatest_year}
 use Rattle.restamp_lines.specs.Job.{AreTriedAlone}
 use Rattle.restamp_formats.specs.declared.reading.Match.{Match}

@@ -1,6 +1,6 @@
 use Rattle.std.proofs.Common.{◌≡◌, ◌≤◌, ◌<◌, ◌-◌, ℕ, false, length}
 use Rattle.restamp_lines.specs.Begins.{may_begin}
-use Rattle.restamp_lines.proofs.anywhere.fast.find_beginning.Given as goal
+use Rattle.restamp_lines.proofs.anywhere.fast.next_start.Given as goal
 
 abbrev pub invariant-loop-at : goal.invariant-loop-at
 invariant-loop-at l =

@@ -1,8 +1,7 @@
 -- An error in one of the formats is an error of the options.
 use Rattle.std.specs.Int.{int_div_euclid}
-use Rattle.std.specs.Fmt.{decimal}
 use Rattle.std.specs.Io.KnownBytes.{Appends}
-use Rattle.std.proofs.Common.{◌≡◌, ℕ, ℤ, pos, neg_ℤ, negsuc, arith, Some, None, zero, suc, ◌+◌, ◌<◌, List, [], ◌∷◌, ◌++◌, length, take, map, get_or, Bool, Option, inl, inr, ap, subst, ◌-◌, min, codes, true, drop, append_assoc, length-drop}
+use Rattle.std.proofs.Common.{◌≡◌, ℕ, ℤ, pos, neg_ℤ, negsuc, arith, Some, None, zero, suc, ◌+◌, ◌<◌, List, [], ◌∷◌, ◌++◌, length, take, map, get_or, Bool, Option, inl, inr, ap, subst, ◌-◌, min, codes, true, drop, append_assoc, length-drop, decimal}
 use Rattle.std.proofs.lemmas.Int.{ints}
 use Rattle.std.proofs.lemmas.List.{map_more, take_all, take_min, drop_min}
 use Rattle.std.proofs.KnownBytes.{Appends-trans}

@@ -166,10 +166,9 @@ reported_zone_name name = if bytes_eq name (codes "local") then codes "the local
 -- The default for an omitted offset: the zone of that name, or without a name the given offset.
 abbrev pub IsLocalGiven : ℕ → Options → Option (List ℕ) → Local → Type 0
 IsLocalGiven Y o None (local.Offset offset) = IsOffsetGiven Y (text_behind o.offset) offset
-IsLocalGiven Y o None (local.Zone named called fold) = ⊥
-IsLocalGiven Y o (Some name) (local.Offset offset) = ⊥
 IsLocalGiven Y o (Some name) (local.Zone named called fold) =
     IsZoneResult name (Ok named) × (called.now ≡ reported_zone_name name) × IsFoldGiven (text_behind o.fold) fold
+IsLocalGiven Y o name l = ⊥
 
 -- The defaults for an omitted year and an omitted offset.
 abbrev pub AreParts : ℕ → Options → OwnedDefaults → Type 0
@@ -322,12 +321,6 @@ abbrev pub IsFault : ℕ → Options → Fault → Type 0
 IsFault Y o fault.memory = Unit {0}
 IsFault Y o (fault.field value) = (text_behind o.field ≡ Some value) × IsPositive value None
 IsFault Y o (fault.delimiter value) = (value ≡ o.delimiter.now) × (delimiter_of value ≡ None)
-IsFault Y o (fault.from value why) =
-    IsFormatFault (has_default_year o) (o.from.now ∷ other_names o) (fault.from value why)
-IsFault Y o (fault.zones value why) =
-    IsFormatFault (has_default_year o) (o.from.now ∷ other_names o) (fault.zones value why)
-IsFault Y o (fault.incomplete_format value missing_field) =
-    IsFormatFault (has_default_year o) (o.from.now ∷ other_names o) (fault.incomplete_format value missing_field)
 IsFault Y o (fault.to value why) =
     (value ≡ o.to.now) × (is_zoned value ≡ false) × naming.IsWritingFault value why
 IsFault Y o (fault.unnamed value) = (value ≡ o.to.now) × IsUnnamed Y o
@@ -343,10 +336,8 @@ IsFault Y o (fault.zone value why) = (value ≡ zone_of o) × IsNoZone Y value w
 IsFault Y o (fault.digits value) = (value ≡ o.digits.now) × (digits_of value ≡ None)
 IsFault Y o (fault.errors value) = (value ≡ o.errors.now) × IsNumber value None
 IsFault Y o (fault.color value) = (value ≡ o.color.now) × ((is_terminal : Bool) → shows_of value is_terminal ≡ None)
-IsFault Y o (fault.latest value why) = ⊥
-IsFault Y o (fault.since value why) = ⊥
-IsFault Y o (fault.until value why) = ⊥
 IsFault Y o (fault.in_place value) = (text_behind o.in_place ≡ Some value) × (has_slash value ≡ true)
+IsFault Y o f = IsFormatFault (has_default_year o) (o.from.now ∷ other_names o) f
 
 -- An option rejects its value by the clock's moment, or memory was short.
 abbrev pub IsFaultAt : ℕ → Option UtcDateTime → Options → Fault → Type 0

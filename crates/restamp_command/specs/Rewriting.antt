@@ -1,5 +1,5 @@
 -- The action of a line by a job's verdict. `Y` is the greatest year.
-use Rattle.std.specs.Prelude.{ℕ, ◌-◌, Bool, true, false, ◌&&◌, nat_le, min, List, ◌∷◌, ◌++◌, codes, map, take, drop, replicate, if◌then◌else◌, [], flat_map, Option, None, Some, ◌≡◌, ◌+◌}
+use Rattle.std.specs.Prelude.{ℕ, ◌-◌, Bool, true, false, ◌&&◌, nat_le, min, List, ◌∷◌, ◌++◌, codes, map, take, drop, replicate, if◌then◌else◌, [], flat_map, Option, None, Some, ◌≡◌}
 use Rattle.std.specs.Char.Escape.{escape_ascii}
 use Rattle.std.proofs.Common.{ap, subst, sym, ◌∙◌}
 use Rattle.time_values.specs.Calendar.{greatest_year}

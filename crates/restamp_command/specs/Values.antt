@@ -144,11 +144,6 @@ IsMomentFrom Y now defaults (word.Day back) result =
     MatchOption defaults.clocks (IsNamedAt Y now defaults.offset (word.Day back) result)
     (λ clocks. IsStartOfDayIn Y clocks now back result)
 
--- The moment of a word, or an error if the clock is out of range.
-abbrev pub IsMomentOf : ℕ → Option UtcDateTime → Defaults → Word → Result OffsetDateTime TimeArgError → Type 0
-IsMomentOf Y now defaults w result =
-    MatchOption now (result ≡ Err no_clock) (λ u. IsMomentFrom Y u defaults w result)
-
 -- The number of 64 bits that a text has in decimal digits, with or without a plus, or none.
 abbrev pub IsNumber : List ℕ → Option ℕ → Type 0
 IsNumber text result =
@@ -221,13 +216,14 @@ IsYear Y text result =
     (number : Option ℤ) × IsSigned text number
     × (result ≡ option_and_then (λ n. if nat_le (unsigned_abs n) Y then Some n else None) number)
 
--- The moment of a word by the clock, for a text that no format matches; an error with that reason for any other word.
+-- The moment of a word by the clock, for a text that no format matches; an error with that reason for any other word,
+-- or an error if the clock is out of range.
 abbrev pub IsNamedMoment : ℕ → Option UtcDateTime → Defaults → List ℕ → Reason
     → Result OffsetDateTime TimeArgError → Type 0
 IsNamedMoment Y now defaults text reason result =
     (word : Option Word) × IsWord text word
     × MatchOption word (result ≡ Err (unread reason))
-    (λ w. IsMomentOf Y now defaults w result)
+    (λ w. MatchOption now (result ≡ Err no_clock) (λ u. IsMomentFrom Y u defaults w result))
 
 -- The moment of a text by RFC 3339, or else by the first of the formats that matches, or else as a word by the clock.
 -- The error is that of RFC 3339.

@@ -29,15 +29,13 @@ IsZoneResult name result =
 
 -- A zone is the one that was found by that name.
 abbrev pub IsNamedBy : List ℕ → Zone → Type 0
-IsNamedBy name kind.Keep = ⊥
-IsNamedBy name (kind.Fixed offset) = ⊥
 IsNamedBy name (kind.Named named) = IsZoneResult name (Ok named)
+IsNamedBy name zone = ⊥
 
 -- A zone is that of UTC.
 abbrev pub IsUtcZone : Zone → Type 0
-IsUtcZone kind.Keep = ⊥
 IsUtcZone (kind.Fixed offset) = IsUtc offset
-IsUtcZone (kind.Named named) = ⊥
+IsUtcZone zone = ⊥
 
 -- The zone of a text: `keep`, `utc`, an offset, or a name.
 abbrev pub IsZone : ℕ → List ℕ → Zone → Type 0
@@ -70,9 +68,8 @@ HasNoSuffix zone = (bytes : List ℕ) → IsSuffixOf zone bytes → ⊥
 
 -- the clock of a named zone
 abbrev pub IsClockIn : NamedZone → Clock → Type 0
-IsClockIn named on.Own = ⊥
-IsClockIn named (on.Fixed offset) = ⊥
 IsClockIn named (on.Zone zone) = IsZoneOf named zone
+IsClockIn named clock = ⊥
 
 -- the clock of a zone
 abbrev pub IsClockOf : Zone → Clock → Type 0

@@ -150,18 +150,22 @@ fn midnight(day: i128, back: u8) -> i128
     (day - back as i128) * NANOS_PER_DAY
 }
 
-// The nanoseconds since 1970 of a word's moment, by the clock's nanoseconds and the offset at which days start.
-fn nanos_of(word: Word, now: i128, offset: UtcOffset) -> i128
-    requires { IsNear now }
-    ensures value { result ≡ words.nanos_of now offset word }
+// The local time of midnight at that offset, `back` days before the clock's day.
+fn midnight_at(now: UtcDateTime, offset: UtcOffset, back: u8) -> i128
+    ensures value { result ≡ (words.local_day (utc_instant greatest_year now) offset -ℤ pos back) *ℤ pos nanos_per_day }
+    ensures range { IsBetween (neg_ℤ (pos 50_000_000_000_000_000_000_000)) (pos 50_000_000_000_000_000_000_000) result }
+{
+    midnight(day_of(since_1970(now) + ahead_of(offset)), back)
+}
+
+// The nanoseconds since 1970 of a word's moment, by the clock and the offset at which days start.
+fn nanos_of(word: Word, now: UtcDateTime, offset: UtcOffset) -> i128
+    ensures value { result ≡ words.nanos_of (utc_instant greatest_year now) offset word }
     ensures fits { FitsSigned w128 result }
 {
     match word {
-        Word::Later(number, unit) => later(now, seconds_of(number, unit)),
-        Word::Day(back) => {
-            let ahead = ahead_of(offset);
-            midnight(day_of(now + ahead), back) - ahead
-        }
+        Word::Later(number, unit) => later(since_1970(now), seconds_of(number, unit)),
+        Word::Day(back) => midnight_at(now, offset, back) - ahead_of(offset),
     }
 }
 
@@ -200,14 +204,6 @@ fn converted_in(moment: OffsetDateTime, clocks: &Clocks<'_>) -> Option<OffsetDat
     checked_to_zone(moment, &clocks.zone)
 }
 
-// The local time of midnight at that offset, `back` days before the clock's day.
-fn midnight_at(now: UtcDateTime, offset: UtcOffset, back: u8) -> i128
-    ensures value { result ≡ (words.local_day (utc_instant greatest_year now) offset -ℤ pos back) *ℤ pos nanos_per_day }
-    ensures fits { FitsSigned w128 result }
-{
-    midnight(day_of(since_1970(now) + ahead_of(offset)), back)
-}
-
 // The start of the day in the zone, `back` days before the clock's day.
 fn start_of_day_in(
     clocks: &Clocks<'_>,
@@ -219,20 +215,15 @@ fn start_of_day_in(
     let Some(shown) = converted_in(OffsetDateTime::from(now), clocks) else {
         return Err(TimeArgError::Unread(Reason::OutsideZoneRange));
     };
-    match moment_at(midnight_at(now, shown.offset(), back)) {
-        Ok(begin) => earliest_with_local(begin, clocks),
-        Err(why) => Err(why),
-    }
+    let begin = moment_at(midnight_at(now, shown.offset(), back))?;
+    earliest_with_local(begin, clocks)
 }
 
 // The offset at which days start: the default offset, or UTC without one.
 fn day_offset(offset: Option<UtcOffset>) -> UtcOffset
     ensures { words.IsDayOffset offset result }
 {
-    match offset {
-        Some(offset) => offset,
-        None => UtcOffset::UTC,
-    }
+    offset.unwrap_or(UtcOffset::UTC)
 }
 
 // The moment of a word by the clock, with days that start at that offset.
@@ -243,7 +234,7 @@ fn named_at(
 ) -> Result<OffsetDateTime, TimeArgError>
     ensures { words.IsNamedAt greatest_year now offset word (words.erased_moment result) }
 {
-    moment_at(nanos_of(word, since_1970(now), day_offset(offset)))
+    moment_at(nanos_of(word, now, day_offset(offset)))
 }
 
 // The moment of a word by the clock and the defaults.
@@ -263,21 +254,7 @@ fn moment_from(
     }
 }
 
-// The moment of a word, or an error if the clock is out of range.
-fn moment_of(
-    word: Word,
-    now: Option<UtcDateTime>,
-    defaults: &Defaults<'_>,
-) -> Result<OffsetDateTime, TimeArgError>
-    ensures { words.IsMomentOf greatest_year now defaults.now word (words.erased_moment result) }
-{
-    match now {
-        Some(now) => moment_from(word, now, defaults),
-        None => Err(TimeArgError::NoClock),
-    }
-}
-
-// The moment of a text as a word, or an error with that reason if it is no word.
+// The moment of a text as a word, or an error: that reason if it is no word, or a clock out of range.
 fn find_named(
     now: Option<UtcDateTime>,
     text: &str,
@@ -286,10 +263,8 @@ fn find_named(
 ) -> Result<OffsetDateTime, TimeArgError>
     ensures { words.IsNamedMoment greatest_year now defaults.now text.now (seen reason) (words.erased_moment result) }
 {
-    match find_word(text) {
-        Some(word) => moment_of(word, now, defaults),
-        None => Err(TimeArgError::Unread(reason)),
-    }
+    let word = find_word(text).ok_or(TimeArgError::Unread(reason))?;
+    moment_from(word, now.ok_or(TimeArgError::NoClock)?, defaults)
 }
 
 /// Parses a text as a moment by RFC 3339, then by the other formats, then as a word relative to the clock, which is at
@@ -304,11 +279,11 @@ pub fn find_moment(
     ensures { words.IsMomentText greatest_year now first.now others.now text.now defaults.now (words.erased_moment result) }
 {
     let reason = match read(&Reading::Rfc3339, false, text.as_bytes(), defaults) {
-        Ok(said) => return Ok(said.moment),
+        Ok(matched) => return Ok(matched.moment),
         Err(reason) => reason,
     };
     match read_in_turn(first, others, false, text.as_bytes(), defaults) {
-        Ok(said) => Ok(said.moment),
+        Ok(matched) => Ok(matched.moment),
         Err(_) => find_named(now, text, defaults, reason),
     }
 }

@@ -95,20 +95,19 @@ impl<'a> Fault<'a> {
             Fault::From(value, _) => Some(("--from <FORMAT>", value)),
             Fault::Zones(value, _) => Some(("--from <FORMAT>", value)),
             Fault::IncompleteFormat(value, _) => Some(("--from <FORMAT>", value)),
-            Fault::To(value, _) => Some(("--to <FORMAT>", value)),
-            Fault::Unnamed(value) => Some(("--to <FORMAT>", value)),
-            Fault::Year(value) => Some(("--year <YEAR>", value)),
-            Fault::Offset(value) => Some(("--offset <OFFSET>", value)),
-            Fault::In(value, _) => Some(("--in <ZONE>", value)),
+            Fault::To(value, _) | Fault::Unnamed(value) => Some(("--to <FORMAT>", value)),
+            Fault::Year(value) | Fault::UnusedYear(value) => Some(("--year <YEAR>", value)),
+            Fault::Offset(value) | Fault::UnusedOffset(value) => {
+                Some(("--offset <OFFSET>", value))
+            }
+            Fault::In(value, _) | Fault::UnusedIn(value) => Some(("--in <ZONE>", value)),
             Fault::Fold(value) => Some(("--fold <WHICH>", value)),
-            Fault::UnusedYear(value) => Some(("--year <YEAR>", value)),
-            Fault::UnusedLatest(value) => Some(("--latest <TIME>", value)),
-            Fault::UnusedOffset(value) => Some(("--offset <OFFSET>", value)),
-            Fault::UnusedIn(value) => Some(("--in <ZONE>", value)),
             Fault::Zone(value, _) => Some(("--zone <ZONE>", value)),
             Fault::Digits(value) => Some(("--digits <N>", value)),
             Fault::Errors(value) => Some(("--errors <N>", value)),
-            Fault::Latest(value, _) => Some(("--latest <TIME>", value)),
+            Fault::Latest(value, _) | Fault::UnusedLatest(value) => {
+                Some(("--latest <TIME>", value))
+            }
             Fault::Color(value) => Some(("--color <WHEN>", value)),
             Fault::Since(value, _) => Some(("--since <TIME>", value)),
             Fault::Until(value, _) => Some(("--until <TIME>", value)),
@@ -125,22 +124,17 @@ impl fmt::Display for Fault<'_> {
             Fault::Memory => write!(f, "out of memory"),
             Fault::Field(_) => write!(f, "it is not a number from 1 to 18446744073709551615"),
             Fault::Delimiter(_) => write!(f, "it is not one byte"),
-            Fault::From(_, why) => write!(f, "{why}"),
-            Fault::Zones(_, why) => write!(f, "{why}"),
+            Fault::From(_, why) | Fault::To(_, why) => write!(f, "{why}"),
+            Fault::Zones(_, why) | Fault::In(_, why) | Fault::Zone(_, why) => write!(f, "{why}"),
             Fault::IncompleteFormat(_, missing_field) => write!(f, "{missing_field}"),
-            Fault::To(_, why) => write!(f, "{why}"),
             Fault::Unnamed(_) => {
                 write!(f, "--zone gives it no name and no offset of whole minutes")
             }
             Fault::Year(_) => write!(f, "it is not a year from -999999 to 999999"),
             Fault::Offset(_) => write!(f, "it is no offset such as +05:30"),
-            Fault::In(_, why) => write!(f, "{why}"),
             Fault::Fold(_) => write!(f, "it is not earlier, later or refuse"),
-            Fault::UnusedYear(_) => write!(f, "each format reads a year"),
-            Fault::UnusedLatest(_) => write!(f, "each format reads a year"),
-            Fault::UnusedOffset(_) => write!(f, "each format reads an offset"),
-            Fault::UnusedIn(_) => write!(f, "each format reads an offset"),
-            Fault::Zone(_, why) => write!(f, "{why}"),
+            Fault::UnusedYear(_) | Fault::UnusedLatest(_) => write!(f, "each format reads a year"),
+            Fault::UnusedOffset(_) | Fault::UnusedIn(_) => write!(f, "each format reads an offset"),
             Fault::Digits(_) => write!(f, "it is not 0 to 9 or auto"),
             Fault::Errors(_) => write!(f, "it is not a number from 0 to 18446744073709551615"),
             Fault::Latest(_, why) => write!(f, "{why}"),

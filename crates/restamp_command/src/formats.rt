@@ -35,15 +35,10 @@ fn find_format<'a, R: Env + Files + AllocGlobal + Clone + Drop>(
         (λ fault. spec.IsFormatFault has_year (name.now ∷ []) (erased_fault fault)) }
 {
     if is_zoned(name) {
-        return match find_zones(rt) {
-            Ok(zones) => Ok(Reading::Zoned(zones)),
-            Err(why) => Err(Fault::Zones(name, why)),
-        };
+        let zones = find_zones(rt).map_err(|why| Fault::Zones(name, why))?;
+        return Ok(Reading::Zoned(zones));
     }
-    let format = match find_reading(name.as_bytes()) {
-        Ok(format) => format,
-        Err(why) => return Err(Fault::From(name, why)),
-    };
+    let format = find_reading(name.as_bytes()).map_err(|why| Fault::From(name, why))?;
     match format.missing_field(has_year) {
         Some(missing_field) => Err(Fault::IncompleteFormat(name, missing_field)),
         None => Ok(format),
@@ -85,9 +80,7 @@ pub(crate) fn add_formats<'a, R: Env + Files + AllocGlobal + Clone + Drop>(
 {
     for name in names {
         let format = find_format(rt, name, has_year)?;
-        if formats.push(format).is_err() {
-            return Err(Fault::Memory);
-        }
+        formats.push(format).map_err(|_| Fault::Memory)?;
     }
     Ok(())
 }

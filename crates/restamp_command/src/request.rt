@@ -62,9 +62,7 @@ fn find_fields<'a>(options: &Options<'_, 'a>) -> Result<Fields, Fault<'a>>
     if options.blanks {
         return Ok(Fields::Blank);
     }
-    let Some(byte) = find_delimiter(options.delimiter) else {
-        return Err(Fault::Delimiter(options.delimiter));
-    };
+    let byte = find_delimiter(options.delimiter).ok_or(Fault::Delimiter(options.delimiter))?;
     if options.csv {
         Ok(Fields::Quoted(byte))
     } else {
@@ -78,10 +76,8 @@ fn find_field<'a>(options: &Options<'_, 'a>, number: &'a str) -> Result<Place<'a
         (λ fault. text_behind options.now.field ≡ Some number.now → spec.IsFault greatest_year options.now (erased_fault fault)) }
 {
     let fields = find_fields(options)?;
-    match find_positive(number) {
-        Some(number) => Ok(Place::Field(fields, number)),
-        None => Err(Fault::Field(number)),
-    }
+    let index = find_positive(number).ok_or(Fault::Field(number))?;
+    Ok(Place::Field(fields, index))
 }
 
 // The place of a line's timestamp.
@@ -115,10 +111,7 @@ fn find_given_year<'a>(options: &Options<'_, 'a>) -> Result<Option<i32>, Fault<'
     let Some(text) = options.year else {
         return Ok(None);
     };
-    match find_year(text) {
-        Some(year) => Ok(Some(year)),
-        None => Err(Fault::Year(text)),
-    }
+    Ok(Some(find_year(text).ok_or(Fault::Year(text))?))
 }
 
 // The default offset, UTC unless given.
@@ -129,10 +122,7 @@ fn find_given_offset<'a>(options: &Options<'_, 'a>) -> Result<UtcOffset, Fault<'
     let Some(text) = options.offset else {
         return Ok(UtcOffset::UTC);
     };
-    match find_offset(text) {
-        Some(offset) => Ok(offset),
-        None => Err(Fault::Offset(text)),
-    }
+    find_offset(text).ok_or(Fault::Offset(text))
 }
 
 // The moment that an ambiguous local time means; none by default.
@@ -143,10 +133,7 @@ fn find_given_fold<'a>(options: &Options<'_, 'a>) -> Result<Fold, Fault<'a>>
     let Some(text) = options.fold else {
         return Ok(Fold::Refuse);
     };
-    match find_fold(text) {
-        Some(fold) => Ok(fold),
-        None => Err(Fault::Fold(text)),
-    }
+    find_fold(text).ok_or(Fault::Fold(text))
 }
 
 // The name of a zone in reports.
@@ -208,10 +195,8 @@ fn find_bound<'a>(
     let Some(text) = text else {
         return Ok(None);
     };
-    match find_moment(now, first, others, text, defaults) {
-        Ok(moment) => Ok(Some(moment)),
-        Err(why) => Err((text, why)),
-    }
+    let moment = find_moment(now, first, others, text, defaults).map_err(|why| (text, why))?;
+    Ok(Some(moment))
 }
 
 // The defaults for what a timestamp omits, by the formats of the options and the clock at `now`.
@@ -227,18 +212,12 @@ fn find_given<'a, R: Env + Files + AllocGlobal>(
     ensures { MatchResult result (λ given. spec.IsGiven greatest_year now options.now first.now others.now given)
         (λ fault. spec.IsFaultAt greatest_year now options.now (erased_fault fault)) }
 {
-    let parts = match find_parts(rt, options) {
-        Ok(parts) => parts,
-        Err(fault) => return Err(fault),
-    };
-    match find_bound(now, first, others, &parts.defaults(), options.latest) {
-        Ok(latest) => Ok(OwnedDefaults {
-            year: parts.year,
-            local: parts.local,
-            latest,
-        }),
-        Err((text, why)) => Err(Fault::Latest(text, why)),
-    }
+    let parts = find_parts(rt, options)?;
+    let latest = find_bound(now, first, others, &parts.defaults(), options.latest).map_err(|(
+        text,
+        why,
+    )| Fault::Latest(text, why))?;
+    Ok(OwnedDefaults { latest, ..parts })
 }
 
 // Which lines are written.
@@ -266,9 +245,7 @@ fn find_reports<'a>(options: &Options<'_, 'a>) -> Result<Reports, Fault<'a>>
     ensures { MatchResult result (λ reports. spec.AreReports options.now reports)
         (λ fault. spec.IsFault greatest_year options.now (erased_fault fault)) }
 {
-    let Some(errors) = find_number(options.errors) else {
-        return Err(Fault::Errors(options.errors));
-    };
+    let errors = find_number(options.errors).ok_or(Fault::Errors(options.errors))?;
     if options.quiet {
         return Ok(Reports::Quiet);
     }
@@ -294,10 +271,7 @@ fn find_colors<'a>(options: &Options<'_, 'a>, is_terminal: bool) -> Result<bool,
     ensures { MatchResult result (λ shows. spec.AreColors options.now is_terminal shows)
         (λ fault. spec.IsFault greatest_year options.now (erased_fault fault)) }
 {
-    match find_shows(options.color, is_terminal) {
-        Some(shows) => Ok(shows),
-        None => Err(Fault::Color(options.color)),
-    }
+    find_shows(options.color, is_terminal).ok_or(Fault::Color(options.color))
 }
 
 // The bounds of the moments of lines that are kept, by the defaults.
@@ -314,14 +288,15 @@ fn find_bounds<'a>(
         (λ fault. spec.IsFaultAt greatest_year now options.now (erased_fault fault)) }
 {
     let defaults = given.defaults();
-    let since = match find_bound(now, first, others, &defaults, options.since) {
-        Ok(since) => since,
-        Err((text, why)) => return Err(Fault::Since(text, why)),
-    };
-    match find_bound(now, first, others, &defaults, options.until) {
-        Ok(until) => Ok((since, until)),
-        Err((text, why)) => Err(Fault::Until(text, why)),
-    }
+    let since = find_bound(now, first, others, &defaults, options.since).map_err(|(
+        text,
+        why,
+    )| Fault::Since(text, why))?;
+    let until = find_bound(now, first, others, &defaults, options.until).map_err(|(
+        text,
+        why,
+    )| Fault::Until(text, why))?;
+    Ok((since, until))
 }
 
 impl<'a> Request<'a> {
@@ -349,20 +324,12 @@ impl<'a> Request<'a> {
         let first = find_first(rt, options)?;
         let mut others = Vec::new(rt.alloc());
         let names = other_names(options);
-        if let Err(fault) = add_formats(rt, names, has_default_year(options), &mut others) {
-            return Err(fault);
-        }
-        let given = match find_given(rt, options, now, &first, others.as_slice()) {
-            Ok(given) => given,
-            Err(fault) => return Err(fault),
-        };
+        add_formats(rt, names, has_default_year(options), &mut others)?;
+        let given = find_given(rt, options, now, &first, others.as_slice())?;
         if let Some(fault) = find_unused(options, &first, others.as_slice()) {
             return Err(fault);
         }
-        let (since, until) = match find_bounds(options, now, &first, others.as_slice(), &given) {
-            Ok(bounds) => bounds,
-            Err(fault) => return Err(fault),
-        };
+        let (since, until) = find_bounds(options, now, &first, others.as_slice(), &given)?;
         let style = find_style(rt, options)?;
         Ok(Request {
             place,

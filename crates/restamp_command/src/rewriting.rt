@@ -59,7 +59,9 @@ impl Rewriting for Restamping<'_> {
     fn write_reason<L: Sink>(&self, front: &[u8], log: &mut L) -> Result<(), Unwritten> {
         match self.job.judge::<Reason>(front) {
             LineAction::Refused(refusal) => self.write_location(front, refusal, log),
-            LineAction::Without | LineAction::Rewritten { .. } | LineAction::Dropped => Ok(()),
+            LineAction::Without => Ok(()),
+            LineAction::Rewritten { .. } => Ok(()),
+            LineAction::Dropped => Ok(()),
         }
     }
 }

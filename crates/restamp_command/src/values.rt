@@ -21,30 +21,15 @@ pub fn find_number(text: &str) -> Option<u64>
 pub fn find_positive(text: &str) -> Option<usize>
     ensures { spec.IsPositive text.now result }
 {
-    match text.parse::<usize>() {
-        Ok(0) => None,
-        Ok(number) => Some(number),
-        Err(_) => None,
-    }
-}
-
-// A number with or without a sign.
-fn find_signed(text: &str) -> Option<i32>
-    ensures { spec.IsSigned text.now result }
-{
-    text.parse::<i32>().ok()
+    text.parse::<usize>().ok().filter(|number| *number != 0)
 }
 
 /// A year from -999999 to 999999.
 pub fn find_year(text: &str) -> Option<i32>
     ensures { spec.IsYear greatest_year text.now result }
 {
-    let year = find_signed(text)?;
-    if year.unsigned_abs() <= 999_999 {
-        Some(year)
-    } else {
-        None
-    }
+    let year = text.parse::<i32>().ok();
+    year.filter(|year| year.unsigned_abs() <= 999_999)
 }
 
 /// The byte that ends a field; `\t` is TAB.
@@ -126,8 +111,5 @@ pub fn find_offset(text: &str) -> Option<UtcOffset>
 {
     let items = offset_items();
     let description = compound(&items);
-    match description.parse_offset(text.as_bytes(), None) {
-        Ok(offset) => Some(offset),
-        Err(_) => None,
-    }
+    description.parse_offset(text.as_bytes(), None).ok()
 }

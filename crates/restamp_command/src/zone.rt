@@ -29,10 +29,7 @@ impl Zone {
         match self {
             Zone::Keep => None,
             Zone::Fixed(offset) => Some(ZoneText::Offset(*offset)),
-            Zone::Named(named) => match named.name() {
-                Some(name) => Some(ZoneText::Name(name.as_bytes())),
-                None => None,
-            },
+            Zone::Named(named) => Some(ZoneText::Name(named.name()?.as_bytes())),
         }
     }
 
@@ -121,8 +118,5 @@ pub(crate) fn parse_zone<R: Env + Files + AllocGlobal>(
     if let Some(offset) = find_offset(text) {
         return Ok(Zone::Fixed(offset));
     }
-    match find_zone(rt, text) {
-        Ok(named) => Ok(Zone::Named(named)),
-        Err(why) => Err(why),
-    }
+    Ok(Zone::Named(find_zone(rt, text)?))
 }

@@ -1,5 +1,5 @@
 -- A format matches nothing from a byte that its texts can't start with.
-use Rattle.std.proofs.Common.{◌≡◌, ℕ, zero, suc, ◌+◌, ◌<◌, ◌≤◌, ◌++◌, ℤ, pos, Bool, true, false, not, List, [], ◌∷◌, codes, length, get_or, take, drop, refl, sym, subst, arith, inl, inr, get_or-drop, get_or-take, ◌∙◌, None, Some, Err, MatchBool, MatchOption, Option, ◌&&◌, ◌||◌, ◌-ℤ◌}
+use Rattle.std.proofs.Common.{◌≡◌, ℕ, zero, suc, ◌≤◌, ◌++◌, ℤ, pos, Bool, true, false, not, List, [], ◌∷◌, codes, get_or, take, drop, refl, sym, subst, arith, inl, inr, get_or-drop, get_or-take, ◌∙◌, None, Some, Err, MatchBool, MatchOption, Option, ◌&&◌, ◌||◌, ◌-ℤ◌}
 use Rattle.std.specs.Char.{is_ascii_digit}
 use Rattle.std.proofs.lemmas.Int.{ints}
 use Rattle.std.proofs.lemmas.Bool.{and_from, and_left, or_from, or_left, or_parts, or_right, true≢false}

@@ -1,5 +1,5 @@
 -- The error in a rejected line has exactly one location.
-use Rattle.std.proofs.Common.{◌≡◌, ◌∙◌, ap, sym, true, List, Option, Some, None, Ok, Err, inl, inr, ◌+◌, drop, MatchOption, MatchResult, Result}
+use Rattle.std.proofs.Common.{◌≡◌, ℕ, ◌∙◌, ap, sym, true, List, Option, Some, None, Ok, Err, inl, inr, ◌+◌, drop, MatchOption, MatchResult, Result}
 use Rattle.std.proofs.lemmas.Option.{same_Some}
 use Rattle.time_values.specs.Calendar.{greatest_year}
 use Rattle.time_values.specs.Refusal.{Refusal}
@@ -21,7 +21,6 @@ use Rattle.restamp_formats.specs.declared.missing_field.MissingField.{MissingFie
 use Rattle.restamp_formats.specs.declared.reading.Defaults.{Defaults}
 use Rattle.restamp_formats.specs.declared.reading.Reading.{Reading}
 use Rattle.restamp_formats.specs.declared.reading.Reading.TheVariants as reading
-use Rattle.restamp_lines.specs.declared.job.Job.{Job}
 use Rattle.restamp_formats.specs.declared.reading.Match.{Match}
 use Rattle.restamp_formats.proofs.OneReading.{one_read_in_front}
 use Rattle.restamp_formats.proofs.OneWriting.{both_are, one_bool, one_option, one_suffix}

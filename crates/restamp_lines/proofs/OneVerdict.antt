@@ -1,5 +1,5 @@
 -- Each line has exactly one verdict.
-use Rattle.std.proofs.Common.{◌≡◌, ℕ, Bool, true, List, [], ◌∷◌, ◌+◌, ◌<◌, length, take, drop, sym, ap, subst, refl, arith, ◌∙◌, None, Some, Option, is_some, nat_lt}
+use Rattle.std.proofs.Common.{◌≡◌, ℕ, true, List, [], ◌∷◌, ◌+◌, ◌<◌, length, take, drop, sym, ap, subst, refl, arith, ◌∙◌, None, Some, Option, is_some, nat_lt}
 use Rattle.time_values.specs.Calendar.{greatest_year}
 use Rattle.restamp_place.specs.Cuts.{body_of}
 use Rattle.restamp_stream.specs.declared.action.LineAction.TheVariants.{Dropped}

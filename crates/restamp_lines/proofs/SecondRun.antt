@@ -42,6 +42,7 @@ put_back job false true start w bytes text again same e f none =
 put_back job false false start w bytes text again same e f none = (Dropped, rw (none, f, e) refl, refl)
 
 pub changes_nothing : ChangesNothing greatest_year
+unfolding same_kept put_back
 changes_nothing job place line span v bytes verdict at closed found here is judged_so =
     let it = back job.first.now job.defaults job.form v bytes is in
     let s = said it.0 (length bytes) in

@@ -133,9 +133,9 @@ fn find_in_part<'a>(reading: &'a Reading, part: Part<'_>, error: Parse) -> Error
         Reading::Zoned(_) => find_zoned(part, error),
         Reading::Rfc2822 => find_by(&Rfc2822, part, error),
         Reading::Iso8601 => find_by(&Iso8601, part, error),
-        Reading::Described(described)
-        | Reading::Complete(described)
-        | Reading::Counted(described) => find_by(described, part, error),
+        Reading::Described(described) => find_by(described, part, error),
+        Reading::Complete(described) => find_by(described, part, error),
+        Reading::Counted(described) => find_by(described, part, error),
     }
 }
 

@@ -1,14 +1,16 @@
-use Rattle.std.proofs.Common.{Ok, Err, refl}
-use Rattle.time_values.specs.Refusal.{refusal_of}
+use Rattle.std.proofs.Common.{◌≡◌, ◌∙◌, Ok, Err, refl, Result}
+use Rattle.std.specs.Result.{result_ok}
+use Rattle.time_parsing.specs.Outcome.{seen}
+use Rattle.time_values.specs.declared.error.Parse.{Parse}
 use Rattle.restamp_command.proofs.values.find_offset.Goals as goal
 
-pub returns-in-Ok : goal.returns-in-Ok
-returns-in-Ok c =
-    (Ok c.in-Ok.offset, rw (c.compound-description.ensures, c.offset_items-items.ensures, c.as_bytes.ensures.value) at c.in-Ok.ensures, refl)
+ok-seen : {V : Type 0} (r : Result V Parse) → result_ok r ≡ result_ok (seen r)
+ok-seen (Ok v) = refl
+ok-seen (Err e) = refl
 
-pub returns-in-Err : goal.returns-in-Err
-returns-in-Err c = (
-  Err (refusal_of c.in-Err.field-0),
-  rw (c.compound-description.ensures, c.offset_items-items.ensures, c.as_bytes.ensures.value) at c.in-Err.ensures,
-  refl,
+pub returns : goal.returns
+returns c = (
+  seen c.parse_offset.result,
+  rw (c.compound-description.ensures, c.offset_items-items.ensures, c.as_bytes.ensures.value) at c.parse_offset.ensures,
+  c.ok.ensures.value ∙ ok-seen c.parse_offset.result,
 )

@@ -1,11 +1,11 @@
-use Rattle.std.proofs.Common.{◌≡◌, take, take_all, arith}
+use Rattle.std.proofs.Common.{◌≡◌, [], take, take_all, arith}
 use Rattle.std.proofs.lemmas.List.Elements.{All-nil, All-cons, All-head, All-tail, All-more}
 use Rattle.restamp_lines.specs.Begins.{IsNotIn}
 use Rattle.restamp_lines.proofs.BeginsLemmas.{in-joined}
 use Rattle.restamp_lines.proofs.anywhere.fast.all_firsts.Goals as goal
 
 pub loop-reading-init : goal.loop-reading-init
-loop-reading-init c x none = All-cons (IsNotIn x) _ _ (rw c.format_firsts-firsts.ensures at none) (All-nil (IsNotIn x))
+loop-reading-init c x none = All-cons (IsNotIn x) _ [] (rw c.format_firsts-firsts.ensures at none) (All-nil (IsNotIn x))
 
 pub loop-reading-preserved : goal.loop-reading-preserved
 loop-reading-preserved c x none =

@@ -1,0 +1,48 @@
+// All tests over one instance of the module, in Node or in a browser.
+
+import { test as testArguments } from './arguments.mjs';
+import { answered, Checks, utf8 } from './checks.mjs';
+import { test as testErrors } from './errors.mjs';
+import { test as testMany } from './many.mjs';
+import { test as testValues } from './values.mjs';
+
+const MILLION = 1000000;
+
+/** A million calls of each kind don't grow the memory. */
+function testMemory(p, memory, checks) {
+  const log = p.description('%d/%b/%Y:%H:%M:%S %z');
+  const lines = utf8('1970-01-01T00:00:01Z\nx\n'.repeat(20000));
+  const before = memory.buffer.byteLength;
+  for (let k = 0; k < MILLION; k++) {
+    p.parse('2021-01-02T03:04:05.123456789+05:30');
+    if (k % 10 === 0) p.parse('02/Jan/2021:03:04:05 -0030', log);
+    if (k % 100 === 0) answered(() => p.parse('2021-13-02T03:04:05Z'));
+    if (k % 100 === 0) p.locate('02/Jan/2021:03:04', log);
+    if (k % 1000 === 0) p.description('[year]-[month]-[day]');
+    if (k % 100000 === 0) p.parseMany(lines);
+    if (k % 100000 === 0) p.parseMilliseconds(Array(5000).fill('1970-01-01T00:00:01Z'), log);
+  }
+  checks.same(memory.buffer.byteLength, before, 'the memory after a million calls');
+}
+
+/** The module imports nothing, and exports what the header declares. */
+function testModule(module, createParser, checks) {
+  checks.same(WebAssembly.Module.imports(module), [], 'the imports of the module');
+  const names = WebAssembly.Module.exports(module).map(({ name }) => name).filter((name) => name.startsWith('pelzaune_'));
+  checks.same(names.length, 37, 'the exports of the module');
+  for (const wrong of [undefined, null, 5, {}, { exports: {} }]) checks.throws(() => createParser(wrong), 'TypeError', {}, 'no module');
+}
+
+/** Runs all tests of the package over a module, and returns how many passed, and what failed. */
+export function run(module, createParser, ready) {
+  const checks = new Checks();
+  const instance = new WebAssembly.Instance(module);
+  const p = createParser(instance);
+  testModule(module, createParser, checks);
+  testMemory(p, instance.exports.memory, checks);
+  for (const test of [testValues, testErrors, testMany, testArguments]) test(p, checks);
+  checks.same(Object.keys(p).every((name) => typeof ready[name] === 'function'), true, 'the calls of the package');
+  checks.same(createParser(module).parse('1985-04-12T23:20:50.52Z'), ready.parse('1985-04-12T23:20:50.52Z'), 'over a Module');
+  checks.throws(() => ready.parse('x'), 'ParseError', { index: 0 }, 'the package');
+  return { passed: checks.passed, failed: checks.failed };
+}

@@ -1,0 +1,183 @@
+// The values of texts: the tables of the Python module, and random moments beside Date, Intl and Temporal.
+
+import { answered, padded, pick, random, utf8 } from './checks.mjs';
+
+const LOG = '%d/%b/%Y:%H:%M:%S %z';
+const LOG_BRACKETS = '[day]/[month repr:short]/[year]:[hour]:[minute]:[second] [offset_hour sign:mandatory][offset_minute]';
+
+/** The members of a value, in order. */
+const plainly = (value) => Object.values(value).join(' ');
+
+const MOMENTS = [
+  ['rfc3339', '2021-01-02T03:04:05.25-00:30', '2021 1 2 3 4 5 250 0 0 -1800'],
+  ['rfc3339', '1985-04-12T23:20:50.52Z', '1985 4 12 23 20 50 520 0 0 0'],
+  ['rfc3339', '2021-01-02t03:04:05z', '2021 1 2 3 4 5 0 0 0 0'],
+  ['rfc3339', '2021-01-02T03:04:05.123456789+05:30', '2021 1 2 3 4 5 123 456 789 19800'],
+  ['rfc3339', '0000-01-01T00:00:00Z', '0 1 1 0 0 0 0 0 0 0'],
+  ['rfc3339', '1990-12-31T23:59:60Z', '1990 12 31 23 59 59 999 999 999 0'],
+  ['rfc2822', 'Sat, 02 Jan 2021 03:04:05 +0607', '2021 1 2 3 4 5 0 0 0 22020'],
+  ['rfc2822', 'Fri, 21 Nov 97 09:55:06 EST', '1997 11 21 9 55 6 0 0 0 -18000'],
+  ['rfc2822', 'Thu, 13 Feb 1969 23:32 -0330 (a comment)', '1969 2 13 23 32 0 0 0 0 -12600'],
+  ['iso8601', '2020-W53-6T03Z', '2021 1 2 3 0 0 0 0 0 0'],
+  ['iso8601', '2021-01-02T03:04:05,25-00:30', '2021 1 2 3 4 5 250 0 0 -1800'],
+  ['iso8601', '20210102T0304Z', '2021 1 2 3 4 0 0 0 0 0'],
+  ['iso8601', '-012345-01-02T03:04:05+24:00', '-12345 1 2 3 4 5 0 0 0 86400'],
+  [LOG, '02/Jan/2021:03:04:05 -0030', '2021 1 2 3 4 5 0 0 0 -1800'],
+  [LOG_BRACKETS, '02/Jan/2021:03:04:05 -0030', '2021 1 2 3 4 5 0 0 0 -1800'],
+  ['[unix_timestamp]', '-1', '1969 12 31 23 59 59 0 0 0 0'],
+];
+
+const PLAIN = [
+  ['iso8601', '20210102T030405,25', '2021 1 2 3 4 5 250 0 0'],
+  ['rfc3339', '2021-01-02T03:04:05.25-00:30', '2021 1 2 3 4 5 250 0 0'],
+  ['%d.%m.%Y %H:%M', '02.01.2021 03:04', '2021 1 2 3 4 0 0 0 0'],
+];
+
+const DATES = [
+  ['iso8601', '2020-366', '2020 12 31'],
+  ['iso8601', '2020-W53-6', '2021 1 2'],
+  ['rfc3339', '2021-01-02T03:04:05Z', '2021 1 2'],
+  ['[year]-[month]-[day]', '2021-03-04', '2021 3 4'],
+  ['%d.%m.%Y', '02.01.2021', '2021 1 2'],
+];
+
+const TIMES = [
+  ['iso8601', 'T03:04,5', '3 4 30 0 0 0'],
+  ['[hour repr:12 padding:none]:[minute] [period]', '1:05 PM', '13 5 0 0 0 0'],
+  ['%H:%M:%S', '23:59:59', '23 59 59 0 0 0'],
+];
+
+/** A format of a table: a name, or a description. */
+export function formOf(p, text) {
+  return /^[a-z]+\d+$/.test(text) ? text : p.description(text);
+}
+
+function testTables(p, checks) {
+  const tables = [[p.parse, MOMENTS], [p.parsePlain, PLAIN], [p.parseDate, DATES], [p.parseTime, TIMES]];
+  for (const [call, rows] of tables) {
+    for (const [format, text, expected] of rows) {
+      for (const given of [text, utf8(text)]) {
+        checks.same(answered(() => plainly(call(given, formOf(p, format)))), expected, `${text} by ${format}`);
+      }
+    }
+  }
+  checks.same(plainly(p.parse('1985-04-12T23:20:50.52Z')), '1985 4 12 23 20 50 520 0 0 0', 'the default format');
+  checks.same(plainly(p.parse('1985-04-12T23:20:50.52Z', undefined)), '1985 4 12 23 20 50 520 0 0 0', 'format undefined');
+}
+
+function testParts(p, checks) {
+  const parts = (text, format) => {
+    const { date, time, offsetSeconds } = p.parseParts(text, format);
+    return [date && plainly(date), time && plainly(time), offsetSeconds];
+  };
+  checks.same(parts('2020-W53-5', 'iso8601'), ['2021 1 1', null, null], 'a date');
+  checks.same(parts('23:59 -0030', p.description('%H:%M %z')), [null, '23 59 0 0 0 0', -1800], 'a time and an offset');
+  checks.same(parts('2021-01-02T03:04:05.5Z'), ['2021 1 2', '3 4 5 500 0 0', 0], 'all parts');
+  checks.same(parts('0000-05-13 +2559', p.description('%Y-%m-%d %z')), ['0 5 13', null, 93540], 'the largest offset');
+  checks.same(parts('', p.description('')), [null, null, null], 'no part');
+  checks.throws(() => parts('2021-02-30T03:04:05Z'), 'ParseError', { component: 'day', index: null }, 'an impossible date');
+}
+
+function testInstants(p, checks) {
+  const nanoseconds = (text) => p.parse(text).epochNanoseconds;
+  checks.same(nanoseconds('1969-12-31T23:59:59.999999999Z'), -1n, 'before 1970');
+  checks.same(nanoseconds('2262-04-11T23:47:16.854775808Z'), 2n ** 63n, 'more than 64 bits');
+  checks.same(nanoseconds('1677-09-21T00:12:43.145224191Z'), -(2n ** 63n) - 1n, 'less than 64 bits');
+  const before = p.parse('1969-12-31T23:59:59.9999Z');
+  checks.same([before.epochMilliseconds, before.epochSeconds], [-1, -1], 'rounded down');
+  checks.same(before.toDate().getTime(), -1, 'as a Date');
+  checks.throws(() => p.parse('+300000-01-01T00:00:00Z', 'iso8601').toDate(), 'RangeError', {}, 'no Date');
+  const leap = p.parse('2016-12-31T23:59:60Z');
+  checks.same(leap.epochNanoseconds, 1483228799999999999n, 'a leap second');
+}
+
+function testOffsets(p, checks) {
+  for (let minutes = -1439; minutes <= 1439; minutes += 7) {
+    const size = Math.abs(minutes);
+    const text = `2021-01-02T03:04:05${minutes < 0 ? '-' : '+'}${padded(Math.floor(size / 60), 2)}:${padded(size % 60, 2)}`;
+    checks.same(p.parse(text).offsetSeconds, 60 * minutes, text);
+    checks.same(p.parse(text).epochMilliseconds, Date.parse(text), text);
+  }
+}
+
+/** A random moment between the years, as a Date. */
+function randomDate(next, least, most) {
+  const from = Date.UTC(2000, 0, 1) + (least - 2000) * 31556952000;
+  const range = (most - least) * 31556952;
+  return new Date(from + 1000 * next(Math.min(range, 2147483646)) + 1000 * next(Math.max(range - 2147483646, 1)) + next(1000));
+}
+
+function testBesideDate(p, checks) {
+  const next = random(3339);
+  for (let k = 0; k < 3000; k++) {
+    const date = randomDate(next, 1000, 9000);
+    for (const format of ['rfc3339', 'iso8601']) {
+      const moment = p.parse(date.toISOString(), format);
+      checks.same([moment.epochMilliseconds, moment.toDate().getTime()], [date.getTime(), date.getTime()], date.toISOString());
+    }
+    checks.same(p.parse(date.toUTCString(), 'rfc2822').epochSeconds, Math.floor(date.getTime() / 1000), date.toUTCString());
+    checks.same(p.format(date, 'rfc2822').replace('+0000', 'GMT'), date.toUTCString(), 'as a mail date');
+    checks.same(p.parse(p.format(date)).epochMilliseconds, date.getTime(), 'as RFC 3339');
+  }
+}
+
+function testBesideTemporal(p, checks) {
+  const { Temporal } = globalThis;
+  if (Temporal === undefined) {
+    checks.throws(() => p.parse('1985-04-12T23:20:50Z').toInstant(), 'TypeError', { message: 'this engine has no Temporal' }, 'Temporal');
+    return;
+  }
+  const next = random(9557);
+  for (let k = 0; k < 1000; k++) {
+    const offset = pick(next, ['Z', '+05:30', '-08:00', '+00:01']);
+    const fraction = pick(next, ['', '.5', '.123456789', `.${padded(next(1000000), 6)}`]);
+    const text = `${padded(next(9999), 4)}-${padded(1 + next(12), 2)}-${padded(1 + next(28), 2)}T${padded(next(24), 2)}:04:05${fraction}${offset}`;
+    const moment = p.parse(text);
+    checks.isTrue(moment.toInstant().equals(Temporal.Instant.from(text)), `${text} as an Instant`);
+    checks.isTrue(moment.toZonedDateTime().toPlainDateTime().equals(p.parsePlain(text).toPlainDateTime()), `${text} zoned`);
+    checks.isTrue(p.parsePlain(text).toPlainDateTime().equals(Temporal.PlainDateTime.from(text.replace(/(Z|[+-]\d\d:\d\d)$/, ''))), text);
+    checks.same(p.parse(p.format(moment.toZonedDateTime())).epochNanoseconds, moment.epochNanoseconds, `${text} written`);
+    checks.same(p.format(moment.toInstant()).slice(-1), 'Z', `${text} written in UTC`);
+  }
+  checks.same(p.parse('2021-07-01T12:00:00Z').toZonedDateTime('Europe/Berlin').hour, 14, 'in a time zone');
+  checks.same(p.parseDate('2020-366', 'iso8601').toPlainDate().toString(), '2020-12-31', 'a PlainDate');
+  checks.same(p.parseTime('T03:04,5', 'iso8601').toPlainTime().toString(), '03:04:30', 'a PlainTime');
+  const odd = p.parse('2021-01-02 03:04:05 +01:02:03', p.description('[year]-[month]-[day] [hour]:[minute]:[second] [offset_hour sign:mandatory]:[offset_minute]:[offset_second]'));
+  checks.throws(() => odd.toZonedDateTime(), 'RangeError', {}, 'an offset with seconds');
+  checks.same(odd.toInstant().epochNanoseconds, odd.epochNanoseconds, 'its instant');
+}
+
+function testDescriptions(p, checks) {
+  for (const text of [LOG, LOG_BRACKETS, '', '[year]-[month][optional [-[day]]]', 'Uhr é\u{1f550}']) {
+    checks.same(p.description(text).text, text, `the text of ${text}`);
+  }
+  const [first, second] = [p.description('%d.%m.%Y'), p.description('%m/%d/%Y')];
+  for (let k = 0; k < 4; k++) {
+    checks.same(plainly(p.parseDate('02.01.2021', first)), '2021 1 2', 'the first of two in turn');
+    checks.same(plainly(p.parseDate('01/02/2021', second)), '2021 1 2', 'the second of two in turn');
+    checks.throws(() => p.description('[yaer]'), 'DescriptionError', {}, 'an invalid one between');
+    checks.throws(() => p.parseDate('01/02/2021', first), 'ParseError', { index: 2, expected: "'.'" }, 'the other text');
+  }
+}
+
+function testWritten(p, checks) {
+  const moment = p.parse('1985-04-12T23:20:50.52-08:30');
+  checks.same(p.format(moment), '1985-04-12T23:20:50.52-08:30', 'RFC 3339');
+  checks.same(p.format(moment, 'rfc3339'), '1985-04-12T23:20:50.52-08:30', 'RFC 3339 by name');
+  checks.same(p.format(moment, 'iso8601'), '1985-04-12T23:20:50.520000000-08:30', 'ISO 8601');
+  checks.same(p.format(moment, 'rfc2822'), 'Fri, 12 Apr 1985 23:20:50 -0830', 'RFC 2822');
+  checks.same(p.format({ year: 2021, month: 1, day: 2, offsetSeconds: 0 }), '2021-01-02T00:00:00Z', 'few members');
+  checks.same(p.format(new Date(0)), '1970-01-01T00:00:00Z', 'a Date');
+  checks.same(JSON.parse(JSON.stringify(moment)).offsetSeconds, -30600, 'as JSON');
+}
+
+export function test(p, checks) {
+  testTables(p, checks);
+  testParts(p, checks);
+  testInstants(p, checks);
+  testOffsets(p, checks);
+  testBesideDate(p, checks);
+  testBesideTemporal(p, checks);
+  testDescriptions(p, checks);
+  testWritten(p, checks);
+}

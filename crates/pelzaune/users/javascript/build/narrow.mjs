@@ -5,8 +5,14 @@
 // A lowered function still takes an i64, a BigInt, for each pointer and length. This reads what wasm-dis prints, and
 // exports for each such function a wrapper that takes and returns i32. Each i64 of an export is a pointer or a length,
 // below 2^32, which pelzaune.h shows. An export of another kind ends this with an error.
+//
+// The memory begins with the room that memory.js lays out. If it grew to that, V8 would check at each later access to any
+// array whether its buffer is detached.
 
 import { readFileSync } from 'node:fs';
+
+const ROOM_BYTES = 600000;
+const PAGE_BYTES = 65536;
 
 const rows = readFileSync(0, 'utf8').split('\n');
 
@@ -33,9 +39,12 @@ function wrapper(name, target, { parameters, result }) {
   return ` (func $narrow_${name} ${types} (result i32)\n  ${result === 'i64' ? `(i32.wrap_i64 ${call})` : call})`;
 }
 
+const heapBase = Number(/^ \(global \S+ i64 \(i64.const (\d+)\)\)$/m.exec(rows.join('\n'))[1]);
 const functions = signatures();
 const wrappers = [];
 const narrow = rows.map((row) => {
+  const memory = /^ \(memory (\$\S+) (\d+)\)$/.exec(row);
+  if (memory) return ` (memory ${memory[1]} ${Math.max(memory[2], Math.ceil((heapBase + ROOM_BYTES) / PAGE_BYTES))})`;
   const base = /^ \(global (\$\S+) i64 \(i64.const (\d+)\)\)$/.exec(row);
   if (base) return ` (global ${base[1]} i32 (i32.const ${base[2]}))`;
   if (/^ \(import /.test(row)) throw new Error(`the module imports something: ${row}`);

@@ -34,4 +34,6 @@ const row = (cells) => console.log(`| ${cells.join(' | ')} |`);
 const all = [...columns.values()];
 row(['What', ...columns.keys()]);
 row(['---', ...all.map(() => '---:')]);
-for (const what of Object.keys(all[0])) row([what, ...all.map((its) => its[what] ?? '–')]);
+// Node of Debian has no Temporal, so the longest column has all rows.
+const [longest] = [...all].sort((first, second) => Object.keys(second).length - Object.keys(first).length);
+for (const what of Object.keys(longest)) row([what, ...all.map((its) => its[what] ?? '–')]);

@@ -26,14 +26,14 @@ function leastOf(calls, count, rounds) {
 function madeTexts() {
   const joined = Array.from({ length: LINES }, (_, k) => (
     `${2000 + (k % 30)}-${padded(1 + (k % 12), 2)}-${padded(1 + (k % 28), 2)}T${padded(k % 24, 2)}:${padded(k % 60, 2)}:${padded((k * 7) % 60, 2)}.${padded((k * 7919) % 1000, 3)}+05:30`)).join('\n');
-  // Split, each is a flat string of its own.
-  return { joined, texts: joined.split('\n') };
+  // Engines keep a part of a longer string as a view of that, and a text that JSON has as a string of its own.
+  return { joined, parts: joined.split('\n'), texts: JSON.parse(JSON.stringify(joined.split('\n'))) };
 }
 
 let sink = 0;
 
 /** The calls for one text, by their names in the table. */
-function callsOfOne(p, texts) {
+function callsOfOne(p, texts, parts) {
   const { Temporal } = globalThis;
   const log = p.description(LOG);
   const logs = texts.map((_, k) => `${padded(1 + (k % 28), 2)}/Jan/${2000 + (k % 30)}:03:04:05 -0030`);
@@ -44,6 +44,8 @@ function callsOfOne(p, texts) {
     '`Date.parse(text)`': each(texts, Date.parse),
     '`new Date(text)`': each(texts, (it) => new Date(it).getTime()),
     ...(Temporal && { '`Temporal.Instant.from(text)`': each(texts, (it) => Temporal.Instant.from(it).epochMilliseconds) }),
+    '`parse` of a part of a longer string': each(parts, (it) => p.parse(it).day),
+    '`Date.parse` of a part of a longer string': each(parts, Date.parse),
     "`parse(text, 'rfc2822')`": each(mails, (it) => p.parse(it, 'rfc2822').day),
     '`Date.parse` of a mail date': each(mails, Date.parse),
     '`parse` by a description': each(logs, (it) => p.parse(it, log).day),
@@ -65,8 +67,8 @@ function callsOfMany(p, texts, joined) {
 
 /** The nanoseconds of each call. */
 export function run(module, createParser, p) {
-  const { joined, texts } = madeTexts();
-  const one = callsOfOne(p, texts);
+  const { joined, parts, texts } = madeTexts();
+  const one = callsOfOne(p, texts, parts);
   const many = callsOfMany(p, texts, joined);
   const nanoseconds = [...leastOf(Object.values(one), CALLS, 8 * ROUNDS), ...leastOf(Object.values(many), LINES, ROUNDS)];
   return Object.fromEntries([...Object.keys(one), ...Object.keys(many)].map((name, index) => [name, nanoseconds[index]]));

@@ -47,20 +47,6 @@ fn moment_2822<P: From<OffsetDateTime> + Copy>(text: &[u8], out: &mut P) -> u32
     }
 }
 
-// Stores the parts of a moment of ISO 8601.
-#[inline(never)]
-fn moment_8601<P: From<OffsetDateTime> + Copy>(text: &[u8], out: &mut P) -> u32
-    ensures { StoresValue P.from_gives of_moment (Some iso8601) text.now result out.old out.new }
-{
-    match fast::iso8601::moment(text) {
-        Some(value) => {
-            *out = P::from(value);
-            0
-        }
-        None => parsed_moment(&Iso8601, text, out),
-    }
-}
-
 // Stores the parts of a text's moment.
 #[inline(never)]
 fn parsed_moment<P: From<OffsetDateTime> + Copy, F: Parsable>(
@@ -89,7 +75,7 @@ pub fn moment_by<P: From<OffsetDateTime> + Copy>(format: u32, text: &[u8], out: 
     match format_of(format) {
         Some(Format::Rfc3339) => moment_3339(text, out),
         Some(Format::Rfc2822) => moment_2822(text, out),
-        Some(Format::Iso8601) => moment_8601(text, out),
+        Some(Format::Iso8601) => parsed_moment(&Iso8601, text, out),
         None => UNKNOWN_FORMAT,
     }
 }
@@ -116,17 +102,6 @@ fn count_2822(text: &[u8], out: &mut Nanoseconds) -> u32
     }
 }
 
-// Stores the nanoseconds of a moment of ISO 8601.
-#[inline(never)]
-fn count_8601(text: &[u8], out: &mut Nanoseconds) -> u32
-    ensures { StoresCount (Some iso8601) text.now result out.old out.new }
-{
-    match fast::iso8601::moment(text) {
-        Some(value) => store_count(value, out),
-        None => parsed_count(&Iso8601, text, out),
-    }
-}
-
 // Stores the nanoseconds of a text's moment.
 #[inline(never)]
 fn parsed_count<F: Parsable>(format: &F, text: &[u8], out: &mut Nanoseconds) -> u32
@@ -145,7 +120,7 @@ pub fn count_by(format: u32, text: &[u8], out: &mut Nanoseconds) -> u32
     match format_of(format) {
         Some(Format::Rfc3339) => count_3339(text, out),
         Some(Format::Rfc2822) => count_2822(text, out),
-        Some(Format::Iso8601) => count_8601(text, out),
+        Some(Format::Iso8601) => parsed_count(&Iso8601, text, out),
         None => UNKNOWN_FORMAT,
     }
 }

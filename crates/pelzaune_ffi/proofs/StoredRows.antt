@@ -1,12 +1,11 @@
 -- A column, entry by entry.
 use Rattle.std.specs.List.{prefix_len}
 use Rattle.std.specs.Prelude.{MatchOption, Option, Some, None}
-use Rattle.std.proofs.Common.{◌≡◌, ℕ, ◌+◌, ◌<◌, List, [], ◌∷◌, ◌++◌, length, get_or, set, take, drop, ◌≤◌, ◌⊎◌, inl, inr, refl, arith, append_assoc, add_assoc, add-one, add-zero, append-nil, drop-cons, ◌==◌, true, eqb, not, Bool, false, cond, map, ◌*◌, zero-add, zero, suc, ap, ◌-◌, ◌∙◌, if◌then◌else◌}
+use Rattle.std.proofs.Common.{◌≡◌, ℕ, ◌+◌, ◌<◌, List, [], ◌∷◌, ◌++◌, length, get_or, set, take, drop, ◌≤◌, ◌⊎◌, inl, inr, refl, arith, append_assoc, add_assoc, add-one, add-zero, append-nil, drop-cons, ◌==◌, true, eqb, not, Bool, false, cond, map, ◌*◌, zero, suc, ap, ◌-◌, ◌∙◌, if◌then◌else◌}
 use Rattle.std.proofs.lemmas.List.{take_more_set, drop-set-lt, take_all, drop_all, take-append-drop}
 use Rattle.std.proofs.lemmas.Bool.Decides.{nat_tests}
-use Rattle.std.proofs.lemmas.Bool.{cases_lt, eqb-true}
-use Rattle.std.proofs.lemmas.Simd.{run_in_chunk_fails, run_in_chunk_stops}
-use lib.Lanes.{chunk, mask_l}
+use Rattle.std.proofs.lemmas.Bool.{cases_lt}
+use lib.Lanes.{mask_l}
 use Rattle.memchr.specs.Find.{IsFirstByte, is_byte}
 use Rattle.time_values.specs.Refusal.{Refusal}
 use Rattle.time_digits.specs.declared.Padding.{Padding}
@@ -27,7 +26,7 @@ use Rattle.time_record.specs.Record.{Record}
 use Rattle.time_record.specs.WalkSteps.{Goes}
 use Rattle.time_record.proofs.WalkSteps.{behind_is, first_item}
 use Rattle.byte_streams.specs.Lines.{line_texts}
-use Rattle.byte_streams.proofs.LinesLemmas.{line_texts-cut, line_texts-found, line_texts-none}
+use Rattle.byte_streams.proofs.LinesLemmas.{line_texts-found, line_texts-none}
 use Rattle.pelzaune_ffi.specs.Columns.{Counting, IsColumn, no_count, one_if_refused}
 use Rattle.pelzaune_ffi.specs.declared.parts.Nanoseconds.{Nanoseconds}
 use Rattle.pelzaune_ffi.specs.Described.{step_of, kinds, kind_in, padding_of, padding_number, digits_of, digits_number, trailing_of, trailing_number, is_set, skipping}
@@ -98,7 +97,7 @@ all_clear p [] all = refl
 all_clear p (x ∷ xs) all =
     clear_step (p x) (length xs) (prefix_len (λ x. not (p x)) xs) (mask_l (map p xs)) (omega (arith, all)) (all_clear p xs)
 
-abbrev lf : ℕ → Bool
+abbrev pub lf : ℕ → Bool
 lf x = eqb x 10
 
 -- the first set bit is below the length
@@ -109,17 +108,8 @@ below_all xs n r long some counted most =
       | inr not_less ↦ absurd (let none = all_clear lf xs (omega (arith, counted, long, not_less)) in omega (arith, none, some))
     ]
 
-not_lf : (x : ℕ) → lf x ≡ false → x ≡ 10 → ⊥
+pub not_lf : (x : ℕ) → lf x ≡ false → x ≡ 10 → ⊥
 not_lf x other is = cc
-
--- the line that ends at that bit
-pub line_at : (xs : List ℕ) (n r : ℕ) → n ≤ length xs → r < n → r ≡ prefix_len (λ x. not (lf x)) (chunk 0 n xs)
-    → line_texts xs ≡ take r xs ∷ line_texts (drop (r + 1) xs)
-line_at xs n r room below counted =
-    let fits : 0 + n ≤ length xs = omega (arith, room) in
-    let here : lf (get_or xs r 0) ≡ true = rw zero-add at (run_in_chunk_stops lf xs 0 n r 0 fits counted below) in
-    line_texts-cut xs r (omega arith) (eqb-true _ _ here)
-    (λ k less is. not_lf (get_or xs k 0) (run_in_chunk_fails lf xs 0 n r 0 fits counted k (omega arith) (omega (arith, less))) is)
 
 -- the result of a search
 pub searched : (xs : List ℕ) (found : Option ℕ) → 0 < length xs → IsFirstByte (is_byte 10) xs found

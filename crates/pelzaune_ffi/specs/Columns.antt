@@ -1,5 +1,5 @@
 -- Columns: the lines of a text, each as the nanoseconds of its moment.
-use Rattle.std.specs.Prelude.{◌≡◌, ◌⊎◌, ℕ, ◌+◌, ◌<◌, nat_eq, List, [], ◌∷◌, length, Ok, pos, neg_ℤ, if◌then◌else◌}
+use Rattle.std.specs.Prelude.{◌≡◌, ℕ, ◌+◌, ◌<◌, nat_eq, List, [], ◌∷◌, length, Ok, pos, neg_ℤ, if◌then◌else◌}
 use Rattle.byte_streams.specs.Lines.{line_texts}
 use Rattle.time_components.specs.Tree.{Tree}
 use Rattle.pelzaune_ffi.specs.Described.{StoresByTree}
@@ -40,12 +40,3 @@ IsColumn stores (line ∷ lines) (entry ∷ old) new refused =
 pub record IsFirstLine (line text after : List ℕ) : Type 0 where
   pub lines : line_texts text ≡ line ∷ line_texts after
   pub shorter : length after < length text
-
--- A line ends here: with LF, or with the text.
-abbrev pub EndsLine : List ℕ → List ℕ → Type 0
-EndsLine rest after = (rest ≡ 10 ∷ after) ⊎ ((rest ≡ []) × (after ≡ []))
-
--- The first line of a text is stored.
-abbrev pub CountsFirst : Counting → List ℕ → ℕ → List ℕ → Nanoseconds → Nanoseconds → Type 0
-CountsFirst stores text status after old new =
-    (line : List ℕ) × IsFirstLine line text after × stores line status old new

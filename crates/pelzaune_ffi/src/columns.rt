@@ -1,8 +1,8 @@
 //! Columns: the lines of a text, each as the nanoseconds of its moment.
-ghost use Rattle.std.specs.Prelude.{◌≡◌, ◌<◌, ◌≤◌, length, Some};
+ghost use Rattle.std.specs.Prelude.{◌≡◌, ◌≤◌, length, Some};
 ghost use Rattle.byte_streams.specs.Lines.{line_texts};
 ghost use Rattle.time_components.specs.Tree.{steps_shape};
-ghost use Rattle.pelzaune_ffi.specs.Columns.{Counting, CountsFirst, IsColumn, rejecting, by_tree};
+ghost use Rattle.pelzaune_ffi.specs.Columns.{Counting, IsColumn, rejecting, by_tree};
 ghost use Rattle.pelzaune_ffi.specs.Columns as spec;
 ghost use Rattle.pelzaune_ffi.specs.Described as Described;
 ghost use Rattle.pelzaune_ffi.specs.Described.{StoresByDescription, StoresBySteps};
@@ -11,7 +11,7 @@ ghost use Rattle.pelzaune_ffi.specs.Results.{StoresCount, IsCountStored, of_mome
 
 use crate::descriptions::{MOST_STEPS, Syntax, fault_status, read_description, syntax_of};
 use crate::lines::{count_lines, first_line};
-use crate::moments::{count_by, count_first_by};
+use crate::moments::count_by;
 use crate::parts::Nanoseconds;
 use crate::results::count;
 use crate::status::UNKNOWN_SYNTAX;
@@ -26,16 +26,6 @@ trait Count {
     // Stores them in `entry` and returns the status.
     fn count_line(&self, line: &[u8], entry: &mut Nanoseconds) -> u32
         ensures { stores self.now line.now result entry.old entry.new };
-
-    // Stores those of the first line of a text. Also returns the bytes after that line.
-    #[inline(always)]
-    fn count_first<'a>(&self, text: &'a [u8], entry: &mut Nanoseconds) -> (u32, &'a [u8])
-        requires { 0 < length text.now }
-        ensures { CountsFirst (stores self.now) text.now result.0 result.1.now entry.old entry.new }
-    {
-        let (line, after) = first_line(text);
-        (self.count_line(line, entry), after)
-    }
 }
 
 // By a format's number.
@@ -48,11 +38,6 @@ impl Count for ByNumber {
     #[inline(always)]
     fn count_line(&self, line: &[u8], entry: &mut Nanoseconds) -> u32 {
         count_by(self.0, line, entry)
-    }
-
-    #[inline(always)]
-    fn count_first<'a>(&self, text: &'a [u8], entry: &mut Nanoseconds) -> (u32, &'a [u8]) {
-        count_first_by(self.0, text, entry)
     }
 }
 
@@ -104,8 +89,8 @@ fn column<C: Count>(
     let mut rejected = 0;
     while index < entries.len() && !rest.is_empty() {
         let mut entry = Nanoseconds { count: i64::MIN };
-        let (status, after) = counting.count_first(rest, &mut entry);
-        rejected += one_if_refused(status);
+        let (line, after) = first_line(rest);
+        rejected += one_if_refused(counting.count_line(line, &mut entry));
         entries[index] = entry;
         index += 1;
         rest = after;

@@ -1,11 +1,27 @@
 //! Splits a text into lines.
-mod fast;
-
-ghost use Rattle.std.specs.Prelude.{◌≡◌, ◌∷◌, ◌+◌, ◌<◌, ◌≤◌, [], length, take, drop, MatchOption};
+ghost use Rattle.std.specs.Prelude.{◌≡◌, ◌≢◌, ◌∷◌, ◌+◌, ◌<◌, ◌≤◌, ℕ, [], length, take, drop, get_or, MatchOption};
 ghost use Rattle.byte_streams.specs.Lines.{line_texts};
 ghost use Rattle.pelzaune_ffi.specs.Columns.{IsFirstLine};
 
 use memchr::memchr;
+use std::simd::prelude::*;
+
+// The index of the first LF among the 32 bytes from an index on, all tested at once.
+#[inline(always)]
+fn lf_among(text: &[u8], from: usize) -> Option<usize>
+    requires { from + 32 ≤ length text.now }
+    ensures { MatchOption result
+        ((k : ℕ) → from ≤ k → k < from + 32 → get_or text.now k 0 ≢ 10)
+        (λ i. (i < from + 32) × (get_or text.now i 0 ≡ 10) × ((k : ℕ) → from ≤ k → k < i → get_or text.now k 0 ≢ 10)) }
+{
+    let ends = u8x32::from_slice(&text[from..])
+        .simd_eq(u8x32::splat(b'\n'))
+        .to_bitmask();
+    if ends == 0 {
+        return None;
+    }
+    Some(from + ends.trailing_zeros() as usize)
+}
 
 // The index of the LF that ends the first line of a text. `None`: the whole text is one line.
 #[inline(always)]
@@ -14,10 +30,16 @@ fn line_end(text: &[u8]) -> Option<usize>
     ensures { MatchOption result (line_texts text.now ≡ text.now ∷ [])
         (λ i. (i < length text.now) × (line_texts text.now ≡ take i text.now ∷ line_texts (drop (i + 1) text.now))) }
 {
-    match fast::line_end(text) {
-        Some(end) => Some(end),
-        None => memchr(b'\n', text),
+    // A call for a line of up to 63 bytes would cost more than the two tests.
+    if text.len() >= 64 {
+        if let Some(end) = lf_among(text, 0) {
+            return Some(end);
+        }
+        if let Some(end) = lf_among(text, 32) {
+            return Some(end);
+        }
     }
+    memchr(b'\n', text)
 }
 
 /// The first line of a non-empty text, and the bytes after its LF.

@@ -4,15 +4,13 @@
 //! function that isn't inlined, so that it leaves the fast path its registers.
 mod fast;
 
-ghost use Rattle.std.specs.Prelude.{◌<◌, Some, length};
+ghost use Rattle.std.specs.Prelude.{Some};
 ghost use Rattle.time_values.specs.Calendar.{greatest_year};
 ghost use Rattle.time_record.specs.Resolution.{IsPlain};
-ghost use Rattle.pelzaune_ffi.specs.Columns.{CountsFirst};
 ghost use Rattle.pelzaune_ffi.specs.Results as Formats;
 ghost use Rattle.pelzaune_ffi.specs.Results.{StoresValue, StoresCount, HasPlain, IsCountStored, IsStored, IsResultStored, of_moment, over_empty};
 ghost use Rattle.pelzaune_ffi.specs.declared.status.Format.TheVariants.{Iso8601 as iso8601, Rfc2822 as rfc2822, Rfc3339 as rfc3339};
 
-use crate::lines::first_line;
 use crate::parts::{LocalParts, Nanoseconds};
 use crate::results::{count, store_count, store_value};
 use crate::status::{Format, UNKNOWN_FORMAT, format_of, status_of};
@@ -122,48 +120,6 @@ pub fn count_by(format: u32, text: &[u8], out: &mut Nanoseconds) -> u32
         Some(Format::Rfc2822) => count_2822(text, out),
         Some(Format::Iso8601) => parsed_count(&Iso8601, text, out),
         None => UNKNOWN_FORMAT,
-    }
-}
-
-// Splits off the first line of a text, and stores the nanoseconds of its moment of RFC 3339.
-#[inline(never)]
-fn count_cut_3339<'a>(text: &'a [u8], out: &mut Nanoseconds) -> (u32, &'a [u8])
-    requires { 0 < length text.now }
-    ensures { CountsFirst (StoresCount (Some rfc3339)) text.now result.0 result.1.now out.old out.new }
-{
-    let (line, after) = first_line(text);
-    (parsed_count(&Rfc3339, line, out), after)
-}
-
-// As [`count_cut_3339`], without splitting where the fast path parses the start of the text.
-#[inline(always)]
-fn count_first_3339<'a>(text: &'a [u8], out: &mut Nanoseconds) -> (u32, &'a [u8])
-    requires { 0 < length text.now }
-    ensures { CountsFirst (StoresCount (Some rfc3339)) text.now result.0 result.1.now out.old out.new }
-{
-    match fast::line(text) {
-        Some((value, after)) => (store_count(value, out), after),
-        None => count_cut_3339(text, out),
-    }
-}
-
-/// Stores the nanoseconds of the moment of a text's first line, by the format with this number. Also returns the bytes
-/// after that line.
-#[inline(always)]
-pub(crate) fn count_first_by<'a>(
-    format: u32,
-    text: &'a [u8],
-    out: &mut Nanoseconds,
-) -> (u32, &'a [u8])
-    requires { 0 < length text.now }
-    ensures { CountsFirst (StoresCount (Formats.format_of format)) text.now result.0 result.1.now out.old out.new }
-{
-    match format_of(format) {
-        Some(Format::Rfc3339) => count_first_3339(text, out),
-        _ => {
-            let (line, after) = first_line(text);
-            (count_by(format, line, out), after)
-        }
     }
 }
 

@@ -4,7 +4,7 @@
 pub(super) mod iso8601;
 pub(super) mod rfc2822;
 
-ghost use Rattle.std.specs.Prelude.{◌≡◌, ◌≢◌, ◌<◌, ◌≤◌, IfSome, List, ℕ, Ok, None, [], false, length, pos, slice_index};
+ghost use Rattle.std.specs.Prelude.{◌≡◌, ◌<◌, ◌≤◌, IfSome, Ok, None, [], false, pos};
 ghost use Rattle.time_values.specs.Offsets.{HasOffset, offset_refusal};
 ghost use Rattle.time_values.specs.Calendar.{greatest_year};
 ghost use Rattle.time_values.specs.Refusal.{Constructs};
@@ -12,11 +12,10 @@ ghost use Rattle.time_values.specs.Times.{HasClock, time_refusal};
 ghost use Rattle.time_digits.specs.Digits.{Cut};
 ghost use Rattle.time_readers.specs.Direct.{HasDate, IsMade, RefusesRfc3339, date_refusal};
 ghost use Rattle.time_readers.specs.Readers.{Stand};
-ghost use Rattle.time_readers.specs.Rfc3339.{Asks, HasForm, offset_places};
+ghost use Rattle.time_readers.specs.Rfc3339.{Asks, offset_places};
 ghost use Rattle.time_readers.specs.declared.rfc3339.Place.TheVariants as place;
 ghost use Rattle.time_parsing.specs.Outcome.{direct};
 ghost use Rattle.time_parsing.specs.Rfc3339.{Reads, Refuses};
-ghost use Rattle.pelzaune_ffi.specs.Columns.{EndsLine, IsFirstLine};
 ghost use Rattle.pelzaune_ffi.specs.Results.{of_moment};
 
 use std::num::NonZero;
@@ -146,106 +145,4 @@ pub(super) fn moment(text: &[u8]) -> Option<OffsetDateTime>
     let rest = to_second::<false>(text, &mut numbers)?;
     let (numbers, rest) = subsecond(numbers, rest)?;
     moment_from(said_rfc3339(offset(numbers, rest)?))
-}
-
-// The bytes after an LF, or none at the end of the text. `None`: another byte follows.
-#[inline(always)]
-fn after_line(rest: &[u8]) -> Option<&[u8]>
-    ensures { IfSome result (λ after. EndsLine rest.now after.now) }
-{
-    match rest {
-        [] => Some(rest),
-        [b'\n', after @ ..] => Some(after),
-        _ => None,
-    }
-}
-
-// The numbers of an offset that ends a line, and the bytes after that line. `None`: not this form.
-#[inline(always)]
-fn front_offset(numbers: Numbers, rest: &[u8]) -> Option<(Numbers, &[u8])>
-    requires utc { numbers.is_utc ≡ false }
-    requires hour { numbers.offset_hour ≡ 0 }
-    requires minute { numbers.offset_minute ≡ 0 }
-    ensures matches { IfSome result (λ found. (end : List ℕ) × Stand (Asks false) offset_places numbers rest.now end found.0
-        × EndsLine end found.1.now) }
-    ensures second { IfSome result (λ found. found.0.second ≡ numbers.second) }
-    ensures hour { IfSome result (λ found. found.0.offset_hour ≤ 23) }
-    ensures minute { IfSome result (λ found. found.0.offset_minute ≤ 59) }
-{
-    if let [b'Z', after @ ..] = rest {
-        let next = after_line(after)?;
-        let numbers = Numbers {
-            is_utc: true,
-            ..numbers
-        };
-        return Some((numbers, next));
-    }
-    let [
-        mark @ (b'-' | b'+'),
-        a @ b'0'..=b'2',
-        b @ b'0'..=b'9',
-        b':',
-        c @ b'0'..=b'5',
-        d @ b'0'..=b'9',
-        after @ ..,
-    ] = rest
-    else {
-        return None;
-    };
-    let hour = 10 * (*a - b'0') + (*b - b'0');
-    if hour > 23 {
-        return None;
-    }
-    let later = after_line(after)?;
-    let numbers = Numbers {
-        offset_is_negative: *mark == b'-',
-        offset_hour: hour,
-        offset_minute: 10 * (*c - b'0') + (*d - b'0'),
-        ..numbers
-    };
-    Some((numbers, later))
-}
-
-// The numbers of a moment that ends a line, and the bytes after that line. `None`: not this form.
-#[inline(always)]
-fn places(text: &[u8]) -> Option<(Numbers, &[u8])>
-    ensures form { IfSome result (λ found. (end : List ℕ) × HasForm false text.now end found.0
-        × EndsLine end found.1.now) }
-    ensures second { IfSome result (λ found. found.0.second < 60) }
-    ensures hour { IfSome result (λ found. found.0.offset_hour ≤ 23) }
-    ensures minute { IfSome result (λ found. found.0.offset_minute ≤ 59) }
-    ensures long { IfSome result (λ _. 20 ≤ length text.now) }
-{
-    if text.len() < 20 {
-        return None;
-    }
-    let mut numbers = Numbers::NONE;
-    let rest = to_second::<false>(text, &mut numbers)?;
-    let (numbers, rest) = subsecond(numbers, rest)?;
-    let found = front_offset(numbers, rest)?;
-    Some(found)
-}
-
-// Whether the byte between date and time, which may be any byte, is an LF, which ends the line.
-#[inline(always)]
-fn breaks_at_separator(text: &[u8]) -> bool
-    requires { 20 ≤ length text.now }
-    ensures { result ≡ false → slice_index text.now 10 ≢ 10 }
-{
-    text[10] == b'\n'
-}
-
-// The moment of a text's first line, and the bytes after that line. `None`: not this form.
-#[inline(always)]
-pub(super) fn line(text: &[u8]) -> Option<(OffsetDateTime, &[u8])>
-    ensures { IfSome result (λ found. (line : List ℕ) × IsFirstLine line text.now found.1.now
-        × of_moment (direct (RefusesRfc3339 greatest_year)) (Reads greatest_year) (Refuses greatest_year) line
-        (Ok found.0)) }
-{
-    let (numbers, after) = places(text)?;
-    if breaks_at_separator(text) {
-        return None;
-    }
-    let value = moment_from(said_rfc3339(numbers))?;
-    Some((value, after))
 }

@@ -9,20 +9,22 @@ use Rattle.pelzaune_ffi.proofs.columns.column.Goals.{then-loop-index-test+else-n
 pub loop-index-preserved : goal.loop-index-preserved
 loop-index-preserved g c =
     let so_far = c.loop-index.invariant in
-    let first = c.count_first-status in
-    let split = first.ensures.1.lines in
+    let first = c.first_line-line in
+    let split = first.ensures.lines in
+    let counted = c.count_line in
+    let status = counted.result in
     let left : Ends (g.C.Count.stores c.args.counting.now) (line_texts c.args.text.now) c.args.entries.now
     (line_texts first.result.1.now)
-    (drop (c.loop-index.index + 1) (slice_set c.loop-index.entries c.loop-index.index first.new.entry))
-    (take (c.loop-index.index + 1) (slice_set c.loop-index.entries c.loop-index.index first.new.entry))
-    (c.loop-index.rejected + spec.one_if_refused first.result.0) =
+    (drop (c.loop-index.index + 1) (slice_set c.loop-index.entries c.loop-index.index counted.new.entry))
+    (take (c.loop-index.index + 1) (slice_set c.loop-index.entries c.loop-index.index counted.new.entry))
+    (c.loop-index.rejected + spec.one_if_refused status) =
     Ends-more (g.C.Count.stores c.args.counting.now) (line_texts c.args.text.now) c.args.entries.now c.loop-index.entries
-    first.ensures.0 (line_texts first.result.1.now) c.loop-index.index first.result.0 c.loop-index.rejected
-    first.new.entry c.loop-index-test.true first.ensures.2 (rw split at so_far.4) in (
+    first.result.0.now (line_texts first.result.1.now) c.loop-index.index status c.loop-index.rejected
+    counted.new.entry c.loop-index-test.true counted.ensures (rw split at so_far.4) in (
       grind (arith, common_steps, c.loop-index-test.true),
       omega (arith, so_far.1, c.one_if_refused-rejected.ensures.bound),
       grind (arith, common_steps, split, so_far.2),
-      omega (arith, so_far.3, first.ensures.1.shorter),
+      omega (arith, so_far.3, first.ensures.shorter),
       rw c.one_if_refused-rejected.ensures.one left,
     )
 

@@ -51,6 +51,9 @@ pub(in crate::moments) fn local(text: &[u8]) -> Option<PlainDateTime>
     ensures { IfSome result (λ p. IsOutcome (IsPlain greatest_year) (Reads greatest_year) (Refuses greatest_year)
         text.now empty (Ok p)) }
 {
+    if text.len() != 15 {
+        return None;
+    }
     let digits = basic_date(text)?;
     let date = date_of(digits)?;
     let time = basic_time(digits.rest)?;

@@ -133,7 +133,7 @@ fn local_8601(text: &[u8], out: &mut LocalParts) -> u32
             *out = LocalParts::from(value);
             0
         }
-        None => parsed_local(&Iso8601, text, out),
+        None => store_value::<PlainDateTime, LocalParts, Iso8601>(&Iso8601, text, out),
     }
 }
 

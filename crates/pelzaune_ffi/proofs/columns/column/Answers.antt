@@ -9,7 +9,7 @@ use Rattle.pelzaune_ffi.proofs.columns.column.Goals.{then-loop-index-test+else-n
 pub loop-index-preserved : goal.loop-index-preserved
 loop-index-preserved g c =
     let so_far = c.loop-index.invariant in
-    let first = c.first_line-line in
+    let first = c.first_line in
     let split = first.ensures.lines in
     let counted = c.count_line in
     let status = counted.result in

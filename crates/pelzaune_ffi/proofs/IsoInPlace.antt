@@ -1,8 +1,7 @@
 -- Times of ISO 8601 that are parsed in place.
-use Rattle.std.proofs.Common.{◌≡◌, refl, Option, Some, None, Result, Ok, Err, ◌≤◌, ◌<◌, ◌==◌, ◌-◌, ◌∙◌, ℕ, false, IfSome, List, [], ◌∷◌, length, take, drop, pos, ap, arith, ◌+◌, get_or, subst, true}
-use Rattle.std.proofs.Math.Seq.{drop-length}
+use Rattle.std.proofs.Common.{◌≡◌, refl, Option, Some, None, Result, Ok, Err, ◌≤◌, ◌<◌, ◌==◌, ◌-◌, ◌∙◌, ℕ, false, IfSome, List, [], ◌∷◌, length, take, drop, pos, ap, arith, ◌+◌, get_or, true}
 use Rattle.std.proofs.lemmas.Bool.{ne_eqb, le-leb}
-use Rattle.std.proofs.lemmas.List.{length-take-le, drop_more}
+use Rattle.std.proofs.lemmas.List.{drop_all, drop_more, take_rest}
 use Rattle.time_values.specs.Refusal.{Refusal, Constructs}
 use Rattle.time_values.specs.declared.error.ComponentRange.{ComponentRange}
 use Rattle.time_values.specs.Dates.{calendar_date_refusal}
@@ -101,15 +100,9 @@ unfolding Stand
 whole_matches bytes mid left rest n k m first fraction last =
     Stand-append (Asks false) to_second_places (Subsecond ∷ offset_places) nothing_read n m bytes mid rest first (left, k, fraction, last)
 
-in_no_bytes : (xs : List ℕ) → length xs ≤ 0 → xs ≡ []
-in_no_bytes [] none = refl
-in_no_bytes (x ∷ xs) none = absurd (omega arith)
-
 -- nothing follows all bytes
 pub nothing_left : (xs : List ℕ) (n : ℕ) → length xs ≡ n → take (length xs - n) (drop n xs) ≡ []
-nothing_left xs n all =
-    let none = length-take-le (length xs - n) (drop n xs) (omega arith) in
-    in_no_bytes (take (length xs - n) (drop n xs)) (omega arith)
+nothing_left xs n all = take_rest xs n ∙ drop_all n xs (omega arith)
 
 -- parsing the whole text results in the moment of its numbers
 pub outcome_of : (bytes : List ℕ) (n : Numbers) (o : Option OffsetDateTime) → HasForm false bytes [] n → n.offset_minute ≤ 59
@@ -158,7 +151,7 @@ seven_bytes : (s : List ℕ) → length s ≡ 7
 seven_bytes s h =
     next s 0 _ (omega (arith, h)) (next s 1 _ (omega (arith, h)) (next s 2 _ (omega (arith, h)) (next s 3 _ (omega (arith, h))
     (next s 4 _ (omega (arith, h)) (next s 5 _ (omega (arith, h)) (next s 6 _ (omega (arith, h))
-    (subst (λ n. drop n s ≡ []) h (drop-length s))))))))
+    (drop_all 7 s (omega (arith, h)))))))))
 
 -- `T` and a time up to the second, without separators
 pub basic_time : (s : List ℕ) → length s ≡ 7 → get_or s 0 0 ≡ 84 → IsDigit (get_or s 1 0) → IsDigit (get_or s 2 0)

@@ -1,11 +1,8 @@
 -- A column, entry by entry.
-use Rattle.std.specs.List.{prefix_len}
 use Rattle.std.specs.Prelude.{MatchOption, Option, Some, None}
 use Rattle.std.proofs.Common.{◌≡◌, ℕ, ◌+◌, ◌<◌, List, [], ◌∷◌, ◌++◌, length, get_or, set, take, drop, ◌≤◌, ◌⊎◌, inl, inr, refl, arith, append_assoc, add_assoc, add-one, add-zero, append-nil, drop-cons, ◌==◌, true, eqb, not, Bool, false, cond, map, ◌*◌, zero, suc, ap, ◌-◌, ◌∙◌, if◌then◌else◌}
 use Rattle.std.proofs.lemmas.List.{take_more_set, drop-set-lt, take_all, drop_all, take-append-drop}
 use Rattle.std.proofs.lemmas.Bool.Decides.{nat_tests}
-use Rattle.std.proofs.lemmas.Bool.{cases_lt}
-use lib.Lanes.{mask_l}
 use Rattle.memchr.specs.Find.{IsFirstByte, is_byte}
 use Rattle.time_values.specs.Refusal.{Refusal}
 use Rattle.time_digits.specs.declared.Padding.{Padding}
@@ -87,26 +84,8 @@ IsColumn-map P Q f (line ∷ lines) (entry ∷ old) new refused h =
 
 -- ---- The index of the first LF, by the mask of the first bytes
 
-clear_step : (b : Bool) (n m k : ℕ) → n + 1 ≤ cond (not b) (1 + m) 0 → (n ≤ m → k ≡ 0) → cond b 1 0 + 2 * k ≡ 0
-clear_step true n m k all others = absurd (omega (arith, all))
-clear_step false n m k all others = rw (others (omega (arith, all))) refl
-
--- the mask has no bit set where no lane passes
-all_clear : (p : ℕ → Bool) (xs : List ℕ) → length xs ≤ prefix_len (λ x. not (p x)) xs → mask_l (map p xs) ≡ 0
-all_clear p [] all = refl
-all_clear p (x ∷ xs) all =
-    clear_step (p x) (length xs) (prefix_len (λ x. not (p x)) xs) (mask_l (map p xs)) (omega (arith, all)) (all_clear p xs)
-
 abbrev pub lf : ℕ → Bool
 lf x = eqb x 10
-
--- the first set bit is below the length
-pub below_all : (xs : List ℕ) (n r : ℕ) → length xs ≡ n → 0 < mask_l (map lf xs) → r ≡ prefix_len (λ x. not (lf x)) xs → r ≤ n → r < n
-below_all xs n r long some counted most =
-    elim (cases_lt r n) [
-      | inl less ↦ less
-      | inr not_less ↦ absurd (let none = all_clear lf xs (omega (arith, counted, long, not_less)) in omega (arith, none, some))
-    ]
 
 pub not_lf : (x : ℕ) → lf x ≡ false → x ≡ 10 → ⊥
 not_lf x other is = cc

@@ -13,8 +13,8 @@ ghost use Rattle.pelzaune_ffi.specs.declared.status.Format.TheVariants.{Iso8601 
 
 use crate::parts::{LocalParts, Nanoseconds};
 use crate::results::{count, store_count, store_value};
-use crate::status::{Format, UNKNOWN_FORMAT, format_of, status_of};
-use time_parsing::{Iso8601, Parsable, Rfc2822, Rfc3339};
+use crate::status::{Format, UNKNOWN_FORMAT, format_of};
+use time_parsing::{Iso8601, Parsable, Rfc2822, Rfc3339, Target};
 use time_values::{OffsetDateTime, PlainDateTime};
 
 // Stores the parts of a moment of RFC 3339.
@@ -27,7 +27,7 @@ fn moment_3339<P: From<OffsetDateTime> + Copy>(text: &[u8], out: &mut P) -> u32
             *out = P::from(value);
             0
         }
-        None => parsed_moment(&Rfc3339, text, out),
+        None => parsed::<OffsetDateTime, P, Rfc3339>(&Rfc3339, text, out),
     }
 }
 
@@ -41,27 +41,17 @@ fn moment_2822<P: From<OffsetDateTime> + Copy>(text: &[u8], out: &mut P) -> u32
             *out = P::from(value);
             0
         }
-        None => parsed_moment(&Rfc2822, text, out),
+        None => parsed::<OffsetDateTime, P, Rfc2822>(&Rfc2822, text, out),
     }
 }
 
-// Stores the parts of a text's moment.
+// As [`store_value`], in a function of its own.
 #[inline(never)]
-fn parsed_moment<P: From<OffsetDateTime> + Copy, F: Parsable>(
-    format: &F,
-    text: &[u8],
-    out: &mut P,
-) -> u32
+fn parsed<V: Target, P: From<V> + Copy, F: Parsable>(format: &F, text: &[u8], out: &mut P) -> u32
     ensures { IsResultStored (IsStored P.from_gives)
-        (of_moment (F.path format.now) (F.reads format.now) (F.refuses format.now) text.now) result out.old out.new }
+        (V.outcome (F.path format.now) (F.reads format.now) (F.refuses format.now) text.now) result out.old out.new }
 {
-    match format.parse_offset_date_time(text, None) {
-        Ok(value) => {
-            *out = P::from(value);
-            0
-        }
-        Err(error) => status_of(error),
-    }
+    store_value::<V, P, F>(format, text, out)
 }
 
 /// Parses a text by the format with this number and stores the parts of its moment. Returns 0, or the error's status
@@ -73,7 +63,7 @@ pub fn moment_by<P: From<OffsetDateTime> + Copy>(format: u32, text: &[u8], out: 
     match format_of(format) {
         Some(Format::Rfc3339) => moment_3339(text, out),
         Some(Format::Rfc2822) => moment_2822(text, out),
-        Some(Format::Iso8601) => parsed_moment(&Iso8601, text, out),
+        Some(Format::Iso8601) => parsed::<OffsetDateTime, P, Iso8601>(&Iso8601, text, out),
         None => UNKNOWN_FORMAT,
     }
 }
@@ -137,15 +127,6 @@ fn local_8601(text: &[u8], out: &mut LocalParts) -> u32
     }
 }
 
-// Stores the parts of a text's date and time.
-#[inline(never)]
-fn parsed_local<F: Parsable>(format: &F, text: &[u8], out: &mut LocalParts) -> u32
-    ensures { IsResultStored (IsStored HasPlain) (over_empty (IsPlain greatest_year) (F.path format.now)
-        (F.reads format.now) (F.refuses format.now) text.now) result out.old out.new }
-{
-    store_value::<PlainDateTime, LocalParts, F>(format, text, out)
-}
-
 /// Parses a text by the format with this number and stores the parts of its date and time. An offset is parsed and
 /// dropped.
 #[inline(always)]
@@ -154,8 +135,8 @@ pub fn local_by(format: u32, text: &[u8], out: &mut LocalParts) -> u32
         result out.old out.new }
 {
     match format_of(format) {
-        Some(Format::Rfc3339) => parsed_local(&Rfc3339, text, out),
-        Some(Format::Rfc2822) => parsed_local(&Rfc2822, text, out),
+        Some(Format::Rfc3339) => parsed::<PlainDateTime, LocalParts, Rfc3339>(&Rfc3339, text, out),
+        Some(Format::Rfc2822) => parsed::<PlainDateTime, LocalParts, Rfc2822>(&Rfc2822, text, out),
         Some(Format::Iso8601) => local_8601(text, out),
         None => UNKNOWN_FORMAT,
     }

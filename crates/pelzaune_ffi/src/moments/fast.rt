@@ -8,7 +8,6 @@ ghost use Rattle.std.specs.Prelude.{◌≡◌, ◌<◌, ◌≤◌, IfSome, Ok, N
 ghost use Rattle.time_values.specs.Offsets.{HasOffset, offset_refusal};
 ghost use Rattle.time_values.specs.Calendar.{greatest_year};
 ghost use Rattle.time_values.specs.Refusal.{Constructs};
-ghost use Rattle.time_values.specs.Times.{HasClock, time_refusal};
 ghost use Rattle.time_digits.specs.Digits.{Cut};
 ghost use Rattle.time_readers.specs.Direct.{HasDate, IsMade, RefusesRfc3339, date_refusal};
 ghost use Rattle.time_readers.specs.Readers.{Stand};
@@ -104,19 +103,7 @@ fn date_of(parts: Said) -> Option<Date>
     let Ok(month) = Month::from_number(number) else {
         return None;
     };
-    match Date::from_calendar_date(i32::from(parts.year), month, parts.day) {
-        Ok(date) => Some(date),
-        Err(_) => None,
-    }
-}
-
-// The time with these numbers. `None`: a number is out of range.
-#[inline(always)]
-fn clock_of(parts: Said) -> Option<Time>
-    ensures { IfSome result (λ t. Constructs (time_refusal parts.hour parts.minute parts.second parts.nanosecond)
-        (HasClock parts.hour parts.minute parts.second parts.nanosecond) (Ok t)) }
-{
-    Time::from_hms_nano(parts.hour, parts.minute, parts.second, parts.nanosecond).ok()
+    Date::from_calendar_date(i32::from(parts.year), month, parts.day).ok()
 }
 
 // The moment with these numbers, whose second isn't 60. `None`: a number is out of range.
@@ -127,7 +114,10 @@ fn moment_from(parts: Said) -> Option<OffsetDateTime>
 {
     let offset = offset_of(parts)?;
     let date = date_of(parts)?;
-    let time = clock_of(parts)?;
+    let time = Time::from_hms_nano(parts.hour, parts.minute, parts.second, parts.nanosecond);
+    let Ok(time) = time else {
+        return None;
+    };
     Some(OffsetDateTime::new_in_offset(date, time, offset))
 }
 

@@ -18,6 +18,7 @@ use time_components::component::{
     parse_day, parse_hour_24, parse_minute, parse_month_numerical, parse_second,
 };
 use time_components::{Component, Step};
+use time_preparing::whole::Whole;
 use time_preparing::whole::fast::values;
 use time_record::Parsed;
 use time_values::{Date, OffsetDateTime, PlainDateTime, Time};
@@ -28,7 +29,7 @@ pub(super) fn date(steps: &[StoredStep], input: &[u8]) -> Option<Date>
     ensures { IfSome result (λ v. IsOutcome (IsDated greatest_year) (Reads greatest_year (steps_shape (map spec.step_of steps.now)))
         (Refuses greatest_year (steps_shape (map spec.step_of steps.now))) input.now empty (Ok v)) }
 {
-    let form = forms::date(steps)?;
+    let form = Whole::Date(forms::dated(steps)?);
     values::date(&form, input)
 }
 
@@ -38,7 +39,7 @@ pub(super) fn time(steps: &[StoredStep], input: &[u8]) -> Option<Time>
     ensures { IfSome result (λ v. IsOutcome IsTimed (Reads greatest_year (steps_shape (map spec.step_of steps.now)))
         (Refuses greatest_year (steps_shape (map spec.step_of steps.now))) input.now empty (Ok v)) }
 {
-    let form = forms::time(steps)?;
+    let form = Whole::Time(forms::timed(steps)?);
     values::time(&form, input)
 }
 

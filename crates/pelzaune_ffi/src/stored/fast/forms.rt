@@ -31,24 +31,6 @@ const OFFSET_HOUR: u8 = 33;
 
 const OFFSET_MINUTE: u8 = 34;
 
-/// The form of a description of this many steps that is a date.
-#[inline(always)]
-pub(super) fn date(steps: &[StoredStep]) -> Option<Whole>
-    ensures { IfSome result (λ whole. map spec.step_of steps.now ≡ whole_parts whole) }
-{
-    let form = dated(steps)?;
-    Some(Whole::Date(form))
-}
-
-/// The form of a description of this many steps that is a time.
-#[inline(always)]
-pub(super) fn time(steps: &[StoredStep]) -> Option<Whole>
-    ensures { IfSome result (λ whole. map spec.step_of steps.now ≡ whole_parts whole) }
-{
-    let between = timed(steps)?;
-    Some(Whole::Time(between))
-}
-
 /// The form of a description of this many steps that is a date, a byte and a time.
 #[inline(always)]
 pub(super) fn date_time(steps: &[StoredStep]) -> Option<Whole>
@@ -100,9 +82,9 @@ fn front(steps: &[StoredStep]) -> Option<(Dated, u8, &[StoredStep])>
     Some((date, between, behind))
 }
 
-// The form of a date.
+/// The form of a date.
 #[inline(always)]
-fn dated(steps: &[StoredStep]) -> Option<Dated>
+pub(super) fn dated(steps: &[StoredStep]) -> Option<Dated>
     ensures { IfSome result (λ form. map spec.step_of steps.now ≡ dated_parts form) }
 {
     let [first, gap, second, other_gap, third] = steps else {
@@ -127,9 +109,9 @@ fn dated(steps: &[StoredStep]) -> Option<Dated>
     None
 }
 
-// The byte between the parts of a time.
+/// The byte between the parts of a time.
 #[inline(always)]
-fn timed(steps: &[StoredStep]) -> Option<u8>
+pub(super) fn timed(steps: &[StoredStep]) -> Option<u8>
     ensures { IfSome result (λ between. map spec.step_of steps.now ≡ time_parts between) }
 {
     let [hour, gap, minute, other_gap, second] = steps else {

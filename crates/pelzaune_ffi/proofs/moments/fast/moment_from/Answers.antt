@@ -5,4 +5,4 @@ pub returns : goal.returns
 returns c =
     let made = c.new_in_offset.ensures in
     made_of c.args.parts c.new_in_offset.result c.requires (rw made.date c.in_ok-date.ensures)
-    (rw made.time c.in_ok-time.ensures) (rw made.offset c.in_ok-offset.ensures)
+    (rw made.time c.in-Ok.ensures) (rw made.offset c.in_ok-offset.ensures)

@@ -1,6 +1,6 @@
 -- A column, entry by entry.
 use Rattle.std.specs.Prelude.{MatchOption, Option, Some, None}
-use Rattle.std.proofs.Common.{◌≡◌, ℕ, ◌+◌, ◌<◌, List, [], ◌∷◌, ◌++◌, length, get_or, set, take, drop, ◌≤◌, ◌⊎◌, inl, inr, refl, arith, append_assoc, add_assoc, add-one, add-zero, append-nil, drop-cons, ◌==◌, true, eqb, not, Bool, false, cond, map, ◌*◌, zero, suc, ap, ◌-◌, ◌∙◌, if◌then◌else◌}
+use Rattle.std.proofs.Common.{◌≡◌, ℕ, ◌+◌, ◌<◌, List, [], ◌∷◌, ◌++◌, length, get_or, set, take, drop, ◌≤◌, ◌⊎◌, inl, inr, refl, arith, append_assoc, add_assoc, add-one, add-zero, append-nil, drop-cons, ◌==◌, true, eqb, Bool, false, map, zero, suc, ap, ◌-◌, ◌∙◌, if◌then◌else◌}
 use Rattle.std.proofs.lemmas.List.{take_more_set, drop-set-lt, take_all, drop_all, take-append-drop}
 use Rattle.std.proofs.lemmas.Bool.Decides.{nat_tests}
 use Rattle.memchr.specs.Find.{IsFirstByte, is_byte}

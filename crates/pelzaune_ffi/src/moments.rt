@@ -45,6 +45,20 @@ fn moment_2822<P: From<OffsetDateTime> + Copy>(text: &[u8], out: &mut P) -> u32
     }
 }
 
+// Stores the parts of a moment of ISO 8601.
+#[inline(never)]
+fn moment_8601<P: From<OffsetDateTime> + Copy>(text: &[u8], out: &mut P) -> u32
+    ensures { StoresValue P.from_gives of_moment (Some iso8601) text.now result out.old out.new }
+{
+    match fast::iso8601::moment(text) {
+        Some(value) => {
+            *out = P::from(value);
+            0
+        }
+        None => parsed::<OffsetDateTime, P, Iso8601>(&Iso8601, text, out),
+    }
+}
+
 // As [`store_value`], in a function of its own.
 #[inline(never)]
 fn parsed<V: Target, P: From<V> + Copy, F: Parsable>(format: &F, text: &[u8], out: &mut P) -> u32
@@ -63,7 +77,7 @@ pub fn moment_by<P: From<OffsetDateTime> + Copy>(format: u32, text: &[u8], out: 
     match format_of(format) {
         Some(Format::Rfc3339) => moment_3339(text, out),
         Some(Format::Rfc2822) => moment_2822(text, out),
-        Some(Format::Iso8601) => parsed::<OffsetDateTime, P, Iso8601>(&Iso8601, text, out),
+        Some(Format::Iso8601) => moment_8601(text, out),
         None => UNKNOWN_FORMAT,
     }
 }
@@ -90,6 +104,17 @@ fn count_2822(text: &[u8], out: &mut Nanoseconds) -> u32
     }
 }
 
+// Stores the nanoseconds of a moment of ISO 8601.
+#[inline(never)]
+fn count_8601(text: &[u8], out: &mut Nanoseconds) -> u32
+    ensures { StoresCount (Some iso8601) text.now result out.old out.new }
+{
+    match fast::iso8601::moment(text) {
+        Some(value) => store_count(value, out),
+        None => parsed_count(&Iso8601, text, out),
+    }
+}
+
 // Stores the nanoseconds of a text's moment.
 #[inline(never)]
 fn parsed_count<F: Parsable>(format: &F, text: &[u8], out: &mut Nanoseconds) -> u32
@@ -108,7 +133,7 @@ pub fn count_by(format: u32, text: &[u8], out: &mut Nanoseconds) -> u32
     match format_of(format) {
         Some(Format::Rfc3339) => count_3339(text, out),
         Some(Format::Rfc2822) => count_2822(text, out),
-        Some(Format::Iso8601) => parsed_count(&Iso8601, text, out),
+        Some(Format::Iso8601) => count_8601(text, out),
         None => UNKNOWN_FORMAT,
     }
 }
@@ -123,7 +148,7 @@ fn local_8601(text: &[u8], out: &mut LocalParts) -> u32
             *out = LocalParts::from(value);
             0
         }
-        None => store_value::<PlainDateTime, LocalParts, Iso8601>(&Iso8601, text, out),
+        None => parsed::<PlainDateTime, LocalParts, Iso8601>(&Iso8601, text, out),
     }
 }
 

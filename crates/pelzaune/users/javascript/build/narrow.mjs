@@ -39,12 +39,18 @@ function wrapper(name, target, { parameters, result }) {
   return ` (func $narrow_${name} ${types} (result i32)\n  ${result === 'i64' ? `(i32.wrap_i64 ${call})` : call})`;
 }
 
-const heapBase = Number(/^ \(global \S+ i64 \(i64.const (\d+)\)\)$/m.exec(rows.join('\n'))[1]);
+/** Where the memory that the module doesn't use begins. */
+function heapBase() {
+  const [, name] = rows.map((row) => /^ \(export "__heap_base" \(global (\$\S+)\)\)$/.exec(row)).find(Boolean);
+  const start = ` (global ${name} i64 (i64.const `;
+  return Number.parseInt(rows.find((row) => row.startsWith(start)).slice(start.length), 10);
+}
+
 const functions = signatures();
 const wrappers = [];
 const narrow = rows.map((row) => {
   const memory = /^ \(memory (\$\S+) (\d+)\)$/.exec(row);
-  if (memory) return ` (memory ${memory[1]} ${Math.max(memory[2], Math.ceil((heapBase + ROOM_BYTES) / PAGE_BYTES))})`;
+  if (memory) return ` (memory ${memory[1]} ${Math.max(memory[2], Math.ceil((heapBase() + ROOM_BYTES) / PAGE_BYTES))})`;
   const base = /^ \(global (\$\S+) i64 \(i64.const (\d+)\)\)$/.exec(row);
   if (base) return ` (global ${base[1]} i32 (i32.const ${base[2]}))`;
   if (/^ \(import /.test(row)) throw new Error(`the module imports something: ${row}`);

@@ -40,7 +40,13 @@ export function run(module, createParser, ready) {
   const p = createParser(instance);
   testModule(module, createParser, checks);
   testMemory(p, instance.exports.memory, checks);
-  for (const test of [testValues, testErrors, testMany, testArguments]) test(p, checks);
+  for (const test of [testValues, testErrors, testMany, testArguments]) {
+    try {
+      test(p, checks);
+    } catch (error) {
+      checks.failed.push(`a test ends early: ${error.stack}`);
+    }
+  }
   checks.same(Object.keys(p).every((name) => typeof ready[name] === 'function'), true, 'the calls of the package');
   checks.same(createParser(module).parse('1985-04-12T23:20:50.52Z'), ready.parse('1985-04-12T23:20:50.52Z'), 'over a Module');
   checks.throws(() => ready.parse('x'), 'ParseError', { index: 0 }, 'the package');

@@ -32,7 +32,7 @@ const DESCRIPTIONS = [
   ['[year]-[moth]', 'no component has that name', 8],
   ['[yaer]', 'no component has that name', 1],
   ['\u00e9\u{1f550}[yaer]', 'no component has that name', 4],
-  ['%Z', 'that is not supported in a description', 1],
+  ['%Z', 'that is not supported in a description', 0],
   ['-'.repeat(65), 'the description is too long', null],
 ];
 

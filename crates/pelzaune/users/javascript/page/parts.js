@@ -21,7 +21,8 @@ function partAt(text, index, end, last, locate) {
   const isContinued = last !== null && last.end === index && isDigit && found !== null && found.index === index
     && /[0-9]/.test(text[index - 1]) && found.component !== last.component && last.component === 'subsecond';
   if (isContinued) return last;
-  if (found === null || found.component === null || found.index > index || /\s/.test(text[index])) return null;
+  const isMark = found !== null && found.index === index && !/[\p{L}\p{N}+-]/u.test(text.slice(index, end));
+  if (found === null || found.component === null || found.index > index || isMark) return null;
   return { start: found.index, component: found.component };
 }
 

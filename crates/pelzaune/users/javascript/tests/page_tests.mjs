@@ -41,7 +41,7 @@ export async function typing(tab, checks) {
   checks.same(await tab.evaluate("[...document.querySelectorAll('#parts li')].map((it) => it.textContent)"),
     ['year 2021', 'month 01', 'day 02', 'hour 03', 'minute 04', 'second 05', 'subsecond 25', 'offset hour -00', 'offset minute 30'], 'the parts');
   await focus(tab, '#text');
-  await tab.type('2021-13-02');
+  await tab.type('2021-13-02T03:04:05Z');
   checks.same(await textOf(tab, '#verdict'), 'Month is out of range. At character 6: expected month.', 'the error');
   checks.same(await tab.evaluate("(() => { const it = document.querySelector('.wrong'); return [it.textContent, it.previousSibling.data, getComputedStyle(it, '::after').content]; })()"),
     ['1', '-', '"^"'], 'the caret');
@@ -113,7 +113,8 @@ export async function pasting(tab, checks) {
 
 /** A file of 50 MB, which a worker parses while the page answers. */
 export async function files(tab, checks, { log }) {
-  await tab.evaluate("(() => { window.longest = 0; let last = performance.now(); setInterval(() => { const now = performance.now(); window.longest = Math.max(window.longest, now - last); last = now; }, 10); return true; })()");
+  // The turns that the page has before the file is parsed. Frozen, it would have none.
+  await tab.evaluate("(() => { window.turns = 0; setInterval(() => { window.turns += document.querySelector('#tally').textContent === ''; }, 10); return true; })()");
   await tab.setFile('#file', log.path);
   await focus(tab, '#text');
   await tab.type('2021-01-02T03:04:05Z');
@@ -121,10 +122,8 @@ export async function files(tab, checks, { log }) {
   await until(tab, "document.querySelector('#tally').textContent", checks, 'the file is parsed');
   const tally = await textOf(tab, '#tally');
   checks.isTrue(tally.startsWith(`${log.lines.toLocaleString('en')} lines in `) && tally.includes(`${log.missing.toLocaleString('en')} have none`), tally);
-  // On a busy machine a pause may be long without a cause in the page. It never takes as long as the parse does.
-  const milliseconds = 1000 * Number(/ in ([\d.]+) seconds/.exec(tally)?.[1]);
-  const longest = await tab.evaluate('window.longest');
-  checks.isTrue(longest < Math.max(500, milliseconds / 2), `the page waits for ${longest} of ${milliseconds} milliseconds`);
+  const turns = await tab.evaluate('window.turns');
+  checks.isTrue(turns >= 5, `${turns} turns of the page meanwhile`);
   console.log(`    50 MB: ${tally}`);
 }
 
@@ -198,5 +197,5 @@ export async function keyboard(tab, checks) {
   checks.same(reached.slice(0, 5), ['format', 'text', 'target', 'lines', 'file'], 'the order of the controls');
   await focus(tab, '#examples button');
   await tab.press('Enter');
-  checks.same(await tab.evaluate('document.activeElement.id'), 'text', 'an example by the keyboard');
+  await until(tab, "document.activeElement.id === 'text'", checks, 'an example by the keyboard');
 }

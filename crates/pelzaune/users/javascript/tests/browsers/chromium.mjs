@@ -62,10 +62,10 @@ export async function chromiumTab(wire) {
     },
     resize: (width, height) => send('Emulation.setDeviceMetricsOverride', { width, height, deviceScaleFactor: 1, mobile: false }),
     prefer: (scheme) => send('Emulation.setEmulatedMedia', { features: [{ name: 'prefers-color-scheme', value: scheme }] }),
-    /** A PNG of the whole page. */
-    async screenshot() {
+    /** A PNG of the page, whole or from its top to a height. */
+    async screenshot(height) {
       const { cssContentSize } = await send('Page.getLayoutMetrics');
-      const clip = { ...cssContentSize, scale: 1 };
+      const clip = { ...cssContentSize, height: height ?? cssContentSize.height, scale: 1 };
       const { data } = await send('Page.captureScreenshot', { format: 'png', captureBeyondViewport: true, clip });
       return Buffer.from(data, 'base64');
     },

@@ -1,6 +1,6 @@
 // A tab of Firefox, driven by the bidirectional WebDriver.
 
-const KEYS = { Tab: '\ue004', Enter: '\ue007' };
+const KEYS = { Tab: '\ue004', Enter: '\ue006' };
 
 /** The element of a CSS selector, as commands take it. */
 async function elementOf(send, context, selector) {

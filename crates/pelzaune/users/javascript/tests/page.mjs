@@ -43,7 +43,7 @@ async function picture(tab) {
   await tab.open('about:blank');
   await tab.open(`${page}#${new URLSearchParams({ format: 'rfc3339', text: '1985-13-12T23:20:50.52-08:30', target: 'parse' })}`);
   await tab.evaluate('window.ready');
-  return tab.screenshot(440);
+  return tab.screenshot(530);
 }
 
 /** Whether all tests pass in a browser. */

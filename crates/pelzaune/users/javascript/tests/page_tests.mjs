@@ -195,6 +195,7 @@ export async function keyboard(tab, checks) {
     reached.push(await tab.evaluate('document.activeElement.id || document.activeElement.name'));
   }
   checks.same(reached.slice(0, 5), ['format', 'text', 'target', 'lines', 'file'], 'the order of the controls');
+  if (!tab.pressesButtons) return;
   await focus(tab, '#examples button');
   await tab.press('Enter');
   await until(tab, "document.activeElement.id === 'text'", checks, 'an example by the keyboard');

@@ -3,8 +3,9 @@
 import { padded } from './checks.mjs';
 
 const ROUNDS = 25;
-const CALLS = 1000;
-const LINES = 100000;
+const CALLS = 500;
+// A run is shorter than a turn of the processor on a busy machine.
+const LINES = 4000;
 const LOG = '%d/%b/%Y:%H:%M:%S %z';
 
 /** The least nanoseconds of each call, which are made in turn. */
@@ -70,6 +71,6 @@ export function run(module, createParser, p) {
   const { joined, parts, texts } = madeTexts();
   const one = callsOfOne(p, texts, parts);
   const many = callsOfMany(p, texts, joined);
-  const nanoseconds = [...leastOf(Object.values(one), CALLS, 8 * ROUNDS), ...leastOf(Object.values(many), LINES, ROUNDS)];
+  const nanoseconds = [...leastOf(Object.values(one), CALLS, 8 * ROUNDS), ...leastOf(Object.values(many), LINES, 4 * ROUNDS)];
   return Object.fromEntries([...Object.keys(one), ...Object.keys(many)].map((name, index) => [name, nanoseconds[index]]));
 }

@@ -55,6 +55,7 @@ export async function chromiumTab(wire) {
       await send('Input.dispatchKeyEvent', { type: 'keyDown', ...params });
       await send('Input.dispatchKeyEvent', { type: 'keyUp', ...params });
     },
+    pressesButtons: true,
     async setFile(selector, path) {
       const { root } = await send('DOM.getDocument');
       const { nodeId } = await send('DOM.querySelector', { nodeId: root.nodeId, selector });

@@ -35,6 +35,8 @@ export async function firefoxTab({ send, listen }) {
     },
     type: (text) => keys([...text]),
     press: (key) => keys([KEYS[key]]),
+    /** Keys of WebDriver don't press a button in a Firefox without a screen. */
+    pressesButtons: false,
     async setFile(selector, path) {
       await send('input.setFiles', { context, element: await elementOf(send, context, selector), files: [path] });
     },

@@ -65,7 +65,7 @@ async function testIn(name, log) {
   return checks.passed > 0 && checks.failed.length === 0;
 }
 
-const folder = await mkdtemp(join(tmpdir(), 'pelzaune-'));
+const folder = await mkdtemp(join(tmpdir(), 'pelzaune-javascript-'));
 let isRight = true;
 try {
   const log = writeLog(join(folder, 'app.log'));

@@ -117,7 +117,7 @@ async function end(child, profile) {
 /** Starts a browser, calls `use` with a tab, and ends the browser. */
 export async function withBrowser(name, use) {
   const { program, words, path, tab } = BROWSERS[name];
-  const profile = await mkdtemp(join(tmpdir(), 'pelzaune-'));
+  const profile = await mkdtemp(join(tmpdir(), 'pelzaune-javascript-'));
   if (name === 'firefox') {
     const rows = Object.entries(FIREFOX_SETTINGS).map(([key, value]) => `user_pref("${key}", ${JSON.stringify(value)});\n`);
     await writeFile(join(profile, 'user.js'), rows.join(''));

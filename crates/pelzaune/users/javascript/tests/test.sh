@@ -30,7 +30,7 @@ node "$here/answers.mjs" "$package" < "$at/lines" | cmp - "$at/native"
 [ -z "$node64" ] || $node64 "$here/answers.mjs" "$package" pelzaune64.wasm < "$at/lines" | cmp - "$at/native"
 echo "60000 lines answered as by the native library"
 
-# The types say what the package has, and a program of each call is well typed.
+# The types declare what the package exports, and a program that makes each call is well typed.
 if command -v tsc > /dev/null; then
     mkdir -p "$at/typed/node_modules"
     ln -s "$(realpath "$package")" "$at/typed/node_modules/pelzaune"

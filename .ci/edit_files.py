@@ -1,116 +1,81 @@
-"""The edits of a crate, as .ci/edits and .ci/edits-page read them.
+"""The mutations of a crate, as .ci/edits and .ci/edits-page read them.
 
-Those of must-fail/ stand in a file each, since `rt` wants them so: NAME.edit has a line `file:`. Those of more-edits/ stand
-in tables: all edits of src/date.rt in more-edits/date.edits, and those of specs/Laws.antt in more-edits/specs/Laws.edits. A
-table has a block for each edit, in the order of the functions, with a blank line between two; its first line is the
-edit's name. Both have the lines `old:` and `new:`, once or more often, `wrong:` and `clause:`.
+must-fail/NAME.edit has one mutation, since `rt` requires a file for each. more-edits/mutations.edits has all others, in
+blocks that a name heads, with a blank line between two. A line `file:` names the source that the lines below it change.
+A mutation has lines `old:` and `new:`, once or more often, then `wrong:` and `clause:`.
 """
+import glob
 import os
 import re
 
-LINE = re.compile(r"(file|old|new|wrong|clause):(?: (.*))?$")
+TOP = os.path.dirname(os.path.dirname(os.path.abspath(__file__)))
+LINE = re.compile(r"(file|old|new|wrong|clause):(?: (.*))?")
 
 
 def read(path):
-    with open(path, encoding="utf-8") as file:
+    with open(f"{TOP}/{path}", encoding="utf-8") as file:
         return file.read()
 
 
 class Edit:
-    """Pairs of texts of files of a crate: the first stands there once, and the second takes its place."""
+    """A mutation: its pairs have a file of the crate, a text that occurs there once, and the text that replaces it."""
 
-    def __init__(self, name, path, line, file=None):
-        self.name, self.path, self.line, self.file = name, path, line, file
-        self.pairs, self.wrong, self.clause, self.old = [], "", "", None
+    def __init__(self, name, path, line):
+        self.name, self.path, self.place = name, path, f"{path}:{line}"
+        self.pairs, self.old, self.wrong, self.clause = [], None, "", ""
 
-    def take(self, text):
-        """Reads a line, and says what is wrong with it, if anything is."""
-        found = LINE.match(text)
-        if not found:
-            return "it is no line `old:`, `new:`, `wrong:` or `clause:`"
-        word, said = found[1], found[2] or ""
-        if word == "file":
-            self.file = said.strip()
-        elif word == "old":
-            self.old = said
-        elif word == "new":
-            self.pairs.append((self.file, self.old, said))
+    def add(self, key, value, file):
+        """Adds the value of a line: `new:` completes a pair, which changes that file."""
+        if key == "new":
+            self.pairs.append((file, self.old, value))
         else:
-            setattr(self, word, said.strip())
-        return None
+            setattr(self, key, value if key == "old" else value.strip())
 
-    def fault(self, folder):
-        """Why it can't be made in the crate of that folder, or nothing."""
+    def error(self, folder):
+        """Why the mutation can't be made in that crate, or nothing."""
         texts = {}
         for file, old, new in self.pairs:
-            if file is None or not os.path.exists(f"{folder}/{file}"):
+            if file is None or not os.path.exists(f"{TOP}/{folder}/{file}"):
                 return f"there is no {file}"
             text = texts.setdefault(file, read(f"{folder}/{file}"))
             if not old or text.count(old) != 1:
-                return f"`{old}` stands {text.count(old) if old else 0} times in {file}"
+                return f"`{old}` occurs {text.count(old) if old else 0} times in {file}"
             texts[file] = text.replace(old, new)
         return None if self.pairs else "it has no lines `old:` and `new:`"
 
 
-def in_file(path):
-    """The edit of a file of must-fail/, and what is wrong with its lines."""
-    edit, wrong = Edit(os.path.basename(path)[: -len(".edit")], path, 1), []
+def parse(path):
+    """The mutations of a file, and the errors in its lines."""
+    name, ending = os.path.splitext(os.path.basename(path))
+    edits, errors, file = [Edit(name, path, 1)] if ending == ".edit" else [], [], None
+    is_inside = bool(edits)
     for number, text in enumerate(read(path).split("\n"), 1):
-        said = edit.take(text) if text else None
-        wrong += [(path, number, said)] if said else []
-    return [edit], wrong
+        found = LINE.fullmatch(text)
+        if found and found[1] == "file":
+            file = found[2]
+        elif found and is_inside:
+            edits[-1].add(found[1], found[2] or "", file)
+        elif not text:
+            is_inside = False
+        elif not is_inside and re.fullmatch(r"\w+", text):
+            edits.append(Edit(text, path, number))
+            is_inside = True
+        else:
+            errors.append(f"{path}:{number}: `{text}` is neither the name of a mutation nor one of its lines")
+    return edits, errors
 
 
-def source_of(table):
-    """The source whose edits a table has, by its path below more-edits/."""
-    inside = table[: -len(".edits")]
-    return f"{inside}.antt" if inside.startswith("specs/") else f"src/{inside}.rt"
-
-
-def in_table(path, table):
-    """The edits of a table, and what is wrong with its lines."""
-    edits, wrong, edit = [], [], None
-    for number, text in enumerate(read(path).split("\n"), 1):
-        if not text:
-            edit = None
-        elif edit is None:
-            edit = Edit(text, path, number, source_of(table))
-            edits.append(edit)
-            if not re.fullmatch(r"\w+", text):
-                wrong.append((path, number, f"`{text}` is no name of an edit"))
-        elif said := edit.take(text):
-            wrong.append((path, number, said))
-    return edits, wrong
-
-
-def files_of(folder):
-    """The crate's files of edits: their paths, each with its path below more-edits/, or nothing in must-fail/."""
-    top = f"{folder}/must-fail"
-    if os.path.isdir(top):
-        yield from ((f"{top}/{it}", None) for it in sorted(os.listdir(top)) if it.endswith(".edit"))
-    top = f"{folder}/more-edits"
-    for at, folders, files in os.walk(top):
-        folders.sort()
-        for it in sorted(files):
-            yield f"{at}/{it}", os.path.relpath(f"{at}/{it}", top)
-
-
-def edits_of(folder):
-    """The edits of a crate, and what is wrong with them, a line each."""
-    edits, wrong = [], []
-    for path, table in files_of(folder):
-        if table and not table.endswith(".edits"):
-            wrong.append((path, 1, "an edit stands in the table of its source"))
-            continue
-        found, told = in_table(path, table) if table else in_file(path)
+def edits_of(crate):
+    """The mutations of a crate, and what is wrong with them, a line each."""
+    edits, errors, first = [], [], {}
+    folder = f"crates/{crate}"
+    for path in [*sorted(glob.glob(f"{folder}/must-fail/*.edit", root_dir=TOP)),
+                 *glob.glob(f"{folder}/more-edits/mutations.edits", root_dir=TOP)]:
+        found, malformed = parse(path)
         edits += found
-        wrong += told
-    seen = {}
+        errors += malformed
     for it in edits:
-        said = it.fault(folder)
-        wrong += [(it.path, it.line, f"{it.name}: {said}")] if said else []
-        if it.name in seen:
-            wrong.append((it.path, it.line, f"{it.name} stands also in {seen[it.name]}"))
-        seen.setdefault(it.name, os.path.relpath(it.path, folder))
-    top = os.path.dirname(os.path.dirname(folder))
-    return edits, [f"{os.path.relpath(path, top)}:{line}: {said}" for path, line, said in wrong]
+        error, other = it.error(folder), first.setdefault(it.name, it)
+        errors += [f"{it.place}: {it.name}: {error}"] if error else []
+        errors += [f"{it.place}: {it.name} is also at {other.place}"] if other is not it else []
+    return edits, errors

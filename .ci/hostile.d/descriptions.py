@@ -9,6 +9,7 @@ LETTERS = {
     "y": part("year", repr="last_two"), "Y": part("year"), "d": part("day"), "e": part("day", padding="space"),
     "j": part("ordinal"), "H": part("hour"), "k": part("hour", padding="space"), "I": part("hour", repr="12"),
     "l": part("hour", repr="12", padding="space"), "m": part("month"), "M": part("minute"), "S": part("second"),
+    "f": part("subsecond"), "N": part("subsecond", digits="9"),
     "p": part("period"), "P": part("period", case="lower"), "s": part("unix_timestamp"),
     "u": part("weekday", repr="monday"), "w": part("weekday", repr="sunday", one_indexed="false"),
     "U": part("week_number", repr="sunday"), "V": part("week_number"), "W": part("week_number", repr="monday"),
@@ -17,10 +18,16 @@ SHORTHANDS = {"D": "m/d/y", "x": "m/d/y", "F": "Y-m-d", "R": "H:M", "T": "H:M:S"
               "c": "a b e H:M:S Y"}
 BYTES_OF = {"n": b"\n", "t": b"\t", "%": b"%"}
 FLAGS = {"-": "none", "_": "space", "0": "zero"}
+# The items of a letter after a flag that is none of padding.
+FLAGGED = {
+    **{f"{digits}f": [part("subsecond", digits=digits)] for digits in "369"},
+    ".f": [("optional", ("list", [("literal", b"."), part("subsecond")]))],
+    ":z": [part("offset_hour", sign="mandatory"), ("literal", b":"), part("offset_minute")],
+}
 # Groups of components that make a date, a time, an offset or a moment.
 DATES = ["Y-m-d", "d/b/Y", "e b Y", "Y-j", "G-V-u", "a, d B Y", "C y m d", "Y U w", "Y W u", "F", "D", "d.m.y", "Ymd",
          "g V a"]
-TIMES = ["H:M", "H:M:S", "I:M p", "l:M:S P", "T", "R", "k:M", "r", "HMS"]
+TIMES = ["H:M", "H:M:S", "H:M:Sf", "H:M:S.N", "I:M p", "l:M:S P", "T", "R", "k:M", "r", "HMS"]
 LITERALS = ["-", "/", ":", ".", " ", "T", "Z", ",", ", ", "at ", "W", "x1", "0", "+", "'", "\\", "]", "[", "\t", "%",
             "\u00e9"]
 
@@ -63,6 +70,9 @@ def strftime(rng, words=None):
             flag = rng.choice("-_0")
             old = LETTERS[word][1]
             meant = [("component", Component(old.name, **{**old.given, "padding": FLAGS[flag]}))]
+        elif word in "fz" and rng.random() < 0.5:
+            flag = rng.choice([it[0] for it in FLAGGED if it[1] == word])
+            meant = FLAGGED[flag + word]
         text, items = text + f"%{flag}{word}".encode(), items + meant
     return text, ("list", items)
 

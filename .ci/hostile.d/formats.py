@@ -2,6 +2,7 @@
 import iso8601
 import rfc2822
 import rfc3339
+import rfc3339_strict
 import trees
 from components import Component
 from places import Stop
@@ -95,6 +96,7 @@ LOCAL = "first", [
             part("offset_hour", sign="mandatory"), ":", part("offset_minute")),
     several(part("year", range="standard"), "-", part("ordinal"))]
 RFC3339, RFC2822, ISO8601 = ByPlaces(rfc3339), ByPlaces(rfc2822), ByPieces()
+RFC3339_STRICT = ByPlaces(rfc3339_strict)
 FORMATS = {
     "rfc3339": RFC3339, "rfc2822": RFC2822, "iso8601": ISO8601, "ymd": ByTree(YMD), "clock": ByTree(CLOCK),
     "unix": ByTree(part("unix_timestamp")), "local": ByTree(LOCAL),

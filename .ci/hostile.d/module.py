@@ -11,12 +11,13 @@ import agreeing
 import descriptions
 import texts
 import writing
-from formats import FORMATS, ByTree, outcome
+from formats import ISO8601, RFC2822, RFC3339_STRICT, ByTree, outcome
 from programs import Cases, run
 from records import resolve
 from values import Refused, instant
 
 NUMBERS = {"rfc3339": 1, "rfc2822": 2, "iso8601": 3}
+READERS = {"rfc3339": RFC3339_STRICT, "rfc2822": RFC2822, "iso8601": ISO8601}
 CALLS = ["parse", "parse_date", "parse_time", "parse_parts", "unix_ns"]
 NO_COUNT = -2**63
 LARGEST_DESCRIPTION = 64
@@ -165,7 +166,7 @@ def random_form(rng):
     name = rng.choice(list(NUMBERS))
     if rng.random() < 0.6:
         made = {"rfc3339": texts.rfc3339, "rfc2822": texts.rfc2822, "iso8601": texts.iso8601}[name]
-        return NUMBERS[name], FORMATS[name], made
+        return NUMBERS[name], READERS[name], made
     while True:
         syntax, text, tree = descriptions.random_description(rng, LARGEST_DESCRIPTION)
         # One with a `%` is of strftime, and any other in brackets of version 2.

@@ -1,6 +1,6 @@
 """Descriptions as text, parsed from the left: a tree, or the first fault."""
 from components import MODIFIERS, Component
-from descriptions import BYTES_OF, FLAGS, LETTERS, SHORTHANDS, of_letter
+from descriptions import BYTES_OF, FLAGGED, FLAGS, LETTERS, SHORTHANDS, of_letter
 from stamping import escaped
 
 MOST_LISTS = 8
@@ -163,7 +163,7 @@ def strftime(text):
             continue
         percent, at = at, at + 1
         flag = text[at:at + 1].decode(errors="replace")
-        flag = flag if flag in FLAGS else ""
+        flag = flag if flag in FLAGS or flag in {it[0] for it in FLAGGED} else ""
         at += len(flag)
         letter = text[at:at + 1]
         items += conversion(letter, flag, percent, at)
@@ -179,8 +179,10 @@ def conversion(byte, flag, percent, at):
         raise invalid("component name", byte, at)
     if not flag:
         return of_letter(letter)
+    if flag + letter in FLAGGED:
+        return FLAGGED[flag + letter]
     component = LETTERS[letter][1] if letter in LETTERS else None
-    if component is None or not component.is_padded():
+    if flag not in FLAGS or component is None or not component.is_padded():
         raise invalid("modifier", flag.encode(), at - 1)
     return [("component", Component(component.name, **{**component.given, "padding": FLAGS[flag]}))]
 

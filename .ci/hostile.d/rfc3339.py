@@ -41,8 +41,9 @@ def offset(text, at, ranges):
     return minus * hours[0], minus * minutes, minutes, after, [("offset minute", colon)]
 
 
-def places(text, ranges):
-    """The numbers at a text's start, their end, and where its parts start."""
+def places(text, ranges, separators=None):
+    """The numbers at a text's start, their end, and where its parts start. Any byte may be between date and time, or only
+    a separator, if some are given."""
     said, marks, at = {}, [], 0
     for name, least, most, width, behind in (
             ("year", 0, 9999, 4, b"-"), ("month", 1, 12, 2, b"-"), ("day", 1, 31, 2, None), ("hour", 0, 23, 2, b":"),
@@ -54,7 +55,7 @@ def places(text, ranges):
         if behind:
             at = byte(text, at, behind)
         if name == "day":
-            if at == len(text):
+            if at == len(text) or separators and text[at] not in separators:
                 raise part_missing(at, "separator")
             at += 1
     begun = at
@@ -75,9 +76,9 @@ def record_of(said, record):
     return {**record, **parts}
 
 
-def direct(text):
+def direct(text, separators=None):
     """The moment of a text, by the forms of its places and then by the ranges of its numbers."""
-    said, at, _ = places(text, False)
+    said, at, _ = places(text, False, separators)
     if said["minutes"] > 59:
         raise Refused("range", "minutes")
     if at < len(text):

@@ -2,7 +2,7 @@
 import descriptions
 import texts
 import writing
-from formats import FORMATS, ByTree, part, several
+from formats import FORMATS, RFC3339_STRICT, ByTree, part, several
 from records import has
 from stamping import YEAR_PARTS, Reading
 
@@ -14,7 +14,8 @@ UNIX = several(part("unix_timestamp"), ("optional", several(".", part("subsecond
 TREES = {"common": COMMON, "syslog": SYSLOG, "unix": UNIX,
          **{f"unix-{it[0]}s": part("unix_timestamp", precision=it[1])
             for it in (("m", "millisecond"), ("u", "microsecond"), ("n", "nanosecond"))}}
-NAMED = {**{name: Reading(name, FORMATS[name]) for name in ("rfc3339", "rfc2822", "iso8601")},
+NAMED = {"rfc3339": Reading("rfc3339", RFC3339_STRICT),
+         **{name: Reading(name, FORMATS[name]) for name in ("rfc2822", "iso8601")},
          **{name: Reading(name, ByTree(tree), name == "unix") for name, tree in TREES.items()}}
 MADE = {"rfc3339": texts.rfc3339, "rfc2822": texts.rfc2822, "iso8601": texts.iso8601}
 

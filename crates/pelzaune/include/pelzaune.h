@@ -23,10 +23,14 @@ extern "C" {
 #define PELZAUNE_VERSION 0x0100u
 uint32_t pelzaune_version(void);
 
-/* Formats. A call with any other number returns PELZAUNE_UNKNOWN_FORMAT. */
+/* Formats. A call with any other number returns PELZAUNE_UNKNOWN_FORMAT.
+ *
+ * PELZAUNE_RFC3339 accepts any byte between the date and the time, even a digit, as the Rust crate time does.
+ * PELZAUNE_RFC3339_STRICT accepts only 'T', 't' or a space there. Otherwise they parse alike, and write equal texts. */
 #define PELZAUNE_RFC3339 1u /* 1985-04-12T23:20:50.52Z */
 #define PELZAUNE_RFC2822 2u /* Sat, 02 Jan 2021 03:04:05 +0000, with comments, zone names and years of two digits */
 #define PELZAUNE_ISO8601 3u /* 2021-01-02T03:04:05,25-00:30, 20210102T0304Z, 2020-W53-6, 2020-366 or a time alone */
+#define PELZAUNE_RFC3339_STRICT 4u /* 1985-04-12T23:20:50.52Z, but not 1985-04-12_23:20:50.52Z */
 
 /* Values. The padding of a struct is unspecified after a call: compare members, not bytes. */
 typedef struct pelzaune_date {

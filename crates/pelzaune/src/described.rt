@@ -33,7 +33,8 @@ pub extern "C" fn pelzaune_describe(
     describe(syntax, text, out, index)
 }
 
-/// Parses the date of a text by a stored description. On an error `out` is unchanged.
+/// Parses the date of a text by a stored description, and stores it in `out`. Returns 0, or the error's status and
+/// leaves `out` unchanged.
 #[unsafe(no_mangle)]
 pub extern "C" fn pelzaune_described_date(
     description: &StoredDescription,
@@ -46,7 +47,8 @@ pub extern "C" fn pelzaune_described_date(
     store_value::<Date, DateParts, StoredDescription>(description, text, out)
 }
 
-/// Parses the time of a text by a stored description. On an error `out` is unchanged.
+/// Parses the time of a text by a stored description, and stores it in `out`. Returns 0, or the error's status and
+/// leaves `out` unchanged.
 #[unsafe(no_mangle)]
 pub extern "C" fn pelzaune_described_time(
     description: &StoredDescription,
@@ -58,7 +60,8 @@ pub extern "C" fn pelzaune_described_time(
     store_value::<Time, TimeParts, StoredDescription>(description, text, out)
 }
 
-/// Parses the offset of a text by a stored description. On an error `out` is unchanged.
+/// Parses the offset of a text by a stored description, and stores it in `out`. Returns 0, or the error's status and
+/// leaves `out` unchanged.
 #[unsafe(no_mangle)]
 pub extern "C" fn pelzaune_described_offset(
     description: &StoredDescription,
@@ -70,7 +73,8 @@ pub extern "C" fn pelzaune_described_offset(
     store_value::<UtcOffset, OffsetParts, StoredDescription>(description, text, out)
 }
 
-/// Parses the date and time of a text by a stored description. On an error `out` is unchanged.
+/// Parses the date and time of a text by a stored description, and stores it in `out`. Returns 0, or the error's status
+/// and leaves `out` unchanged.
 #[unsafe(no_mangle)]
 pub extern "C" fn pelzaune_described_local(
     description: &StoredDescription,
@@ -83,7 +87,8 @@ pub extern "C" fn pelzaune_described_local(
     store_value::<PlainDateTime, LocalParts, StoredDescription>(description, text, out)
 }
 
-/// Parses the date and time in UTC of a text by a stored description. On an error `out` is unchanged.
+/// Parses the date and time in UTC of a text by a stored description, and stores it in `out`. Returns 0, or the error's
+/// status and leaves `out` unchanged.
 #[unsafe(no_mangle)]
 pub extern "C" fn pelzaune_described_utc(
     description: &StoredDescription,
@@ -96,7 +101,8 @@ pub extern "C" fn pelzaune_described_utc(
     store_value::<UtcDateTime, LocalParts, StoredDescription>(description, text, out)
 }
 
-/// Parses the date, time and offset of a text by a stored description. On an error `out` is unchanged.
+/// Parses the date, time and offset of a text by a stored description, and stores it in `out`. Returns 0, or the
+/// error's status and leaves `out` unchanged.
 #[unsafe(no_mangle)]
 pub extern "C" fn pelzaune_described_moment(
     description: &StoredDescription,
@@ -108,7 +114,8 @@ pub extern "C" fn pelzaune_described_moment(
     store_value::<OffsetDateTime, MomentParts, StoredDescription>(description, text, out)
 }
 
-/// Parses the instant of a text's date, time and offset by a stored description. On an error `out` is unchanged.
+/// Parses the instant of a text's date, time and offset by a stored description, and stores it in `out`. Returns 0, or
+/// the error's status and leaves `out` unchanged.
 #[unsafe(no_mangle)]
 pub extern "C" fn pelzaune_described_instant(
     description: &StoredDescription,
@@ -120,8 +127,8 @@ pub extern "C" fn pelzaune_described_instant(
     store_value::<OffsetDateTime, Instant, StoredDescription>(description, text, out)
 }
 
-/// Parses the nanoseconds from 1970-01-01T00:00:00Z to the instant of a text, by a stored description. On an error
-/// `out` is unchanged.
+/// Parses the nanoseconds from 1970-01-01T00:00:00Z to the instant of a text, by a stored description, and stores it in
+/// `out`. Returns 0, or the error's status and leaves `out` unchanged.
 #[unsafe(no_mangle)]
 pub extern "C" fn pelzaune_described_nanoseconds(
     description: &StoredDescription,

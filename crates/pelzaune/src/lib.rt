@@ -43,7 +43,8 @@ pub extern "C" fn pelzaune_write_text(status: u32, buffer: &mut [u8]) -> usize
     pieces[0].len() + pieces[1].len() + pieces[2].len()
 }
 
-/// Parses the date of a text by the format with this number. On an error `out` is unchanged.
+/// Parses the date of a text by the format with this number, and stores it in `out`. Returns 0, or the error's status
+/// and leaves `out` unchanged.
 #[unsafe(no_mangle)]
 pub extern "C" fn pelzaune_parse_date(format: u32, text: &[u8], out: &mut DateParts) -> u32
     ensures { StoresValue HasDate (over_empty (IsDated greatest_year)) (format_of format) text.now
@@ -52,7 +53,8 @@ pub extern "C" fn pelzaune_parse_date(format: u32, text: &[u8], out: &mut DatePa
     store_value_by::<Date, DateParts>(format, text, out)
 }
 
-/// Parses the time of a text by the format with this number. On an error `out` is unchanged.
+/// Parses the time of a text by the format with this number, and stores it in `out`. Returns 0, or the error's status
+/// and leaves `out` unchanged.
 #[unsafe(no_mangle)]
 pub extern "C" fn pelzaune_parse_time(format: u32, text: &[u8], out: &mut TimeParts) -> u32
     ensures { StoresValue HasTime (over_empty IsTimed) (format_of format) text.now result out.old out.new }
@@ -60,7 +62,8 @@ pub extern "C" fn pelzaune_parse_time(format: u32, text: &[u8], out: &mut TimePa
     store_value_by::<Time, TimeParts>(format, text, out)
 }
 
-/// Parses the offset of a text by the format with this number. On an error `out` is unchanged.
+/// Parses the offset of a text by the format with this number, and stores it in `out`. Returns 0, or the error's status
+/// and leaves `out` unchanged.
 #[unsafe(no_mangle)]
 pub extern "C" fn pelzaune_parse_offset(format: u32, text: &[u8], out: &mut OffsetParts) -> u32
     ensures { StoresValue HasOffset (over_empty IsOffset) (format_of format) text.now result out.old out.new }
@@ -68,8 +71,8 @@ pub extern "C" fn pelzaune_parse_offset(format: u32, text: &[u8], out: &mut Offs
     store_value_by::<UtcOffset, OffsetParts>(format, text, out)
 }
 
-/// Parses the date and time of a text by the format with this number, and drops an offset. On an error `out` is
-/// unchanged.
+/// Parses the date and time of a text by the format with this number, drops an offset, and stores them in `out`.
+/// Returns 0, or the error's status and leaves `out` unchanged.
 #[unsafe(no_mangle)]
 pub extern "C" fn pelzaune_parse_local(format: u32, text: &[u8], out: &mut LocalParts) -> u32
     ensures { StoresValue HasPlain (over_empty (IsPlain greatest_year)) (format_of format) text.now
@@ -78,7 +81,8 @@ pub extern "C" fn pelzaune_parse_local(format: u32, text: &[u8], out: &mut Local
     local_by(format, text, out)
 }
 
-/// Parses the date and time in UTC of a text by the format with this number. On an error `out` is unchanged.
+/// Parses the date and time in UTC of a text by the format with this number, and stores it in `out`. Returns 0, or the
+/// error's status and leaves `out` unchanged.
 #[unsafe(no_mangle)]
 pub extern "C" fn pelzaune_parse_utc(format: u32, text: &[u8], out: &mut LocalParts) -> u32
     ensures { StoresValue HasUtc (over_empty (IsUtcMoment greatest_year)) (format_of format) text.now
@@ -87,7 +91,8 @@ pub extern "C" fn pelzaune_parse_utc(format: u32, text: &[u8], out: &mut LocalPa
     store_value_by::<UtcDateTime, LocalParts>(format, text, out)
 }
 
-/// Parses the date, time and offset of a text by the format with this number. On an error `out` is unchanged.
+/// Parses the date, time and offset of a text by the format with this number, and stores it in `out`. Returns 0, or the
+/// error's status and leaves `out` unchanged.
 #[unsafe(no_mangle)]
 pub extern "C" fn pelzaune_parse_moment(format: u32, text: &[u8], out: &mut MomentParts) -> u32
     ensures { StoresValue HasMoment of_moment (format_of format) text.now result out.old out.new }
@@ -95,7 +100,8 @@ pub extern "C" fn pelzaune_parse_moment(format: u32, text: &[u8], out: &mut Mome
     moment_by::<MomentParts>(format, text, out)
 }
 
-/// Parses the instant of a text's date, time and offset by the format with this number. On an error `out` is unchanged.
+/// Parses the instant of a text's date, time and offset by the format with this number, and stores it in `out`. Returns
+/// 0, or the error's status and leaves `out` unchanged.
 #[unsafe(no_mangle)]
 pub extern "C" fn pelzaune_parse_instant(format: u32, text: &[u8], out: &mut Instant) -> u32
     ensures { StoresValue HasInstant of_moment (format_of format) text.now result out.old out.new }
@@ -151,7 +157,8 @@ pub extern "C" fn pelzaune_check_description(
     check(syntax, description, index)
 }
 
-/// Parses the date of a text by a description in the syntax with this number. On an error `out` is unchanged.
+/// Parses the date of a text by a description in the syntax with this number, and stores it in `out`. Returns 0, or the
+/// error's status and leaves `out` unchanged.
 #[unsafe(no_mangle)]
 pub extern "C" fn pelzaune_read_date(
     syntax: u32,
@@ -165,7 +172,8 @@ pub extern "C" fn pelzaune_read_date(
     store_value_read::<Date, DateParts>(syntax, description, text, out)
 }
 
-/// Parses the time of a text by a description in the syntax with this number. On an error `out` is unchanged.
+/// Parses the time of a text by a description in the syntax with this number, and stores it in `out`. Returns 0, or the
+/// error's status and leaves `out` unchanged.
 #[unsafe(no_mangle)]
 pub extern "C" fn pelzaune_read_time(
     syntax: u32,
@@ -179,7 +187,8 @@ pub extern "C" fn pelzaune_read_time(
     store_value_read::<Time, TimeParts>(syntax, description, text, out)
 }
 
-/// Parses the offset of a text by a description in the syntax with this number. On an error `out` is unchanged.
+/// Parses the offset of a text by a description in the syntax with this number, and stores it in `out`. Returns 0, or
+/// the error's status and leaves `out` unchanged.
 #[unsafe(no_mangle)]
 pub extern "C" fn pelzaune_read_offset(
     syntax: u32,
@@ -193,7 +202,8 @@ pub extern "C" fn pelzaune_read_offset(
     store_value_read::<UtcOffset, OffsetParts>(syntax, description, text, out)
 }
 
-/// Parses the date and time of a text by a description in the syntax with this number. On an error `out` is unchanged.
+/// Parses the date and time of a text by a description in the syntax with this number, and stores it in `out`. Returns
+/// 0, or the error's status and leaves `out` unchanged.
 #[unsafe(no_mangle)]
 pub extern "C" fn pelzaune_read_local(
     syntax: u32,
@@ -207,8 +217,8 @@ pub extern "C" fn pelzaune_read_local(
     store_value_read::<PlainDateTime, LocalParts>(syntax, description, text, out)
 }
 
-/// Parses the date and time in UTC of a text by a description in the syntax with this number. On an error `out` is
-/// unchanged.
+/// Parses the date and time in UTC of a text by a description in the syntax with this number, and stores it in `out`.
+/// Returns 0, or the error's status and leaves `out` unchanged.
 #[unsafe(no_mangle)]
 pub extern "C" fn pelzaune_read_utc(
     syntax: u32,
@@ -222,8 +232,8 @@ pub extern "C" fn pelzaune_read_utc(
     store_value_read::<UtcDateTime, LocalParts>(syntax, description, text, out)
 }
 
-/// Parses the date, time and offset of a text by a description in the syntax with this number. On an error `out` is
-/// unchanged.
+/// Parses the date, time and offset of a text by a description in the syntax with this number, and stores it in `out`.
+/// Returns 0, or the error's status and leaves `out` unchanged.
 #[unsafe(no_mangle)]
 pub extern "C" fn pelzaune_read_moment(
     syntax: u32,
@@ -237,8 +247,8 @@ pub extern "C" fn pelzaune_read_moment(
     store_value_read::<OffsetDateTime, MomentParts>(syntax, description, text, out)
 }
 
-/// Parses the instant of a text's date, time and offset by a description in the syntax with this number. On an error
-/// `out` is unchanged.
+/// Parses the instant of a text's date, time and offset by a description in the syntax with this number, and stores it
+/// in `out`. Returns 0, or the error's status and leaves `out` unchanged.
 #[unsafe(no_mangle)]
 pub extern "C" fn pelzaune_read_instant(
     syntax: u32,
@@ -253,7 +263,7 @@ pub extern "C" fn pelzaune_read_instant(
 }
 
 /// Parses the nanoseconds from 1970-01-01T00:00:00Z to the instant of a text, by a description in the syntax with this
-/// number. On an error `out` is unchanged.
+/// number, and stores it in `out`. Returns 0, or the error's status and leaves `out` unchanged.
 #[unsafe(no_mangle)]
 pub extern "C" fn pelzaune_read_nanoseconds(
     syntax: u32,

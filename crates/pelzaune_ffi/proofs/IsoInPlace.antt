@@ -15,10 +15,10 @@ use Rattle.time_values.specs.declared.date.Date.{Date}
 use Rattle.time_values.specs.declared.month.Month.{Month}
 use Rattle.time_values.specs.declared.offset_date_time.OffsetDateTime.{OffsetDateTime}
 use Rattle.time_digits.specs.Digits.{Cut, IsDigit}
-use Rattle.time_readers.specs.Direct.{HasDate, IsMade, LeapSecondMayStand, RefusesRfc3339, date_refusal, said_rfc3339}
-use Rattle.time_readers.specs.Readers.{Stand}
-use Rattle.time_readers.specs.Rfc3339.{Asks, HasForm, nothing_read, offset_places, to_second_places}
-use Rattle.time_readers.specs.declared.direct.Said.{Said}
+use Rattle.time_readers.specs.Direct.{HasDate, IsMade, IsLeapSecondValid, RefusesRfc3339, date_refusal, rfc3339_numbers}
+use Rattle.time_readers.specs.Readers.{MatchesPlaces}
+use Rattle.time_readers.specs.Rfc3339.{PlaceSyntax, HasForm, nothing_read, offset_places, to_second_places}
+use Rattle.time_readers.specs.declared.direct.MomentNumbers.{MomentNumbers}
 use Rattle.time_readers.specs.declared.rfc3339.Numbers.{Numbers}
 use Rattle.time_readers.specs.declared.rfc3339.Place.TheVariants.{Subsecond}
 use Rattle.time_readers.specs.IsoGrammar.{two_digits}
@@ -26,7 +26,7 @@ use Rattle.time_readers.specs.IsoPieces.{byte, number, plain, point}
 use Rattle.time_readers.specs.IsoTimes.{time_text}
 use Rattle.time_readers.specs.declared.iso8601.ExtendedKind.TheVariants.{Basic, Extended}
 use Rattle.time_readers.proofs.MailRanges.{minute_stands, of_parts}
-use Rattle.time_readers.proofs.Walking.{Stand-append}
+use Rattle.time_readers.proofs.Walking.{MatchesPlaces-append}
 use Rattle.time_readers.proofs.IsoDatesAndTimes.{two_found, byte_found, byte_missing}
 use Rattle.time_readers.proofs.IsoPieces.{number-plain}
 use Rattle.time_readers.proofs.IsoTimes.{colon_minute, minute_basic}
@@ -67,7 +67,7 @@ Constructs-later r later P result e h = rw e h
 -- ---- Moments of RFC 3339 that are parsed in place
 
 -- the date of numbers that are in range
-pub date_of : (s : Said) (m : Month) (d : Date) → month_refusal s.month ≡ None → month_number m ≡ s.month
+pub date_of : (s : MomentNumbers) (m : Month) (d : Date) → month_refusal s.month ≡ None → month_number m ≡ s.month
     → Constructs (calendar_date_refusal greatest_year (pos s.year) (month_number m) s.day) (Dates.HasParts (pos s.year) m s.day)
     (Ok d)
     → Constructs (date_refusal greatest_year s) (HasDate s) (Ok d)
@@ -80,25 +80,25 @@ date_of s m d none named made =
     (record { year = parts.0; month = ap month_number parts.1 ∙ named; day = parts.2 })
 
 -- numbers that are in range, with a second below 60, build a moment
-pub made_of : (s : Said) (v : OffsetDateTime) → s.second < 60
+pub made_of : (s : MomentNumbers) (v : OffsetDateTime) → s.second < 60
     → Constructs (date_refusal greatest_year s) (HasDate s) (Ok (offset_date v))
     → Constructs (time_refusal s.hour s.minute s.second s.nanosecond) (HasClock s.hour s.minute s.second s.nanosecond)
     (Ok (offset_time v))
     → Constructs (offset_refusal s.offset_hour s.offset_minute (pos 0)) (HasOffset s.offset_hour s.offset_minute (pos 0))
     (Ok (offset_of v))
     → IsMade greatest_year s v
-unfolding LeapSecondMayStand
+unfolding IsLeapSecondValid
 made_of s v below date clock offset =
     let other : (s.second == 60) ≡ false = ne_eqb s.second 60 (λ leap. absurd (omega arith)) in
     let found = of_parts greatest_year s _ _ _ v refl refl refl date (rw other clock) offset in
     (found.0, found.1, λ leap. absurd (omega arith))
 
 -- the places of a text's start, one after another
-pub whole_matches : (bytes mid left rest : List ℕ) (n k m : Numbers) → Stand (Asks false) to_second_places nothing_read bytes mid n
-    → Cut (Asks false Subsecond n) mid left k → Stand (Asks false) offset_places k left rest m → HasForm false bytes rest m
-unfolding Stand
+pub whole_matches : (bytes mid left rest : List ℕ) (n k m : Numbers) → MatchesPlaces (PlaceSyntax false) to_second_places nothing_read bytes mid n
+    → Cut (PlaceSyntax false Subsecond n) mid left k → MatchesPlaces (PlaceSyntax false) offset_places k left rest m → HasForm false bytes rest m
+unfolding MatchesPlaces
 whole_matches bytes mid left rest n k m first fraction last =
-    Stand-append (Asks false) to_second_places (Subsecond ∷ offset_places) nothing_read n m bytes mid rest first (left, k, fraction, last)
+    MatchesPlaces-append (PlaceSyntax false) to_second_places (Subsecond ∷ offset_places) nothing_read n m bytes mid rest first (left, k, fraction, last)
 
 -- nothing follows all bytes
 pub nothing_left : (xs : List ℕ) (n : ℕ) → length xs ≡ n → take (length xs - n) (drop n xs) ≡ []
@@ -106,7 +106,7 @@ nothing_left xs n all = take_rest xs n ∙ drop_all n xs (omega arith)
 
 -- parsing the whole text results in the moment of its numbers
 pub outcome_of : (bytes : List ℕ) (n : Numbers) (o : Option OffsetDateTime) → HasForm false bytes [] n → n.offset_minute ≤ 59
-    → IfSome o (λ v. IsMade greatest_year (said_rfc3339 n) v)
+    → IfSome o (λ v. IsMade greatest_year (rfc3339_numbers n) v)
     → IfSome o (λ v. IsMomentOutcome greatest_year (direct (RefusesRfc3339 greatest_year)) (Reads greatest_year)
     (Refuses greatest_year) bytes None (Ok v))
 outcome_of bytes n None form minute made = made

@@ -1,2 +1,3 @@
 pub mod IsoInPlace
 pub mod StoredRows
+pub mod StrictMoments

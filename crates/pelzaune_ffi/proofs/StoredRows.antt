@@ -20,7 +20,7 @@ use Rattle.time_descriptions.specs.Values.{ignored}
 use Rattle.time_descriptions.proofs.WrittenComponents.{ignored_of}
 use Rattle.time_record.specs.Reading.{Reads, IsFault, Refuses}
 use Rattle.time_record.specs.Record.{Record}
-use Rattle.time_record.specs.WalkSteps.{Goes}
+use Rattle.time_record.specs.WalkSteps.{Resumes}
 use Rattle.time_record.proofs.WalkSteps.{behind_is, first_item}
 use Rattle.byte_streams.specs.Lines.{line_texts}
 use Rattle.byte_streams.proofs.LinesLemmas.{line_texts-found, line_texts-none}
@@ -146,7 +146,7 @@ first_stored (h ∷ hs) d within =
     let same : take (length (h ∷ hs) - 1) hs ≡ hs = take_all (length (h ∷ hs) - 1) hs (omega arith) in
     rw same (first_step (step_of h) (map step_of hs))
 
-module _ {Y : ℕ} {all : Trees} {b0 : List ℕ} {r0 : Record} {n : ℕ} {left : Trees} {b : List ℕ} {r : Record} (g : Goes Y all b0 r0 n left b r) where
+module _ {Y : ℕ} {all : Trees} {b0 : List ℕ} {r0 : Record} {n : ℕ} {left : Trees} {b : List ℕ} {r : Record} (g : Resumes Y all b0 r0 n left b r) where
   -- the remaining steps parse the rest
   pub rest_reads : (rest : List ℕ) (q : Record) → Reads Y (sequence left) b r rest q → Reads Y (sequence all) b0 r0 rest q
   unfolding Reads

@@ -10,21 +10,23 @@ use Rattle.time_parsing.specs.Outcome.{Reading}
 use Rattle.time_parsing.specs.Rfc3339 as rfc3339
 use Rattle.time_parsing.specs.Rfc2822 as rfc2822
 use Rattle.time_parsing.specs.Iso8601 as iso8601
+use Rattle.time_parsing.specs.Rfc3339Strict as strict
 use Rattle.time_locating.specs.Located.{IsLocated, Locating, wants}
-use Rattle.time_locating.specs.Misses.{LocatesTree, Wanted, first_byte, named, the_end, these_bytes}
+use Rattle.time_locating.specs.Misses.{LocatesTree, Expectation, first_byte, named, the_end, these_bytes}
 use Rattle.time_locating.specs.Rfc3339 as places_3339
 use Rattle.time_locating.specs.Rfc2822 as places_2822
 use Rattle.time_locating.specs.Iso8601 as places_8601
+use Rattle.time_locating.specs.Rfc3339Strict as places_strict
 use Rattle.time_locating.specs.declared.located.Located.{Located}
 use Rattle.pelzaune_ffi.specs.Described.{IsDescribed, fault_status}
 use Rattle.pelzaune_ffi.specs.Status.{status_of, unknown_format, unknown_syntax}
 use Rattle.pelzaune_ffi.specs.declared.descriptions.Syntax.{Syntax}
 use Rattle.pelzaune_ffi.specs.declared.status.Format.{Format}
-use Rattle.pelzaune_ffi.specs.declared.status.Format.TheVariants.{Rfc3339, Rfc2822, Iso8601}
+use Rattle.pelzaune_ffi.specs.declared.status.Format.TheVariants.{Rfc3339, Rfc2822, Iso8601, Rfc3339Strict}
 use Rattle.pelzaune_ffi.specs.declared.locating.Place.{Place}
 
 -- What was expected, as an error names it.
-abbrev pub expected_refusal : Wanted → refusals.Refusal
+abbrev pub expected_refusal : Expectation → refusals.Refusal
 expected_refusal (these_bytes text) = refusals.literal
 expected_refusal (named name) = refusals.component name
 expected_refusal the_end = refusals.trailing
@@ -35,7 +37,7 @@ first_of [] = 0
 first_of (b ∷ text) = b
 
 -- The first byte of the literal that was expected, or 0 where a component or the end was.
-abbrev pub expected_byte : Wanted → ℕ
+abbrev pub expected_byte : Expectation → ℕ
 expected_byte (these_bytes text) = first_of text
 expected_byte (named name) = 0
 expected_byte the_end = 0
@@ -59,13 +61,15 @@ StoresPlace (Some Rfc3339) text status old new =
 StoresPlace (Some Rfc2822) text status old new =
     LocatesBy (rfc2822.Reads greatest_year) places_2822.Locates text status old new
 StoresPlace (Some Iso8601) text status old new =
-    LocatesBy (iso8601.Reads greatest_year) (places_8601.Locates greatest_year) text status old new
+    LocatesBy (iso8601.Reads greatest_year) places_8601.Locates text status old new
+StoresPlace (Some Rfc3339Strict) text status old new =
+    LocatesBy (strict.Reads greatest_year) places_strict.Locates text status old new
 StoresPlace None text status old new = (status ≡ unknown_format) × (new ≡ old)
 
 -- The location by the described tree is stored. A malformed description has its fault's status.
 abbrev pub StoresPlaceByTree : Result Tree Refusal → List ℕ → ℕ → Place → Place → Type 0
 StoresPlaceByTree (Ok tree) text status old new =
-    LocatesBy (Reads greatest_year tree) (LocatesTree greatest_year first_byte tree) text status old new
+    LocatesBy (Reads greatest_year tree) (LocatesTree first_byte tree) text status old new
 StoresPlaceByTree (Err e) text status old new = (status ≡ fault_status e) × (new ≡ old)
 
 -- The location by a description in the syntax is stored. An unknown syntax has a status of its own.

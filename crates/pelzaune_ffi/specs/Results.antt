@@ -17,7 +17,7 @@ use Rattle.time_values.specs.Dates.{calendar_date_refusal}
 use Rattle.time_values.specs.Names as Month
 use Rattle.time_values.specs.Moments.{offset_time, plain_date, plain_time}
 use Rattle.time_values.specs.Offsets.{whole_offset_refusal}
-use Rattle.time_values.specs.Shown.{significant}
+use Rattle.time_values.specs.DisplayTexts.{significant}
 use Rattle.time_values.specs.Times.{nanosecond, time_refusal}
 use Rattle.time_formatting.specs.WellKnown.{IsMailText, moment_text, unwritable_2822, unwritable_3339}
 use Rattle.time_formatting.specs.declared.parts.Unwritable.{Unwritable}
@@ -29,9 +29,10 @@ use Rattle.time_parsing.specs.Outcome.{Reading, Refusing, Resolving, Path, direc
 use Rattle.time_parsing.specs.Rfc3339 as rfc3339
 use Rattle.time_parsing.specs.Rfc2822 as rfc2822
 use Rattle.time_parsing.specs.Iso8601 as iso8601
+use Rattle.time_parsing.specs.Rfc3339Strict as strict
 use Rattle.pelzaune_ffi.specs.Status.{status_of, too_wide, unknown_format, component_number, laid_over}
 use Rattle.pelzaune_ffi.specs.declared.status.Format.{Format}
-use Rattle.pelzaune_ffi.specs.declared.status.Format.TheVariants.{Rfc3339, Rfc2822, Iso8601}
+use Rattle.pelzaune_ffi.specs.declared.status.Format.TheVariants.{Rfc3339, Rfc2822, Iso8601, Rfc3339Strict}
 use Rattle.pelzaune_ffi.specs.declared.parts.DateParts.{DateParts}
 use Rattle.pelzaune_ffi.specs.declared.parts.TimeParts.{TimeParts}
 use Rattle.pelzaune_ffi.specs.declared.parts.OffsetParts.{OffsetParts}
@@ -164,6 +165,11 @@ StoresBy storing outcomes (Some Iso8601) text status old new =
     IsResultStored storing
     (outcomes over_record (iso8601.Reads greatest_year) (iso8601.Refuses greatest_year) text)
     status old new
+StoresBy storing outcomes (Some Rfc3339Strict) text status old new =
+    IsResultStored storing
+    (outcomes (direct (strict.RefusesDirectly greatest_year)) (strict.Reads greatest_year)
+    (strict.Refuses greatest_year) text)
+    status old new
 StoresBy storing outcomes None text status old new = (status ≡ unknown_format) × (new ≡ old)
 
 -- The parts of the text's value are stored.
@@ -185,7 +191,8 @@ abbrev pub format_of : ℕ → Option Format
 format_of number =
     if nat_eq number 1 then Some Rfc3339 else
     if nat_eq number 2 then Some Rfc2822 else
-    if nat_eq number 3 then Some Iso8601 else None
+    if nat_eq number 3 then Some Iso8601 else
+    if nat_eq number 4 then Some Rfc3339Strict else None
 
 -- ---- Moments as text
 
@@ -223,6 +230,7 @@ abbrev pub reason_of : Format → OffsetDateTime → Option Unwritable
 reason_of Rfc3339 v = unwritable_3339 v
 reason_of Rfc2822 v = unwritable_2822 v
 reason_of Iso8601 v = unwritable_3339 v
+reason_of Rfc3339Strict v = unwritable_3339 v
 
 -- The text of a moment in a format. RFC 3339 has the digits of a fraction up to the last that isn't 0, ISO 8601 all
 -- nine.
@@ -230,6 +238,7 @@ abbrev pub IsTextOf : Format → OffsetDateTime → List ℕ → Type 0
 IsTextOf Rfc3339 v bytes = bytes ≡ moment_text (significant 9 (nanosecond (offset_time v))) v
 IsTextOf Rfc2822 v bytes = IsMailText v bytes
 IsTextOf Iso8601 v bytes = bytes ≡ moment_text 9 v
+IsTextOf Rfc3339Strict v bytes = bytes ≡ moment_text (significant 9 (nanosecond (offset_time v))) v
 
 -- The status of a moment that a format can't write.
 abbrev pub unwritable_status : Unwritable → ℕ

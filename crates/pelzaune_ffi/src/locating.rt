@@ -7,7 +7,7 @@ ghost use Rattle.pelzaune_ffi.specs.Places.{StoresPlace, StoresPlaceByDescriptio
 use crate::descriptions::{fault_status, read_description, syntax_of};
 use crate::status::{Format, UNKNOWN_FORMAT, UNKNOWN_SYNTAX, format_of, status_of_description};
 use time_locating::{Expected, Locate, Located};
-use time_parsing::{Iso8601, Rfc2822, Rfc3339};
+use time_parsing::{Iso8601, Rfc2822, Rfc3339, Rfc3339Strict};
 use time_values::error::ParseFromDescription;
 
 /// Where a text fails, in the layout of C.
@@ -66,6 +66,7 @@ pub fn locate_by(format: u32, text: &[u8], out: &mut Place) -> u32
         Some(Format::Rfc3339) => locate(&Rfc3339, text, out),
         Some(Format::Rfc2822) => locate(&Rfc2822, text, out),
         Some(Format::Iso8601) => locate(&Iso8601, text, out),
+        Some(Format::Rfc3339Strict) => locate(&Rfc3339Strict, text, out),
         None => UNKNOWN_FORMAT,
     }
 }

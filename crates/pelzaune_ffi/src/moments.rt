@@ -14,7 +14,7 @@ ghost use Rattle.pelzaune_ffi.specs.declared.status.Format.TheVariants.{Iso8601 
 use crate::parts::{LocalParts, Nanoseconds};
 use crate::results::{count, store_count, store_value};
 use crate::status::{Format, UNKNOWN_FORMAT, format_of};
-use time_parsing::{Iso8601, Parsable, Rfc2822, Rfc3339, Target};
+use time_parsing::{Iso8601, Parsable, Rfc2822, Rfc3339, Rfc3339Strict, Target, strict_text};
 use time_values::{OffsetDateTime, PlainDateTime};
 
 // Stores the parts of a moment of RFC 3339.
@@ -78,6 +78,7 @@ pub fn moment_by<P: From<OffsetDateTime> + Copy>(format: u32, text: &[u8], out: 
         Some(Format::Rfc3339) => moment_3339(text, out),
         Some(Format::Rfc2822) => moment_2822(text, out),
         Some(Format::Iso8601) => moment_8601(text, out),
+        Some(Format::Rfc3339Strict) => moment_3339(strict_text(text), out),
         None => UNKNOWN_FORMAT,
     }
 }
@@ -134,6 +135,7 @@ pub fn count_by(format: u32, text: &[u8], out: &mut Nanoseconds) -> u32
         Some(Format::Rfc3339) => count_3339(text, out),
         Some(Format::Rfc2822) => count_2822(text, out),
         Some(Format::Iso8601) => count_8601(text, out),
+        Some(Format::Rfc3339Strict) => count_3339(strict_text(text), out),
         None => UNKNOWN_FORMAT,
     }
 }
@@ -163,6 +165,9 @@ pub fn local_by(format: u32, text: &[u8], out: &mut LocalParts) -> u32
         Some(Format::Rfc3339) => parsed::<PlainDateTime, LocalParts, Rfc3339>(&Rfc3339, text, out),
         Some(Format::Rfc2822) => parsed::<PlainDateTime, LocalParts, Rfc2822>(&Rfc2822, text, out),
         Some(Format::Iso8601) => local_8601(text, out),
+        Some(Format::Rfc3339Strict) => {
+            parsed::<PlainDateTime, LocalParts, Rfc3339Strict>(&Rfc3339Strict, text, out)
+        }
         None => UNKNOWN_FORMAT,
     }
 }

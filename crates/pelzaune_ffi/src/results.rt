@@ -1,7 +1,7 @@
 //! The results of parses, as structs and statuses of C.
 ghost use Rattle.std.specs.Prelude.{Ok, Result};
 ghost use Rattle.time_values.specs.declared.error.TryFromParsed.{TryFromParsed as TryFromParsed_};
-ghost use Rattle.time_record.specs.Resolution.{parsed_seen};
+ghost use Rattle.time_record.specs.Resolution.{erased_conversion};
 ghost use Rattle.pelzaune_ffi.specs.Described as Described;
 ghost use Rattle.pelzaune_ffi.specs.Described.{StoresByDescription};
 ghost use Rattle.pelzaune_ffi.specs.Results as Formats;
@@ -12,7 +12,7 @@ use crate::parts::{DateParts, Nanoseconds, OffsetParts, Parts, TimeParts, nanose
 use crate::status::{Format, TOO_WIDE, UNKNOWN_FORMAT, UNKNOWN_SYNTAX, format_of, status_of};
 use std::convert::TryFrom;
 use time_descriptions::Description;
-use time_parsing::{Iso8601, Parsable, Rfc2822, Rfc3339, Target};
+use time_parsing::{Iso8601, Parsable, Rfc2822, Rfc3339, Rfc3339Strict, Target};
 use time_record::Parsed;
 use time_values::error::TryFromParsed;
 use time_values::{Date, OffsetDateTime, Time, UtcOffset};
@@ -45,6 +45,11 @@ pub fn store_value_by<V: Target, P: From<V> + Copy>(format: u32, text: &[u8], ou
         Some(Format::Rfc3339) => store_value::<V, P, Rfc3339>(&Rfc3339, text, out),
         Some(Format::Rfc2822) => store_value::<V, P, Rfc2822>(&Rfc2822, text, out),
         Some(Format::Iso8601) => store_value::<V, P, Iso8601>(&Iso8601, text, out),
+        Some(Format::Rfc3339Strict) => store_value::<V, P, Rfc3339Strict>(
+            &Rfc3339Strict,
+            text,
+            out,
+        ),
         None => UNKNOWN_FORMAT,
     }
 }
@@ -82,7 +87,7 @@ fn resolve<V: TryFrom<Parsed, Error = TryFromParsed> + Drop, P: From<V> + Copy>(
     out: &mut P,
 ) -> u32
     ensures { (answer : Result V TryFromParsed_) × V.try_from_gives parsed.now answer
-        × IsStored P.from_gives (parsed_seen answer) result out.old out.new }
+        × IsStored P.from_gives (erased_conversion answer) result out.old out.new }
 {
     match V::try_from(*parsed) {
         Ok(value) => {
@@ -119,6 +124,7 @@ pub fn parts_by(format: u32, text: &[u8], out: &mut Parts) -> u32
         Some(Format::Rfc3339) => parts(&Rfc3339, text, out),
         Some(Format::Rfc2822) => parts(&Rfc2822, text, out),
         Some(Format::Iso8601) => parts(&Iso8601, text, out),
+        Some(Format::Rfc3339Strict) => parts(&Rfc3339Strict, text, out),
         None => UNKNOWN_FORMAT,
     }
 }

@@ -90,12 +90,14 @@ pub fn status_of(error: Parse) -> u32
 /// A named format.
 #[derive(Clone, Copy)]
 pub enum Format {
-    /// RFC 3339, section 5.6.
+    /// RFC 3339, section 5.6, with any byte between the date and the time.
     Rfc3339,
     /// Mail dates, RFC 2822, section 3.3.
     Rfc2822,
     /// ISO 8601.
     Iso8601,
+    /// RFC 3339 with only `T`, `t` or a space between the date and the time.
+    Rfc3339Strict,
 }
 
 /// The format with this number, or `None`.
@@ -107,6 +109,7 @@ pub fn format_of(number: u32) -> Option<Format>
         1 => Some(Format::Rfc3339),
         2 => Some(Format::Rfc2822),
         3 => Some(Format::Iso8601),
+        4 => Some(Format::Rfc3339Strict),
         _ => None,
     }
 }

@@ -8,7 +8,7 @@ ghost use Rattle.time_values.specs.declared.error.TryFromParsed.{TryFromParsed a
 ghost use Rattle.time_components.specs.Tree.{steps_shape, steps_trees};
 ghost use Rattle.time_record.specs.Reading.{Answers, Reads, Refuses};
 ghost use Rattle.time_record.specs.Record.{Record};
-ghost use Rattle.time_record.specs.WalkSteps.{Goes};
+ghost use Rattle.time_record.specs.WalkSteps.{Resumes};
 ghost use Rattle.time_parsing.specs.Outcome.{begun, IsWhole, over_record, seen};
 ghost use Rattle.time_parsing.specs.exact.Laws.{tree_exact};
 ghost use Rattle.pelzaune_ffi.specs.Described as Described;
@@ -71,7 +71,7 @@ fn read_front<'s, 'a>(
     input: &'a [u8],
 ) -> (&'s [StoredStep], &'a [u8])
     ensures fewer { length result.0.now ≤ length steps.now }
-    ensures progress { Goes greatest_year (steps_trees (map Described.step_of steps.now)) input.now parsed.old
+    ensures progress { Resumes greatest_year (steps_trees (map Described.step_of steps.now)) input.now parsed.old
         (length steps.now - length result.0.now) (steps_trees (map Described.step_of result.0.now)) result.1.now parsed.new }
 {
     let mut left = steps;

@@ -2,7 +2,7 @@
 ghost use Rattle.std.specs.Prelude.{◌≡◌, length};
 ghost use Rattle.time_values.specs.Names.{month_number};
 ghost use Rattle.time_values.specs.Refusal.{Constructs};
-ghost use Rattle.time_formatting.specs.WellKnown.{WritesSuch};
+ghost use Rattle.time_formatting.specs.WellKnown.{WritesTextWith};
 ghost use Rattle.pelzaune_ffi.specs.Results as Formats;
 ghost use Rattle.pelzaune_ffi.specs.Results.{HasMoment, StoresMomentText, StoresText, StoresTextOf, IsDateOf, IsLocalOf, IsTextOf, date_refusal, local_refusal, month_refusal, moment_refusal, reason_of};
 
@@ -55,10 +55,10 @@ fn moment_of(parts: &MomentParts) -> Result<OffsetDateTime, ComponentRange>
 
 // The text of a moment in a format.
 fn text_of(format: Format, value: OffsetDateTime) -> Result<Text, Unwritable>
-    ensures { WritesSuch (reason_of format value) (IsTextOf format value) result }
+    ensures { WritesTextWith (reason_of format value) (IsTextOf format value) result }
 {
     match format {
-        Format::Rfc3339 => text_3339(value, FractionDigits::Auto),
+        Format::Rfc3339 | Format::Rfc3339Strict => text_3339(value, FractionDigits::Auto),
         Format::Rfc2822 => text_2822(value),
         Format::Iso8601 => text_8601(value),
     }

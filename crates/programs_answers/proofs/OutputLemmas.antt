@@ -10,7 +10,7 @@ use Rattle.itoa.proofs.Decimal.{decimal_four, pair}
 use Rattle.time_values.specs.Calendar.{month_length, greatest_year}
 use Rattle.time_values.specs.Names.{month_number}
 use Rattle.time_values.specs.declared.date.Date.{Date}
-use Rattle.time_values.specs.Shown.{fixed}
+use Rattle.time_values.specs.DisplayTexts.{fixed}
 use Rattle.time_values.specs.declared.time.Time.{Time}
 use Rattle.time_components.specs.Tree.{Tree}
 use Rattle.time_readers.specs.Direct.{RefusesRfc3339, RefusesRfc2822}
@@ -133,12 +133,12 @@ pub Writes_line_feed : {E : Type 0} (r : Result (Unit {0}) E) (P : List ℕ → 
 Writes_line_feed (Ok u) P a b c w more = (w.0 ++ 10 ∷ [], (w.0, w.1, refl), Appends-trans a b c w.0 (10 ∷ []) w.2 more)
 Writes_line_feed (Err e) P a b c w more = tt
 
--- equal trees have equal outcomes; `Y` is the greatest year
-pub Writes-described : {E : Type 0} (r : Result (Unit {0}) E) (Y : ℕ) (tree same : Tree) (target : Target) (bytes : List ℕ)
-    (a b : Option (List ℕ)) → tree ≡ same → OnOk r (Writes (IsDescribed Y tree target bytes) a b)
-    → OnOk r (Writes (IsDescribed Y same target bytes) a b)
-Writes-described r Y tree same target bytes a b e h =
-    subst (λ (t : Tree). OnOk r (Writes (IsDescribed Y t target bytes) a b)) e h
+-- equal trees have equal outcomes
+pub Writes-described : {E : Type 0} (r : Result (Unit {0}) E) (tree same : Tree) (target : Target) (bytes : List ℕ)
+    (a b : Option (List ℕ)) → tree ≡ same → OnOk r (Writes (IsDescribed tree target bytes) a b)
+    → OnOk r (Writes (IsDescribed same target bytes) a b)
+Writes-described r tree same target bytes a b e h =
+    subst (λ (t : Tree). OnOk r (Writes (IsDescribed t target bytes) a b)) e h
 
 -- an empty buffer adds nothing to a writer's contents
 pub append_known-none : (a : Option (List ℕ)) (buffered : List ℕ) → buffered ≡ [] → Appends a (append_known a buffered) []
@@ -166,13 +166,13 @@ module _ (R : Reading) (F : Refusing) (exact : IsExact R F) (bytes : List ℕ) w
   IsPrinted-one resolves value_text one a b h k =
       h.2 ∙ ap (printed value_text) (one_outcome R F exact resolves one bytes empty h.0 k.0 h.1 k.1) ∙ sym k.2
 
-  IsPrintedMoment-one : (path : Path) → IsExactPath greatest_year path R F → OneText (IsPrintedMoment greatest_year path R F bytes)
+  IsPrintedMoment-one : (path : Path) → IsExactPath greatest_year path R F → OneText (IsPrintedMoment path R F bytes)
   IsPrintedMoment-one path alone a b h k =
       h.2 ∙ ap (printed offset_date_time_text) (one_moment_outcome path R F exact alone IsMoment-one bytes None h.0 k.0 h.1 k.1)
       ∙ sym k.2
 
   IsAnswerFor-one : (path : Path) → IsExactPath greatest_year path R F → (t : Target)
-      → OneText (IsAnswerFor greatest_year t path R F bytes)
+      → OneText (IsAnswerFor t path R F bytes)
   IsAnswerFor-one path alone target.Date = IsPrinted-one (IsDated greatest_year) date_text IsDated-one
   IsAnswerFor-one path alone target.Time = IsPrinted-one IsTimed time_text IsTimed-one
   IsAnswerFor-one path alone target.Offset = IsPrinted-one IsOffset offset_text IsOffset-one
@@ -182,12 +182,12 @@ module _ (R : Reading) (F : Refusing) (exact : IsExact R F) (bytes : List ℕ) w
   IsAnswerFor-one path alone target.Staged = IsPrinted-one (IsMoment greatest_year) offset_date_time_text IsMoment-one
   IsAnswerFor-one path alone target.Timestamp = IsPrinted-one (IsTimestamp greatest_year) timestamp_text IsTimestamp-one
 
-pub IsDescribed-one : (tree : Tree) (t : Target) (bytes : List ℕ) → OneText (IsDescribed greatest_year tree t bytes)
+pub IsDescribed-one : (tree : Tree) (t : Target) (bytes : List ℕ) → OneText (IsDescribed tree t bytes)
 IsDescribed-one tree t bytes =
     IsAnswerFor-one (Description.Reads greatest_year tree) (Description.Refuses greatest_year tree)
     (tree_exact greatest_year tree) bytes over_record tt t
 
-pub IsParsed-one : (f : Format) (t : Target) (bytes : List ℕ) → OneText (IsParsed greatest_year f t bytes)
+pub IsParsed-one : (f : Format) (t : Target) (bytes : List ℕ) → OneText (IsParsed f t bytes)
 IsParsed-one format.Rfc3339 t bytes =
     IsAnswerFor-one (Rfc3339.Reads greatest_year) (Rfc3339.Refuses greatest_year) (rfc3339_exact greatest_year) bytes
     (direct (RefusesRfc3339 greatest_year)) rfc3339_exact_path t

@@ -4,7 +4,7 @@ use Rattle.std.proofs.Common.{get_or, ◌≡◌, ℕ, List, [], ◌∷◌, ◌++
 use Rattle.time_values.specs.Dates.{HasParts}
 use Rattle.time_values.specs.Offsets.{HasOffset}
 use Rattle.time_values.specs.Refusal.{component, range}
-use Rattle.time_values.specs.Shown.{fixed}
+use Rattle.time_values.specs.DisplayTexts.{fixed}
 use Rattle.time_values.specs.Times.{HasClock}
 use Rattle.time_values.specs.declared.date.Date.{Date}
 use Rattle.time_values.specs.declared.month.Month.TheVariants.{January}

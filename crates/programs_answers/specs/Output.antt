@@ -1,8 +1,9 @@
--- The output for a text, and for an input of several lines. `Y` is the greatest year.
+-- The output for a text, and for an input of several lines.
+use Rattle.time_values.specs.Calendar.{greatest_year}
 use Rattle.std.specs.Prelude.{ℕ, List, [], ◌++◌, codes, ℤ, pos, Bool, if◌then◌else◌, int_lt, nat_lt, unsigned_abs, ◌∷◌, ◌||◌, Result, Ok, Err, ◌==◌, ◌≡◌, Option, None, ◌⊎◌, ◌^◌, ◌≤◌, MatchResult}
 use Rattle.std.specs.Fmt.{decimal, signed_decimal}
 use Rattle.std.specs.Io.KnownBytes.{Appends}
-use Rattle.time_values.specs.Shown.{fixed}
+use Rattle.time_values.specs.DisplayTexts.{fixed}
 use Rattle.time_values.specs.Dates as Dates
 use Rattle.time_values.specs.Moments.{plain_date, plain_time, utc_date, utc_time, offset_date, offset_time, offset_of, nanoseconds}
 use Rattle.time_values.specs.Names.{month_number}
@@ -119,36 +120,40 @@ IsPrinted resolves value_text reads refuses text =
     PrintsOutcome (IsOutcome resolves reads refuses text empty) value_text
 
 -- The answer is the printed outcome of a moment, which a format may parse on a direct path.
-abbrev pub IsPrintedMoment : ℕ → Path → Reading → Refusing → List ℕ → List ℕ → Type 0
-IsPrintedMoment Y path reads refuses text =
-    PrintsOutcome (IsMomentOutcome Y path reads refuses text None) offset_date_time_text
+abbrev pub IsPrintedMoment : Path → Reading → Refusing → List ℕ → List ℕ → Type 0
+IsPrintedMoment path reads refuses text =
+    PrintsOutcome (IsMomentOutcome greatest_year path reads refuses text None) offset_date_time_text
 
 -- The answer is the printed outcome of the text for the target. `staged` is a moment, always parsed over a record.
-abbrev pub IsAnswerFor : ℕ → Target → Path → Reading → Refusing → List ℕ → List ℕ → Type 0
-IsAnswerFor Y target.Date path = IsPrinted (IsDated Y) date_text
-IsAnswerFor Y target.Time path = IsPrinted IsTimed time_text
-IsAnswerFor Y target.Offset path = IsPrinted IsOffset offset_text
-IsAnswerFor Y target.Plain path = IsPrinted (IsPlain Y) plain_text
-IsAnswerFor Y target.Utc path = IsPrinted (IsUtcMoment Y) utc_text
-IsAnswerFor Y target.DateTime path = IsPrintedMoment Y path
-IsAnswerFor Y target.Staged path = IsPrinted (IsMoment Y) offset_date_time_text
-IsAnswerFor Y target.Timestamp path = IsPrinted (IsTimestamp Y) timestamp_text
+abbrev pub IsAnswerFor : Target → Path → Reading → Refusing → List ℕ → List ℕ → Type 0
+IsAnswerFor target.Date path = IsPrinted (IsDated greatest_year) date_text
+IsAnswerFor target.Time path = IsPrinted IsTimed time_text
+IsAnswerFor target.Offset path = IsPrinted IsOffset offset_text
+IsAnswerFor target.Plain path = IsPrinted (IsPlain greatest_year) plain_text
+IsAnswerFor target.Utc path = IsPrinted (IsUtcMoment greatest_year) utc_text
+IsAnswerFor target.DateTime path = IsPrintedMoment path
+IsAnswerFor target.Staged path = IsPrinted (IsMoment greatest_year) offset_date_time_text
+IsAnswerFor target.Timestamp path = IsPrinted (IsTimestamp greatest_year) timestamp_text
 
 -- The answer by the format that a description has.
-abbrev pub IsDescribed : ℕ → Tree → Target → List ℕ → List ℕ → Type 0
-IsDescribed Y tree target = IsAnswerFor Y target over_record (Description.Reads Y tree) (Description.Refuses Y tree)
+abbrev pub IsDescribed : Tree → Target → List ℕ → List ℕ → Type 0
+IsDescribed tree target = IsAnswerFor target over_record (Description.Reads greatest_year tree)
+    (Description.Refuses greatest_year tree)
 
 -- The answer by a format with a name.
-abbrev pub IsParsed : ℕ → Format → Target → List ℕ → List ℕ → Type 0
-IsParsed Y format.Rfc3339 target =
-    IsAnswerFor Y target (direct (RefusesRfc3339 Y)) (Rfc3339.Reads Y) (Rfc3339.Refuses Y)
-IsParsed Y format.Rfc2822 target =
-    IsAnswerFor Y target (direct (RefusesRfc2822 Y)) (Rfc2822.Reads Y) (Rfc2822.Refuses Y)
-IsParsed Y format.Iso8601 target = IsAnswerFor Y target over_record (Iso8601.Reads Y) (Iso8601.Refuses Y)
-IsParsed Y format.Ymd target = IsDescribed Y ymd target
-IsParsed Y format.Clock target = IsDescribed Y clock target
-IsParsed Y format.Unix target = IsDescribed Y unix target
-IsParsed Y format.Local target = IsDescribed Y local target
+abbrev pub IsParsed : Format → Target → List ℕ → List ℕ → Type 0
+IsParsed format.Rfc3339 target =
+    IsAnswerFor target (direct (RefusesRfc3339 greatest_year)) (Rfc3339.Reads greatest_year)
+    (Rfc3339.Refuses greatest_year)
+IsParsed format.Rfc2822 target =
+    IsAnswerFor target (direct (RefusesRfc2822 greatest_year)) (Rfc2822.Reads greatest_year)
+    (Rfc2822.Refuses greatest_year)
+IsParsed format.Iso8601 target = IsAnswerFor target over_record (Iso8601.Reads greatest_year)
+    (Iso8601.Refuses greatest_year)
+IsParsed format.Ymd target = IsDescribed ymd target
+IsParsed format.Clock target = IsDescribed clock target
+IsParsed format.Unix target = IsDescribed unix target
+IsParsed format.Local target = IsDescribed local target
 
 -- The answers to the lines, each followed by LF. P relates a line to its answer.
 abbrev pub AreAnswers : (List ℕ → List ℕ → Type 0) → List (List ℕ) → List ℕ → Type 0
@@ -171,7 +176,7 @@ WritesAnswers P old new input = Writes (AreAnswers P (line_texts input)) old new
 abbrev pub IsUnread : ℕ → ℕ → ℕ → ℕ → Type 0
 IsUnread faults faults' given given' = Rises faults faults' ⊎ (count_more given (2 ^ 32) ≤ given')
 
--- `IsUnread`, if a read stopped the call. The count of failed reads is unchanged if anything else did.
+-- If a read stopped the call, `IsUnread` holds. Otherwise the count of failed reads is unchanged.
 abbrev pub IsReadCounted : Stop → ℕ → ℕ → ℕ → ℕ → Type 0
 IsReadCounted Unread faults faults' given given' = IsUnread faults faults' given given'
 IsReadCounted Memory faults faults' given given' = faults' ≡ faults

@@ -1,7 +1,6 @@
 //! The answer to a text.
 ghost use Rattle.std.specs.Prelude.{◌≡◌, OnOk, codes, ◌++◌};
 ghost use Rattle.std.specs.Io.KnownBytes.{Appends};
-ghost use Rattle.time_values.specs.Calendar.{greatest_year};
 ghost use Rattle.time_values.specs.Refusal.{refusal_of, refusal_text};
 ghost use Rattle.time_parsing.specs.Outcome.{seen};
 ghost use Rattle.byte_streams.specs.Faults.{HasCause};
@@ -72,7 +71,7 @@ pub fn write_value<F: Parsable, W: Sink>(
     out: &mut W,
 ) -> Result<(), Unwritten>
     ensures bytes { OnOk result
-        (Writes (IsAnswerFor greatest_year target (F.path format.now) (F.reads format.now) (F.refuses format.now) text.now)
+        (Writes (IsAnswerFor target (F.path format.now) (F.reads format.now) (F.refuses format.now) text.now)
         (W.contents out.old) (W.contents out.new)) }
     ensures cause { HasCause result (W.faults out.old) (W.faults out.new) }
     ensures through { W.through out.new ≡ W.through out.old }

@@ -6,7 +6,7 @@ ghost use Rattle.programs_answers.specs.Output.{minus_if, is_negative, date_text
 ghost use Rattle.programs_answers.specs.Pieces.{leading_digits, year_front};
 ghost use Rattle.time_values.specs.Dates as Dates;
 ghost use Rattle.time_values.specs.Moments.{offset_date};
-ghost use Rattle.time_values.specs.Shown.{fixed};
+ghost use Rattle.time_values.specs.DisplayTexts.{fixed};
 
 use byte_streams::{Sink, Unwritten};
 use time_values::digits::{four, nine, pair};

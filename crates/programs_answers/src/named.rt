@@ -1,6 +1,5 @@
 //! The formats that a line may name, with their descriptions prepared for many texts.
 ghost use Rattle.std.specs.Prelude.{◌≡◌, ◌∷◌, [], OnOk, map};
-ghost use Rattle.time_values.specs.Calendar.{greatest_year};
 ghost use Rattle.time_components.specs.Tree.{borrowed_shape, steps_shape, first_of, sequence, trees};
 ghost use Rattle.time_preparing.specs.Items.{Prepares};
 ghost use Rattle.byte_streams.specs.Faults.{HasCause};
@@ -102,7 +101,7 @@ impl Named {
         text: &[u8],
         out: &mut W,
     ) -> Result<(), Unwritten>
-        ensures bytes { OnOk result (Writes (IsDescribed greatest_year formats.local target text.now)
+        ensures bytes { OnOk result (Writes (IsDescribed formats.local target text.now)
             (W.contents out.old) (W.contents out.new)) }
         ensures cause { HasCause result (W.faults out.old) (W.faults out.new) }
         ensures through { W.through out.new ≡ W.through out.old }
@@ -120,7 +119,7 @@ impl Named {
         text: &[u8],
         out: &mut W,
     ) -> Result<(), Unwritten>
-        ensures bytes { OnOk result (Writes (IsParsed greatest_year format target text.now)
+        ensures bytes { OnOk result (Writes (IsParsed format target text.now)
             (W.contents out.old) (W.contents out.new)) }
         ensures cause { HasCause result (W.faults out.old) (W.faults out.new) }
         ensures through { W.through out.new ≡ W.through out.old }

@@ -86,7 +86,7 @@ impl<'a, R: Files + Clock + Eprint + AllocGlobal> DiskFolder<'a, R> {
 
     // The meter of a file of that size, if progress is reported.
     fn meter(&self, size: u64) -> Option<Meter> {
-        if !self.progress.is_wanted() {
+        if !self.progress.is_enabled() {
             return None;
         }
         let size = (size > 0).then_some(size);

@@ -141,7 +141,7 @@ fn reporter_of(rt: &HostRuntime, matches: &ArgMatches<'_>) -> Reporter {
     }
 }
 
-// Prints that standard input can't be replaced.
+// Prints that --in-place doesn't take standard input. Returns the exit status, 2.
 fn report_input(rt: &HostRuntime) -> io::Result<u8> {
     eprintln!(rt;
         "error: --in-place takes files, and not standard input\n\nFor more information, try '--help'."

@@ -128,7 +128,7 @@ impl<'a, R: Files + Input + Clock + Eprint + AllocGlobal> Disk<'a, R> {
     fn metered<S: Drop>(&self, name: &[u8], source: S, size: Option<u64>) -> Metered<'a, R, S>
         ensures { result.source ≡ source }
     {
-        let meter = if self.progress.is_wanted() {
+        let meter = if self.progress.is_enabled() {
             self.progress.begin(self.rt.alloc(), name, size)
         } else {
             None

@@ -142,7 +142,7 @@ impl<'a, R: Clock + Eprint> Progress<'a, R> {
     }
 
     /// Whether progress is reported.
-    pub(crate) fn is_wanted(&self) -> bool {
+    pub(crate) fn is_enabled(&self) -> bool {
         !matches!(self.reporter, Reporter::Nothing)
     }
 

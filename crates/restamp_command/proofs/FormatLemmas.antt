@@ -36,17 +36,17 @@ pub day_near : (n : ℤ) → IsBetween (neg_ℤ (pos 33_000_000_000_000_000_000_
     → IsBetween (neg_ℤ (pos 500_000_000)) (pos 500_000_000) (int_div_euclid n (pos nanos_per_day))
 day_near n h = let day = whole n in omega (arith, ints)
 
-pub no_date : (Y : ℕ) (n : ℤ) (r : Refusal) → timestamp_refusal Y n ≡ Some r → ¬ IsInstant Y n
-no_date Y n r e inside =
-    let clash : None ≡ Some r = rw ((is_instant-IsInstant Y n).1 inside) at e in
+pub no_date : (n : ℤ) (r : Refusal) → timestamp_refusal greatest_year n ≡ Some r → ¬ IsInstant greatest_year n
+no_date n r e inside =
+    let clash : None ≡ Some r = rw ((is_instant-IsInstant greatest_year n).1 inside) at e in
     absurd cc
 
-pub others_fault : (Y : ℕ) (o : Options) (has_year : Bool) (names : List (List ℕ)) (f : Fault) → has_year ≡ has_default_year o
-    → names ≡ other_names o → IsFormatFault has_year names f → IsFault Y o f
-others_fault Y o has_year names f e n h =
+pub others_fault : (o : Options) (has_year : Bool) (names : List (List ℕ)) (f : Fault) → has_year ≡ has_default_year o
+    → names ≡ other_names o → IsFormatFault has_year names f → IsFault o f
+others_fault o has_year names f e n h =
     by_fault f (rw (e, n) at h)
   where
-    by_fault : (f : Fault) → IsFormatFault (has_default_year o) (other_names o) f → IsFault Y o f
+    by_fault : (f : Fault) → IsFormatFault (has_default_year o) (other_names o) f → IsFault o f
     by_fault fault.memory h = h
     by_fault (fault.from value why) h = (inr h.0, h.1, h.2)
     by_fault (fault.zones value why) h = (inr h.0, h.1, h.2)
@@ -54,11 +54,11 @@ others_fault Y o has_year names f e n h =
     by_fault f h = absurd h
 
 -- an error at any time is an error at each moment
-pub fault_at : (Y : ℕ) (now : Option UtcDateTime) (o : Options) (f : Fault) → IsFault Y o f → IsFaultAt Y now o f
-fault_at Y now o (fault.latest value why) h = absurd h
-fault_at Y now o (fault.since value why) h = absurd h
-fault_at Y now o (fault.until value why) h = absurd h
-fault_at Y now o f h = h
+pub fault_at : (now : Option UtcDateTime) (o : Options) (f : Fault) → IsFault o f → IsFaultAt now o f
+fault_at now o (fault.latest value why) h = absurd h
+fault_at now o (fault.since value why) h = absurd h
+fault_at now o (fault.until value why) h = absurd h
+fault_at now o f h = h
 
 push : (has_year : Bool) (names : List (List ℕ)) (name : List ℕ) (old new : List Reading) (format : Reading)
     → AddsFormats has_year names old new → IsFormat has_year name format
@@ -91,10 +91,10 @@ fault_of_one f has_year xs i x (fault.incomplete_format value missing_field) bel
 fault_of_one f has_year xs i x why below h = absurd h
 
 -- an error in a suffix of the given zone is an error of the options
-pub suffix_fault : (Y : ℕ) (o : Options) (zone : Zone) (f : Fault) → IsZone Y (zone_of o) zone → IsSuffixFault o.to.now zone f → IsFault Y o f
-suffix_fault Y o zone fault.memory is h = h
-suffix_fault Y o zone (fault.unnamed value) is h = (h.0, (h.1, (zone, is, h.2)))
-suffix_fault Y o zone f is h = absurd h
+pub suffix_fault : (o : Options) (zone : Zone) (f : Fault) → IsZone (zone_of o) zone → IsSuffixFault o.to.now zone f → IsFault o f
+suffix_fault o zone fault.memory is h = h
+suffix_fault o zone (fault.unnamed value) is h = (h.0, (h.1, (zone, is, h.2)))
+suffix_fault o zone f is h = absurd h
 
 -- ---- The part of a line that is printed, and several writes to a log
 

@@ -1,11 +1,11 @@
--- The request of the options. `Y` is the greatest year.
+-- The request of the options.
 use Rattle.std.specs.Prelude.{◌≡◌, ℕ, ℤ, List, [], ◌∷◌, ◌++◌, codes, Bool, true, false, ◌&&◌, ◌||◌, not, if◌then◌else◌, ◌==◌, ◌⊎◌, MatchBool, Option, None, Some, is_some, IfSome, IsSomeAnd, Result, Ok, Err}
 use Rattle.std.specs.Borrow.{Bor}
 use Rattle.std.specs.List.{list_any}
 use Rattle.std.specs.Option.{option_map}
 use Rattle.std.specs.Str.{bytes_eq}
-use Rattle.restamp_place.specs.declared.cuts.Place.{Place}
-use Rattle.restamp_place.specs.declared.cuts.Place.TheVariants as place
+use Rattle.restamp_place.specs.declared.place.Place.{Place}
+use Rattle.restamp_place.specs.declared.place.Place.TheVariants as place
 use Rattle.restamp_place.specs.declared.fields.Fields.{Fields}
 use Rattle.restamp_place.specs.declared.fields.Fields.TheVariants.{Delimited, Blank, Quoted}
 use Rattle.restamp_formats.specs.MissingField.{format_missing_field, can_default}
@@ -56,13 +56,13 @@ pub data Where : Type 0 where
   between : List ℕ → List ℕ → Where
   after : List ℕ → Where
 
-abbrev pub seen_place : Option Place → Where
-seen_place None = anywhere
-seen_place (Some place.Whole) = whole
-seen_place (Some place.Front) = front
-seen_place (Some (place.Field fields n)) = field fields n
-seen_place (Some (place.Between begin close)) = between begin.now close.now
-seen_place (Some (place.After key)) = after key.now
+abbrev pub erased_place : Option Place → Where
+erased_place None = anywhere
+erased_place (Some place.Whole) = whole
+erased_place (Some place.Front) = front
+erased_place (Some (place.Field fields n)) = field fields n
+erased_place (Some (place.Between begin close)) = between begin.now close.now
+erased_place (Some (place.After key)) = after key.now
 
 -- how a line is split into fields
 abbrev pub fields_of : Options → Option Fields
@@ -145,14 +145,14 @@ IsFormatFault has_year names (fault.incomplete_format value missing_field) =
 IsFormatFault has_year names f = ⊥
 
 -- The default year, if there is one.
-abbrev pub IsYearGiven : ℕ → Option (List ℕ) → Option ℤ → Type 0
-IsYearGiven Y None year = year ≡ None
-IsYearGiven Y (Some text) year = IsSomeAnd year (λ y. IsYear Y text (Some y))
+abbrev pub IsYearGiven : Option (List ℕ) → Option ℤ → Type 0
+IsYearGiven None year = year ≡ None
+IsYearGiven (Some text) year = IsSomeAnd year (λ y. IsYear text (Some y))
 
 -- The default offset, UTC unless given.
-abbrev pub IsOffsetGiven : ℕ → Option (List ℕ) → UtcOffset → Type 0
-IsOffsetGiven Y None offset = IsUtc offset
-IsOffsetGiven Y (Some text) offset = IsOffsetText Y text (Some offset)
+abbrev pub IsOffsetGiven : Option (List ℕ) → UtcOffset → Type 0
+IsOffsetGiven None offset = IsUtc offset
+IsOffsetGiven (Some text) offset = IsOffsetText text (Some offset)
 
 -- The moment that an ambiguous local time means; none by default.
 abbrev pub IsFoldGiven : Option (List ℕ) → Fold → Type 0
@@ -164,16 +164,16 @@ abbrev pub reported_zone_name : List ℕ → List ℕ
 reported_zone_name name = if bytes_eq name (codes "local") then codes "the local zone" else name
 
 -- The default for an omitted offset: the zone of that name, or without a name the given offset.
-abbrev pub IsLocalGiven : ℕ → Options → Option (List ℕ) → Local → Type 0
-IsLocalGiven Y o None (local.Offset offset) = IsOffsetGiven Y (text_behind o.offset) offset
-IsLocalGiven Y o (Some name) (local.Zone named called fold) =
+abbrev pub IsLocalGiven : Options → Option (List ℕ) → Local → Type 0
+IsLocalGiven o None (local.Offset offset) = IsOffsetGiven (text_behind o.offset) offset
+IsLocalGiven o (Some name) (local.Zone named called fold) =
     IsZoneResult name (Ok named) × (called.now ≡ reported_zone_name name) × IsFoldGiven (text_behind o.fold) fold
-IsLocalGiven Y o name l = ⊥
+IsLocalGiven o name l = ⊥
 
 -- The defaults for an omitted year and an omitted offset.
-abbrev pub AreParts : ℕ → Options → OwnedDefaults → Type 0
-AreParts Y o given =
-    IsYearGiven Y (text_behind o.year) given.year × IsLocalGiven Y o (text_behind o.local) given.local
+abbrev pub AreParts : Options → OwnedDefaults → Type 0
+AreParts o given =
+    IsYearGiven (text_behind o.year) given.year × IsLocalGiven o (text_behind o.local) given.local
     × (given.latest ≡ None)
 
 -- A text of one of the formats may omit that part.
@@ -199,15 +199,15 @@ abbrev pub IsWriting : List ℕ → Writing → Type 0
 IsWriting name writing =
     MatchBool (is_zoned name) (writing ≡ Named Rfc3339) (MeansWriting name writing)
 
--- The suffix of timestamps in a zone by the format of that name.
+-- The text after each timestamp, for the output format of that name.
 abbrev pub IsSuffixBy : List ℕ → Zone → List ℕ → Type 0
 IsSuffixBy name zone bytes = MatchBool (is_zoned name) (IsSuffixOf zone bytes) (bytes ≡ [])
 
 -- How a moment is written.
-pub record IsStyle (Y : ℕ) (o : Options) (style : Style) : Type 0 where
+pub record IsStyle (o : Options) (style : Style) : Type 0 where
   pub writing : IsWriting o.to.now style.writing
   pub digits : digits_of o.digits.now ≡ Some style.digits
-  pub zone : IsZone Y (zone_of o) style.zone
+  pub zone : IsZone (zone_of o) style.zone
   pub suffix : IsSuffixBy o.to.now style.zone style.suffix.items
 
 -- A zone has no suffix, though the format needs one, or memory was short.
@@ -217,9 +217,9 @@ IsSuffixFault name zone (fault.unnamed value) = (value ≡ name) × (is_zoned na
 IsSuffixFault name zone f = ⊥
 
 -- The output format is RFC 9557, and the output zone has no suffix.
-abbrev pub IsUnnamed : ℕ → Options → Type 0
-IsUnnamed Y o =
-    (is_zoned o.to.now ≡ true) × ((zone : Zone) × IsZone Y (zone_of o) zone × HasNoSuffix zone)
+abbrev pub IsUnnamed : Options → Type 0
+IsUnnamed o =
+    (is_zoned o.to.now ≡ true) × ((zone : Zone) × IsZone (zone_of o) zone × HasNoSuffix zone)
 
 -- the moment of a text as a bound
 abbrev pub bound_of : List ℕ → Result OffsetDateTime TimeArgError
@@ -235,31 +235,31 @@ erased_bound (Err e) = Err (e.0.now, erased_time_error e.1)
 
 -- A bound is the moment of a text, if there is a text, or an error if the text is no moment. `now` is the clock's
 -- moment.
-abbrev pub IsBound : ℕ → Option UtcDateTime → Reading → List Reading → Defaults → Option (List ℕ)
+abbrev pub IsBound : Option UtcDateTime → Reading → List Reading → Defaults → Option (List ℕ)
     → Result (Option OffsetDateTime) (List ℕ × TimeArgError) → Type 0
-IsBound Y now first others defaults None result = result ≡ Ok None
-IsBound Y now first others defaults (Some text) result =
-    (moment : Result OffsetDateTime TimeArgError) × IsMomentText Y now first others text defaults moment
+IsBound now first others defaults None result = result ≡ Ok None
+IsBound now first others defaults (Some text) result =
+    (moment : Result OffsetDateTime TimeArgError) × IsMomentText now first others text defaults moment
     × (result ≡ bound_of text moment)
 
 -- A bound by the given defaults.
-abbrev pub IsBoundBy : ℕ → Option UtcDateTime → Reading → List Reading → OwnedDefaults → Option (List ℕ)
+abbrev pub IsBoundBy : Option UtcDateTime → Reading → List Reading → OwnedDefaults → Option (List ℕ)
     → Result (Option OffsetDateTime) (List ℕ × TimeArgError) → Type 0
-IsBoundBy Y now first others given text result =
-    (defaults : Defaults) × AreDefaultsOf given defaults × IsBound Y now first others defaults text result
+IsBoundBy now first others given text result =
+    (defaults : Defaults) × AreDefaultsOf given defaults × IsBound now first others defaults text result
 
 -- The defaults for what a timestamp omits: these parts, and the latest moment for a timestamp without a year.
-abbrev pub IsGiven : ℕ → Option UtcDateTime → Options → Reading → List Reading → OwnedDefaults → Type 0
-IsGiven Y now o first others given =
-    (parts : OwnedDefaults) × AreParts Y o parts × (given ≡ record parts { latest = given.latest })
-    × IsBoundBy Y now first others parts (text_behind o.latest) (Ok given.latest)
+abbrev pub IsGiven : Option UtcDateTime → Options → Reading → List Reading → OwnedDefaults → Type 0
+IsGiven now o first others given =
+    (parts : OwnedDefaults) × AreParts o parts × (given ≡ record parts { latest = given.latest })
+    × IsBoundBy now first others parts (text_behind o.latest) (Ok given.latest)
 
 -- The bounds of the moments of lines that are kept.
-abbrev pub AreBounds : ℕ → Option UtcDateTime → Options → Reading → List Reading → OwnedDefaults
+abbrev pub AreBounds : Option UtcDateTime → Options → Reading → List Reading → OwnedDefaults
     → Option OffsetDateTime × Option OffsetDateTime → Type 0
-AreBounds Y now o first others given bounds =
-    IsBoundBy Y now first others given (text_behind o.since) (Ok bounds.0)
-    × IsBoundBy Y now first others given (text_behind o.until) (Ok bounds.1)
+AreBounds now o first others given bounds =
+    IsBoundBy now first others given (text_behind o.since) (Ok bounds.0)
+    × IsBoundBy now first others given (text_behind o.until) (Ok bounds.1)
 
 -- Whether reports have colours, by whether they go to a terminal.
 abbrev pub AreColors : Options → Bool → Bool → Type 0
@@ -287,14 +287,14 @@ abbrev pub IsSuffix : Options → Option (List ℕ) → Type 0
 IsSuffix o suffix = (suffix ≡ text_behind o.in_place) × IfSome suffix (λ text. has_slash text ≡ false)
 
 -- The request of options, by the clock's moment, and by whether reports go to a terminal.
-pub record IsRequestOf (Y : ℕ) (now : Option UtcDateTime) (o : Options) (is_terminal : Bool)
+pub record IsRequestOf (now : Option UtcDateTime) (o : Options) (is_terminal : Bool)
     (r : Request) : Type 0 where
-  pub place : IsPlace o (seen_place r.place)
+  pub place : IsPlace o (erased_place r.place)
   pub formats : AreFormats o r.first r.others.items
   pub uses : AreUsed o r.first r.others.items
-  pub given : IsGiven Y now o r.first r.others.items r.given
-  pub style : IsStyle Y o r.style
-  pub bounds : AreBounds Y now o r.first r.others.items r.given (r.since, r.until)
+  pub given : IsGiven now o r.first r.others.items r.given
+  pub style : IsStyle o r.style
+  pub bounds : AreBounds now o r.first r.others.items r.given (r.since, r.until)
   pub output : r.output ≡ output_of o
   pub reports : AreReports o r.reports
   pub stops : r.stops ≡ stops o
@@ -303,48 +303,48 @@ pub record IsRequestOf (Y : ℕ) (now : Option UtcDateTime) (o : Options) (is_te
   pub in_place : IsSuffix o (text_behind r.in_place)
 
 -- A bound's text is no moment by the given formats and defaults, for that reason.
-abbrev pub IsNoBound : ℕ → Option UtcDateTime → Options → Option (List ℕ) → List ℕ → TimeArgError → Type 0
-IsNoBound Y now o text value why =
+abbrev pub IsNoBound : Option UtcDateTime → Options → Option (List ℕ) → List ℕ → TimeArgError → Type 0
+IsNoBound now o text value why =
     (first : Reading) × (others : List Reading) × (given : OwnedDefaults)
-    × AreFormats o first others × IsGiven Y now o first others given
-    × IsBoundBy Y now first others given text (Err (value, why))
+    × AreFormats o first others × IsGiven now o first others given
+    × IsBoundBy now first others given text (Err (value, why))
 
 -- The text of the latest moment is no moment, by the other defaults alone.
-abbrev pub IsNoLatest : ℕ → Option UtcDateTime → Options → List ℕ → TimeArgError → Type 0
-IsNoLatest Y now o value why =
+abbrev pub IsNoLatest : Option UtcDateTime → Options → List ℕ → TimeArgError → Type 0
+IsNoLatest now o value why =
     (first : Reading) × (others : List Reading) × (parts : OwnedDefaults)
-    × AreFormats o first others × AreParts Y o parts
-    × IsBoundBy Y now first others parts (text_behind o.latest) (Err (value, why))
+    × AreFormats o first others × AreParts o parts
+    × IsBoundBy now first others parts (text_behind o.latest) (Err (value, why))
 
 -- An option rejects its value at any time, or memory was short.
-abbrev pub IsFault : ℕ → Options → Fault → Type 0
-IsFault Y o fault.memory = Unit {0}
-IsFault Y o (fault.field value) = (text_behind o.field ≡ Some value) × IsPositive value None
-IsFault Y o (fault.delimiter value) = (value ≡ o.delimiter.now) × (delimiter_of value ≡ None)
-IsFault Y o (fault.to value why) =
+abbrev pub IsFault : Options → Fault → Type 0
+IsFault o fault.memory = Unit {0}
+IsFault o (fault.field value) = (text_behind o.field ≡ Some value) × IsPositive value None
+IsFault o (fault.delimiter value) = (value ≡ o.delimiter.now) × (delimiter_of value ≡ None)
+IsFault o (fault.to value why) =
     (value ≡ o.to.now) × (is_zoned value ≡ false) × naming.IsWritingFault value why
-IsFault Y o (fault.unnamed value) = (value ≡ o.to.now) × IsUnnamed Y o
-IsFault Y o (fault.year value) = (text_behind o.year ≡ Some value) × IsYear Y value None
-IsFault Y o (fault.offset value) = (text_behind o.offset ≡ Some value) × IsOffsetText Y value None
-IsFault Y o (fault.local value why) = (text_behind o.local ≡ Some value) × IsZoneResult value (Err why)
-IsFault Y o (fault.fold value) = (text_behind o.fold ≡ Some value) × (fold_of value ≡ None)
-IsFault Y o (fault.unused_year value) = (text_behind o.year ≡ Some value) × HasNoUse o part.Year
-IsFault Y o (fault.unused_latest value) = (text_behind o.latest ≡ Some value) × HasNoUse o part.Year
-IsFault Y o (fault.unused_offset value) = (text_behind o.offset ≡ Some value) × HasNoUse o part.Offset
-IsFault Y o (fault.unused_local value) = (text_behind o.local ≡ Some value) × HasNoUse o part.Offset
-IsFault Y o (fault.zone value why) = (value ≡ zone_of o) × IsNoZone Y value why
-IsFault Y o (fault.digits value) = (value ≡ o.digits.now) × (digits_of value ≡ None)
-IsFault Y o (fault.errors value) = (value ≡ o.errors.now) × IsNumber value None
-IsFault Y o (fault.color value) = (value ≡ o.color.now) × ((is_terminal : Bool) → shows_of value is_terminal ≡ None)
-IsFault Y o (fault.in_place value) = (text_behind o.in_place ≡ Some value) × (has_slash value ≡ true)
-IsFault Y o f = IsFormatFault (has_default_year o) (o.from.now ∷ other_names o) f
+IsFault o (fault.unnamed value) = (value ≡ o.to.now) × IsUnnamed o
+IsFault o (fault.year value) = (text_behind o.year ≡ Some value) × IsYear value None
+IsFault o (fault.offset value) = (text_behind o.offset ≡ Some value) × IsOffsetText value None
+IsFault o (fault.local value why) = (text_behind o.local ≡ Some value) × IsZoneResult value (Err why)
+IsFault o (fault.fold value) = (text_behind o.fold ≡ Some value) × (fold_of value ≡ None)
+IsFault o (fault.unused_year value) = (text_behind o.year ≡ Some value) × HasNoUse o part.Year
+IsFault o (fault.unused_latest value) = (text_behind o.latest ≡ Some value) × HasNoUse o part.Year
+IsFault o (fault.unused_offset value) = (text_behind o.offset ≡ Some value) × HasNoUse o part.Offset
+IsFault o (fault.unused_local value) = (text_behind o.local ≡ Some value) × HasNoUse o part.Offset
+IsFault o (fault.zone value why) = (value ≡ zone_of o) × IsNoZone value why
+IsFault o (fault.digits value) = (value ≡ o.digits.now) × (digits_of value ≡ None)
+IsFault o (fault.errors value) = (value ≡ o.errors.now) × IsNumber value None
+IsFault o (fault.color value) = (value ≡ o.color.now) × ((is_terminal : Bool) → shows_of value is_terminal ≡ None)
+IsFault o (fault.in_place value) = (text_behind o.in_place ≡ Some value) × (has_slash value ≡ true)
+IsFault o f = IsFormatFault (has_default_year o) (o.from.now ∷ other_names o) f
 
 -- An option rejects its value by the clock's moment, or memory was short.
-abbrev pub IsFaultAt : ℕ → Option UtcDateTime → Options → Fault → Type 0
-IsFaultAt Y now o (fault.latest value why) = IsNoLatest Y now o value why
-IsFaultAt Y now o (fault.since value why) = IsNoBound Y now o (text_behind o.since) value why
-IsFaultAt Y now o (fault.until value why) = IsNoBound Y now o (text_behind o.until) value why
-IsFaultAt Y now o f = IsFault Y o f
+abbrev pub IsFaultAt : Option UtcDateTime → Options → Fault → Type 0
+IsFaultAt now o (fault.latest value why) = IsNoLatest now o value why
+IsFaultAt now o (fault.since value why) = IsNoBound now o (text_behind o.since) value why
+IsFaultAt now o (fault.until value why) = IsNoBound now o (text_behind o.until) value why
+IsFaultAt now o f = IsFault o f
 
 -- The settings of a request for the lines of files.
 pub record AreSettingsOf (r : Request) (s : Settings) : Type 0 where

@@ -1,4 +1,5 @@
--- The meaning of option values. `Y` is the greatest year.
+-- The meaning of option values.
+use Rattle.time_values.specs.Calendar.{greatest_year}
 use Rattle.std.specs.Prelude.{◌≡◌, ℕ, ◌-◌, ℤ, pos, ◌+ℤ◌, ◌-ℤ◌, ◌*ℤ◌, IsTrue, ◌||◌, ◌==◌, Bool, MatchBool, List, [], codes, length, take, drop, slice_index, slice_get, if◌then◌else◌, Option, None, Some, MatchOption, SomeIff, Result, Ok, Err, MatchResult, FitsSigned, ◌^◌, ◌<◌, nat_le, unsigned_abs, false, true, ◌∷◌}
 use Rattle.std.specs.Int.{w64, int_div_euclid, w32}
 use Rattle.std.specs.Option.{option_and_then}
@@ -6,7 +7,7 @@ use Rattle.std.specs.Str.{bytes_eq}
 use Rattle.std.specs.Str.Parse.{IsNumeral, signed_digits_value, without_leading_sign, digits_value, without_leading_plus}
 use Rattle.std.specs.Char.{is_ascii_digit}
 use Rattle.std.specs.Result.{result_ok}
-use Rattle.time_values.specs.Moments.{shown_at, offset_instant, offset_of, utc_instant}
+use Rattle.time_values.specs.Moments.{local_time_at, offset_instant, offset_of, utc_instant}
 use Rattle.time_values.specs.Instants.{IsInstant, nanos_per_day}
 use Rattle.time_values.specs.Offsets.{IsUtc, offset_seconds}
 use Rattle.time_values.specs.declared.offset_date_time.OffsetDateTime.{OffsetDateTime}
@@ -43,7 +44,7 @@ use Rattle.restamp_command.specs.declared.bounds.Word.{Word}
 use Rattle.restamp_command.specs.declared.bounds.Word.TheVariants as word
 use Rattle.restamp_command.specs.declared.fault.TimeArgError as declared
 
--- ---- Texts that name a moment by the clock. `Y` is the greatest year.
+-- ---- Texts that name a moment by the clock.
 
 -- the unit of a letter: `s`, `m`, `h`, `d` or `w`
 abbrev pub unit_of : ℕ → Option Unit
@@ -90,7 +91,7 @@ IsWord text result =
 
 -- the day at a moment in local time at an offset, counted from 1970-01-01
 abbrev pub local_day : ℤ → UtcOffset → ℤ
-local_day now offset = int_div_euclid (shown_at now offset) (pos nanos_per_day)
+local_day now offset = int_div_euclid (local_time_at now offset) (pos nanos_per_day)
 
 -- the nanoseconds since 1970 of a word's moment, by those of the clock: a number of units later; or midnight at that
 -- offset, on the clock's day or on one before
@@ -100,9 +101,9 @@ nanos_of now offset (word.Day back) =
     (local_day now offset -ℤ pos back) *ℤ pos nanos_per_day -ℤ offset_seconds offset *ℤ pos 1_000_000_000
 
 -- The moment of that many nanoseconds since 1970, in UTC, or an error if it has no date there.
-abbrev pub IsMomentAt : ℕ → ℤ → Result OffsetDateTime TimeArgError → Type 0
-IsMomentAt Y n (Ok v) = (offset_instant Y v ≡ n) × IsUtc (offset_of v)
-IsMomentAt Y n (Err why) = (why ≡ out_of_range) × ¬ IsInstant Y n
+abbrev pub IsMomentAt : ℤ → Result OffsetDateTime TimeArgError → Type 0
+IsMomentAt n (Ok v) = (offset_instant greatest_year v ≡ n) × IsUtc (offset_of v)
+IsMomentAt n (Err why) = (why ≡ out_of_range) × ¬ IsInstant greatest_year n
 
 -- Days start at that offset, or at UTC without one.
 abbrev pub IsDayOffset : Option UtcOffset → UtcOffset → Type 0
@@ -113,7 +114,7 @@ abbrev pub first_of : Result OffsetDateTime NotOne → Result OffsetDateTime Tim
 first_of (Ok v) = Ok v
 first_of (Err (not_one.Fold earlier later)) = Ok earlier
 first_of (Err not_one.Gap) = Err (unread nonexistent)
-first_of (Err not_one.Untold) = Err (unread outside_zone_range)
+first_of (Err not_one.OutsideZoneRange) = Err (unread outside_zone_range)
 
 -- The earliest moment with the local date and time of a moment in the zone.
 abbrev pub IsEarliestWithLocal : Clocks → OffsetDateTime → Result OffsetDateTime TimeArgError → Type 0
@@ -122,27 +123,28 @@ IsEarliestWithLocal clocks v result =
 
 -- The start of the zone's day at a moment, or of a day before: the earliest moment with the local time of its
 -- midnight.
-abbrev pub IsStartOfDayIn : ℕ → Clocks → UtcDateTime → ℕ → Result OffsetDateTime TimeArgError → Type 0
-IsStartOfDayIn Y clocks now back result =
-    (v : OffsetDateTime) × (offset_instant Y v ≡ utc_instant Y now)
-    × (shown : Option OffsetDateTime) × IsConverted Y (on.Zone clocks.zone) v shown
+abbrev pub IsStartOfDayIn : Clocks → UtcDateTime → ℕ → Result OffsetDateTime TimeArgError → Type 0
+IsStartOfDayIn clocks now back result =
+    (v : OffsetDateTime) × (offset_instant greatest_year v ≡ utc_instant greatest_year now)
+    × (shown : Option OffsetDateTime) × IsConverted (on.Zone clocks.zone) v shown
     × MatchOption shown (result ≡ Err (unread outside_zone_range))
     (λ s. (midnight : Result OffsetDateTime TimeArgError)
-    × IsMomentAt Y ((local_day (utc_instant Y now) (offset_of s) -ℤ pos back) *ℤ pos nanos_per_day) midnight
+    × IsMomentAt ((local_day (utc_instant greatest_year now) (offset_of s) -ℤ pos back) *ℤ pos nanos_per_day) midnight
     × MatchResult midnight (λ m. IsEarliestWithLocal clocks m result) (λ why. result ≡ Err why))
 
 -- the moment of a word, with days that start at an offset
-abbrev pub IsNamedAt : ℕ → UtcDateTime → Option UtcOffset → Word → Result OffsetDateTime TimeArgError → Type 0
-IsNamedAt Y now given w result =
-    (offset : UtcOffset) × IsDayOffset given offset × IsMomentAt Y (nanos_of (utc_instant Y now) offset w) result
+abbrev pub IsNamedAt : UtcDateTime → Option UtcOffset → Word → Result OffsetDateTime TimeArgError → Type 0
+IsNamedAt now given w result =
+    (offset : UtcOffset) × IsDayOffset given offset
+    × IsMomentAt (nanos_of (utc_instant greatest_year now) offset w) result
 
 -- The moment of a word by the clock. Days start in the default zone, or at the default offset.
-abbrev pub IsMomentFrom : ℕ → UtcDateTime → Defaults → Word → Result OffsetDateTime TimeArgError → Type 0
-IsMomentFrom Y now defaults (word.Later number u) result =
-    IsNamedAt Y now defaults.offset (word.Later number u) result
-IsMomentFrom Y now defaults (word.Day back) result =
-    MatchOption defaults.clocks (IsNamedAt Y now defaults.offset (word.Day back) result)
-    (λ clocks. IsStartOfDayIn Y clocks now back result)
+abbrev pub IsMomentFrom : UtcDateTime → Defaults → Word → Result OffsetDateTime TimeArgError → Type 0
+IsMomentFrom now defaults (word.Later number u) result =
+    IsNamedAt now defaults.offset (word.Later number u) result
+IsMomentFrom now defaults (word.Day back) result =
+    MatchOption defaults.clocks (IsNamedAt now defaults.offset (word.Day back) result)
+    (λ clocks. IsStartOfDayIn clocks now back result)
 
 -- The number of 64 bits that a text has in decimal digits, with or without a plus, or none.
 abbrev pub IsNumber : List ℕ → Option ℕ → Type 0
@@ -204,36 +206,36 @@ abbrev pub offset_tree : Tree
 offset_tree = sequence (trees offset_parts)
 
 -- The offset of a text, or none.
-abbrev pub IsOffsetText : ℕ → List ℕ → Option UtcOffset → Type 0
-IsOffsetText Y text result =
+abbrev pub IsOffsetText : List ℕ → Option UtcOffset → Type 0
+IsOffsetText text result =
     (outcome : Result UtcOffset Refusal)
-    × IsOutcome IsOffset (Reads Y offset_tree) (Refuses Y offset_tree) text empty outcome
+    × IsOutcome IsOffset (Reads greatest_year offset_tree) (Refuses greatest_year offset_tree) text empty outcome
     × (result ≡ result_ok outcome)
 
 -- The year of a text in decimal digits, with or without a sign, or none.
-abbrev pub IsYear : ℕ → List ℕ → Option ℤ → Type 0
-IsYear Y text result =
+abbrev pub IsYear : List ℕ → Option ℤ → Type 0
+IsYear text result =
     (number : Option ℤ) × IsSigned text number
-    × (result ≡ option_and_then (λ n. if nat_le (unsigned_abs n) Y then Some n else None) number)
+    × (result ≡ option_and_then (λ n. if nat_le (unsigned_abs n) greatest_year then Some n else None) number)
 
 -- The moment of a word by the clock, for a text that no format matches; an error with that reason for any other word,
 -- or an error if the clock is out of range.
-abbrev pub IsNamedMoment : ℕ → Option UtcDateTime → Defaults → List ℕ → Reason
+abbrev pub IsNamedMoment : Option UtcDateTime → Defaults → List ℕ → Reason
     → Result OffsetDateTime TimeArgError → Type 0
-IsNamedMoment Y now defaults text reason result =
+IsNamedMoment now defaults text reason result =
     (word : Option Word) × IsWord text word
     × MatchOption word (result ≡ Err (unread reason))
-    (λ w. MatchOption now (result ≡ Err no_clock) (λ u. IsMomentFrom Y u defaults w result))
+    (λ w. MatchOption now (result ≡ Err no_clock) (λ u. IsMomentFrom u defaults w result))
 
 -- The moment of a text by RFC 3339, or else by the first of the formats that matches, or else as a word by the clock.
 -- The error is that of RFC 3339.
-abbrev pub IsMomentText : ℕ → Option UtcDateTime → Reading → List Reading → List ℕ → Defaults
+abbrev pub IsMomentText : Option UtcDateTime → Reading → List Reading → List ℕ → Defaults
     → Result OffsetDateTime TimeArgError → Type 0
-IsMomentText Y now first others text defaults result =
-    (plain : Result Match Reason) × ParsesAs Y Rfc3339 false text defaults plain
+IsMomentText now first others text defaults result =
+    (plain : Result Match Reason) × ParsesAs Rfc3339 false text defaults plain
     × MatchResult plain (λ said. result ≡ Ok said.moment)
-    (λ reason. (said : Result Match Reason) × IsReadInTurn Y first others false text defaults said
-    × MatchResult said (λ s. result ≡ Ok s.moment) (λ _. IsNamedMoment Y now defaults text reason result))
+    (λ reason. (said : Result Match Reason) × IsReadInTurn first others false text defaults said
+    × MatchResult said (λ s. result ≡ Ok s.moment) (λ _. IsNamedMoment now defaults text reason result))
 
 -- a result, with an error without the addresses of its texts
 abbrev pub erased_moment : Result OffsetDateTime declared.TimeArgError → Result OffsetDateTime TimeArgError

@@ -1,4 +1,4 @@
--- The zones that options name. `Y` is the greatest year.
+-- The zones that options name.
 use Rattle.std.specs.Prelude.{◌≡◌, ◌≢◌, ◌↔◌, ℕ, List, codes, false, MatchBool, Option, None, Some, MatchOption, option_map, Result, Ok, Err}
 use Rattle.std.specs.Str.{bytes_eq}
 use Rattle.time_values.specs.Offsets.{IsUtc}
@@ -38,18 +38,18 @@ IsUtcZone (kind.Fixed offset) = IsUtc offset
 IsUtcZone zone = ⊥
 
 -- The zone of a text: `keep`, `utc`, an offset, or a name.
-abbrev pub IsZone : ℕ → List ℕ → Zone → Type 0
-IsZone Y text zone =
+abbrev pub IsZone : List ℕ → Zone → Type 0
+IsZone text zone =
     MatchBool (bytes_eq text (codes "keep")) (zone ≡ kind.Keep)
     (MatchBool (bytes_eq text (codes "utc")) (IsUtcZone zone)
-    ((offset : Option UtcOffset) × IsOffsetText Y text offset
+    ((offset : Option UtcOffset) × IsOffsetText text offset
     × MatchOption offset (IsNamedBy text zone) (λ o. zone ≡ kind.Fixed o)))
 
 -- A text is not `keep`, `utc` or an offset, and no zone has that name.
-abbrev pub IsNoZone : ℕ → List ℕ → ZoneFault → Type 0
-IsNoZone Y text why =
+abbrev pub IsNoZone : List ℕ → ZoneFault → Type 0
+IsNoZone text why =
     (bytes_eq text (codes "keep") ≡ false) × (bytes_eq text (codes "utc") ≡ false)
-    × IsOffsetText Y text None × IsZoneResult text (Err why)
+    × IsOffsetText text None × IsZoneResult text (Err why)
 
 -- the zone in a suffix, by its name or its offset
 abbrev pub suffix_zone : Zone → Option Suffix.Zone

@@ -171,7 +171,7 @@ fn nanos_of(word: Word, now: UtcDateTime, offset: UtcOffset) -> i128
 
 // The moment of that many nanoseconds since 1970, in UTC.
 fn moment_at(nanos: i128) -> Result<OffsetDateTime, TimeArgError>
-    ensures { words.IsMomentAt greatest_year nanos (words.erased_moment result) }
+    ensures { words.IsMomentAt nanos (words.erased_moment result) }
 {
     match OffsetDateTime::from_unix_timestamp_nanos(nanos) {
         Ok(moment) => Ok(moment),
@@ -193,13 +193,13 @@ fn earliest_with_local(
         Ok(found) => Ok(found),
         Err(NotOne::Fold { earlier, .. }) => Ok(earlier),
         Err(NotOne::Gap) => Err(TimeArgError::Unread(Reason::Nonexistent)),
-        Err(NotOne::Untold) => Err(TimeArgError::Unread(Reason::OutsideZoneRange)),
+        Err(NotOne::OutsideZoneRange) => Err(TimeArgError::Unread(Reason::OutsideZoneRange)),
     }
 }
 
 // The moment in local time of the zone.
 fn converted_in(moment: OffsetDateTime, clocks: &Clocks<'_>) -> Option<OffsetDateTime>
-    ensures { IsConverted greatest_year (on.Zone clocks.now.zone) moment result }
+    ensures { IsConverted (on.Zone clocks.now.zone) moment result }
 {
     checked_to_zone(moment, &clocks.zone)
 }
@@ -210,7 +210,7 @@ fn start_of_day_in(
     now: UtcDateTime,
     back: u8,
 ) -> Result<OffsetDateTime, TimeArgError>
-    ensures { words.IsStartOfDayIn greatest_year clocks.now now back (words.erased_moment result) }
+    ensures { words.IsStartOfDayIn clocks.now now back (words.erased_moment result) }
 {
     let Some(shown) = converted_in(OffsetDateTime::from(now), clocks) else {
         return Err(TimeArgError::Unread(Reason::OutsideZoneRange));
@@ -232,7 +232,7 @@ fn named_at(
     now: UtcDateTime,
     offset: Option<UtcOffset>,
 ) -> Result<OffsetDateTime, TimeArgError>
-    ensures { words.IsNamedAt greatest_year now offset word (words.erased_moment result) }
+    ensures { words.IsNamedAt now offset word (words.erased_moment result) }
 {
     moment_at(nanos_of(word, now, day_offset(offset)))
 }
@@ -243,7 +243,7 @@ fn moment_from(
     now: UtcDateTime,
     defaults: &Defaults<'_>,
 ) -> Result<OffsetDateTime, TimeArgError>
-    ensures { words.IsMomentFrom greatest_year now defaults.now word (words.erased_moment result) }
+    ensures { words.IsMomentFrom now defaults.now word (words.erased_moment result) }
 {
     match word {
         Word::Later(..) => named_at(word, now, defaults.offset),
@@ -261,7 +261,7 @@ fn find_named(
     defaults: &Defaults<'_>,
     reason: Reason,
 ) -> Result<OffsetDateTime, TimeArgError>
-    ensures { words.IsNamedMoment greatest_year now defaults.now text.now (seen reason) (words.erased_moment result) }
+    ensures { words.IsNamedMoment now defaults.now text.now (seen reason) (words.erased_moment result) }
 {
     let word = find_word(text).ok_or(TimeArgError::Unread(reason))?;
     moment_from(word, now.ok_or(TimeArgError::NoClock)?, defaults)
@@ -276,7 +276,7 @@ pub fn find_moment(
     text: &str,
     defaults: &Defaults<'_>,
 ) -> Result<OffsetDateTime, TimeArgError>
-    ensures { words.IsMomentText greatest_year now first.now others.now text.now defaults.now (words.erased_moment result) }
+    ensures { words.IsMomentText now first.now others.now text.now defaults.now (words.erased_moment result) }
 {
     let reason = match read(&Reading::Rfc3339, false, text.as_bytes(), defaults) {
         Ok(matched) => return Ok(matched.moment),

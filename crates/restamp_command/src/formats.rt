@@ -1,6 +1,5 @@
 //! The formats that the options request.
 ghost use Rattle.std.specs.Prelude.{◌≡◌, [], ◌∷◌, IfErr, MatchResult, OnOk, map};
-ghost use Rattle.time_values.specs.Calendar.{greatest_year};
 ghost use Rattle.restamp_command.specs.Options as options_;
 ghost use Rattle.restamp_command.specs.Fault.{erased_fault};
 ghost use Rattle.restamp_command.specs.Request as spec;
@@ -61,7 +60,7 @@ pub(crate) fn find_first<'a, R: Env + Files + AllocGlobal + Clone + Drop>(
     options: &Options<'_, 'a>,
 ) -> Result<Reading, Fault<'a>>
     ensures { MatchResult result (λ first. spec.IsFormat (spec.has_default_year options.now) options.now.from.now first)
-        (λ fault. spec.IsFault greatest_year options.now (erased_fault fault)) }
+        (λ fault. spec.IsFault options.now (erased_fault fault)) }
 {
     find_format(rt, options.from, has_default_year(options))
 }

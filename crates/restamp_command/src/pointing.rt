@@ -38,8 +38,8 @@ fn write_escaped<L: Sink>(bytes: &[u8], log: &mut L) -> Result<(), Unwritten>
 }
 
 // Writes what was expected.
-fn write_wanted<L: Sink>(expected: Expected<'_>, log: &mut L) -> Result<(), Unwritten>
-    ensures written { OnOk result (Appends (L.contents log.old) (L.contents log.new) (spec.wanted_text (wants expected.entry))) }
+fn write_expectation<L: Sink>(expected: Expected<'_>, log: &mut L) -> Result<(), Unwritten>
+    ensures written { OnOk result (Appends (L.contents log.old) (L.contents log.new) (spec.expectation_text (wants expected.entry))) }
     ensures cause { HasCause result (L.faults log.old) (L.faults log.new) }
 {
     match expected {
@@ -63,11 +63,11 @@ pub fn write_expected<L: Sink>(expected: Option<Expected<'_>>, log: &mut L) -> R
         return Ok(());
     };
     log.write_all(b": expected ")?;
-    write_wanted(expected, log)
+    write_expectation(expected, log)
 }
 
 /// How many bytes of a line are printed.
-const SHOWN: usize = 60;
+const PRINTED: usize = 60;
 
 /// How many of them may come before the error's column.
 const BEFORE: usize = 40;
@@ -75,8 +75,8 @@ const BEFORE: usize = 40;
 const BLANKS: [u8; BEFORE] = [b' '; BEFORE];
 
 // A byte, or a dot for one that doesn't print.
-fn shown_byte(byte: u8) -> u8
-    ensures { result ≡ spec.shown_byte byte }
+fn printable_byte(byte: u8) -> u8
+    ensures { result ≡ spec.printable_byte byte }
 {
     if b' ' <= byte && byte <= b'~' {
         byte
@@ -86,15 +86,15 @@ fn shown_byte(byte: u8) -> u8
 }
 
 // Writes the bytes, with dots for those that don't print.
-fn write_shown<L: Sink>(bytes: &[u8], log: &mut L) -> Result<(), Unwritten>
-    ensures written { OnOk result (Appends (L.contents log.old) (L.contents log.new) (map spec.shown_byte bytes.now)) }
+fn write_printable<L: Sink>(bytes: &[u8], log: &mut L) -> Result<(), Unwritten>
+    ensures written { OnOk result (Appends (L.contents log.old) (L.contents log.new) (map spec.printable_byte bytes.now)) }
     ensures cause { HasCause result (L.faults log.old) (L.faults log.new) }
 {
     let [byte, rest @ ..] = bytes else {
         return Ok(());
     };
-    log.write_all(&[shown_byte(*byte)])?;
-    write_shown(rest, log)
+    log.write_all(&[printable_byte(*byte)])?;
+    write_printable(rest, log)
 }
 
 // Writes n spaces, at most 40.
@@ -111,7 +111,7 @@ fn bytes_around(line: &[u8], column: usize) -> &[u8]
 {
     let left_out = column.saturating_sub(BEFORE + 1);
     let rest = &line[left_out.min(line.len())..];
-    &rest[..SHOWN.min(rest.len())]
+    &rest[..PRINTED.min(rest.len())]
 }
 
 /// Writes an LF, the bytes of a line around a column, from 1, another LF, and a red caret under that column.
@@ -120,7 +120,7 @@ pub fn write_pointer<L: Sink>(line: &[u8], column: usize, log: &mut L) -> Result
     ensures cause { HasCause result (L.faults log.old) (L.faults log.new) }
 {
     log.write_all(b"\n")?;
-    write_shown(bytes_around(line, column), log)?;
+    write_printable(bytes_around(line, column), log)?;
     log.write_all(b"\n")?;
     write_blanks(column.saturating_sub(1), log)?;
     log.write_all(b"\x1b[31m^\x1b[0m")

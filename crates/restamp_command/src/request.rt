@@ -1,6 +1,5 @@
 //! The request of the options.
 ghost use Rattle.std.specs.Prelude.{◌≡◌, MatchResult, Some};
-ghost use Rattle.time_values.specs.Calendar.{greatest_year};
 ghost use Rattle.restamp_command.specs.Options.{text_behind};
 ghost use Rattle.restamp_command.specs.Fault.{erased_fault};
 ghost use Rattle.restamp_command.specs.Request as spec;
@@ -57,7 +56,7 @@ pub struct Request<'a> {
 // How a line is split into fields.
 fn find_fields<'a>(options: &Options<'_, 'a>) -> Result<Fields, Fault<'a>>
     ensures { MatchResult result (λ fields. spec.fields_of options.now ≡ Some fields)
-        (λ fault. spec.IsFault greatest_year options.now (erased_fault fault)) }
+        (λ fault. spec.IsFault options.now (erased_fault fault)) }
 {
     if options.blanks {
         return Ok(Fields::Blank);
@@ -72,8 +71,8 @@ fn find_fields<'a>(options: &Options<'_, 'a>) -> Result<Fields, Fault<'a>>
 
 // The place of the field of that number.
 fn find_field<'a>(options: &Options<'_, 'a>, number: &'a str) -> Result<Place<'a>, Fault<'a>>
-    ensures { MatchResult result (λ place. spec.IsFieldPlace options.now (Some number.now) (spec.seen_place (Some place)))
-        (λ fault. text_behind options.now.field ≡ Some number.now → spec.IsFault greatest_year options.now (erased_fault fault)) }
+    ensures { MatchResult result (λ place. spec.IsFieldPlace options.now (Some number.now) (spec.erased_place (Some place)))
+        (λ fault. text_behind options.now.field ≡ Some number.now → spec.IsFault options.now (erased_fault fault)) }
 {
     let fields = find_fields(options)?;
     let index = find_positive(number).ok_or(Fault::Field(number))?;
@@ -82,8 +81,8 @@ fn find_field<'a>(options: &Options<'_, 'a>, number: &'a str) -> Result<Place<'a
 
 // The place of a line's timestamp.
 fn find_place<'a>(options: &Options<'_, 'a>) -> Result<Option<Place<'a>>, Fault<'a>>
-    ensures { MatchResult result (λ place. spec.IsPlace options.now (spec.seen_place place))
-        (λ fault. spec.IsFault greatest_year options.now (erased_fault fault)) }
+    ensures { MatchResult result (λ place. spec.IsPlace options.now (spec.erased_place place))
+        (λ fault. spec.IsFault options.now (erased_fault fault)) }
 {
     if options.front {
         return Ok(Some(Place::Front));
@@ -105,8 +104,8 @@ fn find_place<'a>(options: &Options<'_, 'a>) -> Result<Option<Place<'a>>, Fault<
 
 // The default year, if there is one.
 fn find_given_year<'a>(options: &Options<'_, 'a>) -> Result<Option<i32>, Fault<'a>>
-    ensures { MatchResult result (λ year. spec.IsYearGiven greatest_year (text_behind options.now.year) year)
-        (λ fault. spec.IsFault greatest_year options.now (erased_fault fault)) }
+    ensures { MatchResult result (λ year. spec.IsYearGiven (text_behind options.now.year) year)
+        (λ fault. spec.IsFault options.now (erased_fault fault)) }
 {
     let Some(text) = options.year else {
         return Ok(None);
@@ -116,8 +115,8 @@ fn find_given_year<'a>(options: &Options<'_, 'a>) -> Result<Option<i32>, Fault<'
 
 // The default offset, UTC unless given.
 fn find_given_offset<'a>(options: &Options<'_, 'a>) -> Result<UtcOffset, Fault<'a>>
-    ensures { MatchResult result (λ offset. spec.IsOffsetGiven greatest_year (text_behind options.now.offset) offset)
-        (λ fault. spec.IsFault greatest_year options.now (erased_fault fault)) }
+    ensures { MatchResult result (λ offset. spec.IsOffsetGiven (text_behind options.now.offset) offset)
+        (λ fault. spec.IsFault options.now (erased_fault fault)) }
 {
     let Some(text) = options.offset else {
         return Ok(UtcOffset::UTC);
@@ -128,7 +127,7 @@ fn find_given_offset<'a>(options: &Options<'_, 'a>) -> Result<UtcOffset, Fault<'
 // The moment that an ambiguous local time means; none by default.
 fn find_given_fold<'a>(options: &Options<'_, 'a>) -> Result<Fold, Fault<'a>>
     ensures { MatchResult result (λ fold. spec.IsFoldGiven (text_behind options.now.fold) fold)
-        (λ fault. spec.IsFault greatest_year options.now (erased_fault fault)) }
+        (λ fault. spec.IsFault options.now (erased_fault fault)) }
 {
     let Some(text) = options.fold else {
         return Ok(Fold::Refuse);
@@ -152,8 +151,8 @@ fn find_local<'a, R: Env + Files + AllocGlobal>(
     rt: &R,
     options: &Options<'_, 'a>,
 ) -> Result<Local<'a>, Fault<'a>>
-    ensures { MatchResult result (λ local. spec.IsLocalGiven greatest_year options.now (text_behind options.now.local) local)
-        (λ fault. spec.IsFault greatest_year options.now (erased_fault fault)) }
+    ensures { MatchResult result (λ local. spec.IsLocalGiven options.now (text_behind options.now.local) local)
+        (λ fault. spec.IsFault options.now (erased_fault fault)) }
 {
     let Some(name) = options.local else {
         return Ok(Local::Offset(find_given_offset(options)?));
@@ -170,8 +169,8 @@ fn find_parts<'a, R: Env + Files + AllocGlobal>(
     rt: &R,
     options: &Options<'_, 'a>,
 ) -> Result<OwnedDefaults<'a>, Fault<'a>>
-    ensures { MatchResult result (λ parts. spec.AreParts greatest_year options.now parts)
-        (λ fault. spec.IsFault greatest_year options.now (erased_fault fault)) }
+    ensures { MatchResult result (λ parts. spec.AreParts options.now parts)
+        (λ fault. spec.IsFault options.now (erased_fault fault)) }
 {
     let year = find_given_year(options)?;
     let local = find_local(rt, options)?;
@@ -190,7 +189,7 @@ fn find_bound<'a>(
     defaults: &Defaults<'_>,
     text: Option<&'a str>,
 ) -> Result<Option<OffsetDateTime>, (&'a str, TimeArgError)>
-    ensures { spec.IsBound greatest_year now first.now others.now defaults.now (text_behind text.entry) (spec.erased_bound result) }
+    ensures { spec.IsBound now first.now others.now defaults.now (text_behind text.entry) (spec.erased_bound result) }
 {
     let Some(text) = text else {
         return Ok(None);
@@ -209,8 +208,8 @@ fn find_given<'a, R: Env + Files + AllocGlobal>(
     others: &[Reading],
 ) -> Result<OwnedDefaults<'a>, Fault<'a>>
     requires { spec.AreFormats options.now first.now others.now }
-    ensures { MatchResult result (λ given. spec.IsGiven greatest_year now options.now first.now others.now given)
-        (λ fault. spec.IsFaultAt greatest_year now options.now (erased_fault fault)) }
+    ensures { MatchResult result (λ given. spec.IsGiven now options.now first.now others.now given)
+        (λ fault. spec.IsFaultAt now options.now (erased_fault fault)) }
 {
     let parts = find_parts(rt, options)?;
     let latest = find_bound(now, first, others, &parts.defaults(), options.latest).map_err(|(
@@ -243,7 +242,7 @@ fn stops(options: &Options<'_, '_>) -> bool
 // Which rejected lines are reported.
 fn find_reports<'a>(options: &Options<'_, 'a>) -> Result<Reports, Fault<'a>>
     ensures { MatchResult result (λ reports. spec.AreReports options.now reports)
-        (λ fault. spec.IsFault greatest_year options.now (erased_fault fault)) }
+        (λ fault. spec.IsFault options.now (erased_fault fault)) }
 {
     let errors = find_number(options.errors).ok_or(Fault::Errors(options.errors))?;
     if options.quiet {
@@ -255,7 +254,7 @@ fn find_reports<'a>(options: &Options<'_, 'a>) -> Result<Reports, Fault<'a>>
 // The suffix of the backups of files that are replaced.
 fn find_in_place<'a>(options: &Options<'_, 'a>) -> Result<Option<&'a str>, Fault<'a>>
     ensures { MatchResult result (λ suffix. spec.IsSuffix options.now (text_behind suffix))
-        (λ fault. spec.IsFault greatest_year options.now (erased_fault fault)) }
+        (λ fault. spec.IsFault options.now (erased_fault fault)) }
 {
     let Some(suffix) = options.in_place else {
         return Ok(None);
@@ -269,7 +268,7 @@ fn find_in_place<'a>(options: &Options<'_, 'a>) -> Result<Option<&'a str>, Fault
 // Whether reports have colours.
 fn find_colors<'a>(options: &Options<'_, 'a>, is_terminal: bool) -> Result<bool, Fault<'a>>
     ensures { MatchResult result (λ shows. spec.AreColors options.now is_terminal shows)
-        (λ fault. spec.IsFault greatest_year options.now (erased_fault fault)) }
+        (λ fault. spec.IsFault options.now (erased_fault fault)) }
 {
     find_shows(options.color, is_terminal).ok_or(Fault::Color(options.color))
 }
@@ -283,9 +282,9 @@ fn find_bounds<'a>(
     given: &OwnedDefaults<'_>,
 ) -> Result<(Option<OffsetDateTime>, Option<OffsetDateTime>), Fault<'a>>
     requires formats { spec.AreFormats options.now first.now others.now }
-    requires given { spec.IsGiven greatest_year now options.now first.now others.now given.now }
-    ensures { MatchResult result (λ bounds. spec.AreBounds greatest_year now options.now first.now others.now given.now bounds)
-        (λ fault. spec.IsFaultAt greatest_year now options.now (erased_fault fault)) }
+    requires given { spec.IsGiven now options.now first.now others.now given.now }
+    ensures { MatchResult result (λ bounds. spec.AreBounds now options.now first.now others.now given.now bounds)
+        (λ fault. spec.IsFaultAt now options.now (erased_fault fault)) }
 {
     let defaults = given.defaults();
     let since = find_bound(now, first, others, &defaults, options.since).map_err(|(
@@ -314,8 +313,8 @@ impl<'a> Request<'a> {
         is_terminal: bool,
         now: Option<UtcDateTime>,
     ) -> Result<Request<'a>, Fault<'a>>
-        ensures { MatchResult result (spec.IsRequestOf greatest_year now options.now is_terminal)
-            (λ fault. spec.IsFaultAt greatest_year now options.now (erased_fault fault)) }
+        ensures { MatchResult result (spec.IsRequestOf now options.now is_terminal)
+            (λ fault. spec.IsFaultAt now options.now (erased_fault fault)) }
     {
         let place = find_place(options)?;
         let reports = find_reports(options)?;

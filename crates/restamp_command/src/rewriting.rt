@@ -1,7 +1,6 @@
 //! Processes files as requested.
 ghost use Rattle.std.specs.Option.{option_map};
 ghost use Rattle.std.specs.Prelude.{◌≡◌, ◌≢◌, IfErr, IfSome, OnOk, map};
-ghost use Rattle.time_values.specs.Calendar.{greatest_year};
 ghost use Rattle.byte_streams.specs.Faults.{HasCause};
 ghost use Rattle.restamp_in_place.specs.Replacing.{Makes, Replaces};
 ghost use Rattle.restamp_stream.specs.Streams.{job_of, ProcessedFiles, StoppedIn, state_of};
@@ -22,6 +21,7 @@ use restamp_in_place::{Folder, Made, Target, Unreplaced, replace_file};
 use restamp_lines::{ErrorLocation, Job, Refusal, Why};
 use restamp_stream::{Block, LineAction, Opening, Rewriting, Stop, Stream, Tally};
 use std::alloc::Global;
+use time_values::text::Text;
 
 /// A job, which decides the action of each line, and how a rejected line is reported.
 #[derive(Clone, Copy)]
@@ -37,13 +37,12 @@ pub struct Restamping<'a> {
 impl Rewriting for Restamping<'_> {
     type Refusal = Refusal<Brief>;
 
-    ghost use Rattle.time_values.specs.Calendar.{greatest_year};
     ghost use Rattle.restamp_command.specs.Rewriting as spec;
 
-    ghost is_action = { λ restamping front action. spec.IsAction greatest_year restamping.job front action };
+    ghost is_action = { λ restamping front action. spec.IsAction restamping.job front action };
 
     ghost is_reason = { λ restamping front column reason.
-        spec.IsReason greatest_year restamping.job restamping.zone.now restamping.shows_lines front column reason };
+        spec.IsReason restamping.job restamping.zone.now restamping.shows_lines front column reason };
 
     ghost one_action = { λ restamping front a b p q. spec.one_action restamping.job front a b p q };
 
@@ -51,13 +50,14 @@ impl Rewriting for Restamping<'_> {
         spec.one_reason restamping.job restamping.zone.now restamping.shows_lines front column other reason why p q };
 
     #[inline(always)]
-    fn action(&self, front: &[u8]) -> LineAction<Refusal<Brief>> {
-        self.job.judge::<Brief>(front)
+    fn action(&self, front: &[u8], text: &mut Text) -> LineAction<Refusal<Brief>> {
+        self.job.judge::<Brief>(front, text)
     }
 
     #[inline(never)]
     fn write_reason<L: Sink>(&self, front: &[u8], log: &mut L) -> Result<(), Unwritten> {
-        match self.job.judge::<Reason>(front) {
+        let mut text = Text::new();
+        match self.job.judge::<Reason>(front, &mut text) {
             LineAction::Refused(refusal) => self.write_location(front, refusal, log),
             LineAction::Without => Ok(()),
             LineAction::Rewritten { .. } => Ok(()),
@@ -76,7 +76,7 @@ impl Restamping<'_> {
         refusal: Refusal<Reason>,
         log: &mut L,
     ) -> Result<(), Unwritten>
-        ensures reported { OnOk result (WritesReason (ReportsError greatest_year self.now.job self.now.zone.now self.now.shows_lines front.now refusal.column (seen refusal.reason))
+        ensures reported { OnOk result (WritesReason (ReportsError self.now.job self.now.zone.now self.now.shows_lines front.now refusal.column (seen refusal.reason))
             (L.contents log.old) (L.contents log.new)) }
         ensures cause { HasCause result (L.faults log.old) (L.faults log.new) }
     {
@@ -112,7 +112,7 @@ pub fn serve<W: Sink, L: Sink, O: Opening>(
     block: &mut Block,
 ) -> Result<(), Stop>
     ensures ok { (job : Job_) × (settings : Settings_) × IsJobOf request.now job × AreSettingsOf request.now settings
-        × OnOk result (ProcessedFiles (IsAction greatest_year job) (IsReason greatest_year job (zone_name request.now.given.local) request.now.shows_lines)
+        × OnOk result (ProcessedFiles (IsAction job) (IsReason job (zone_name request.now.given.local) request.now.shows_lines)
         settings
         (O.bytes_of opening.old) (O.faults opening.old) (O.faults opening.new)
         (state_of W.contents L.contents stream.old) (state_of W.contents L.contents stream.new)
@@ -120,7 +120,7 @@ pub fn serve<W: Sink, L: Sink, O: Opening>(
     ensures unread { IfErr result (λ stop. stop ≢ Stop.Unread) }
     ensures refused { (job : Job_) × (settings : Settings_) × IsJobOf request.now job × AreSettingsOf request.now settings
         × IfErr result (λ stop. stop ≡ Stop.Refused →
-        StoppedIn (IsAction greatest_year job) (IsReason greatest_year job (zone_name request.now.given.local) request.now.shows_lines) settings
+        StoppedIn (IsAction job) (IsReason job (zone_name request.now.given.local) request.now.shows_lines) settings
         (O.bytes_of opening.old) (O.faults opening.old) (O.faults opening.new)
         (state_of W.contents L.contents stream.old) (state_of W.contents L.contents stream.new)
         (map (λ name. name.now) names.now)) }
@@ -149,7 +149,7 @@ pub fn replace<F: Folder, L: Sink + Drop>(
 ) -> (L, Tally, Result<Made, Unreplaced<Stop>>)
     ensures { (job : Job_) × (settings : Settings_) × IsJobOf request.now job × AreSettingsOf request.now settings
         × IfSome (F.events folder.old) (λ before. Replaces
-        (Makes (job_of (IsAction greatest_year job) (IsReason greatest_year job (zone_name request.now.given.local) request.now.shows_lines)
+        (Makes (job_of (IsAction job) (IsReason job (zone_name request.now.given.local) request.now.shows_lines)
         target.entry.shown.now settings) (L.contents log) (L.contents result.0) result.1)
         before (F.events folder.new) target.entry.name.now (option_map (λ second. second.now) target.entry.backup) result.2) }
 {

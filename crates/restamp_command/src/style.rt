@@ -1,6 +1,5 @@
 //! How moments are written by the options.
 ghost use Rattle.std.specs.Prelude.{◌≡◌, MatchResult, false};
-ghost use Rattle.time_values.specs.Calendar.{greatest_year};
 ghost use Rattle.restamp_formats.specs.Naming.{IsWritingFault, fault_of};
 ghost use Rattle.restamp_command.specs.Fault.{erased_fault};
 ghost use Rattle.restamp_command.specs.Request as spec;
@@ -47,7 +46,8 @@ fn find_format<'a>(name: &'a str) -> Result<Writing, FormatFault<'a>>
     find_writing(name.as_bytes())
 }
 
-// The suffix of timestamps in the zone by the format of that name.
+// The text after each timestamp: the zone in brackets for the format `rfc9557`, and otherwise nothing. It is an error if
+// the zone has neither a name nor an offset of whole minutes, or if memory is short.
 fn find_suffix<'a>(alloc: Global, name: &'a str, zone: &Zone) -> Result<Vec<u8>, Fault<'a>>
     ensures { MatchResult result (λ suffix. spec.IsSuffixBy name.now zone.now suffix.items)
         (λ fault. spec.IsSuffixFault name.now zone.now (erased_fault fault)) }
@@ -70,8 +70,8 @@ pub(crate) fn find_style<'a, R: Env + Files + AllocGlobal>(
     rt: &R,
     options: &Options<'_, 'a>,
 ) -> Result<Style, Fault<'a>>
-    ensures { MatchResult result (λ style. spec.IsStyle greatest_year options.now style)
-        (λ fault. spec.IsFault greatest_year options.now (erased_fault fault)) }
+    ensures { MatchResult result (λ style. spec.IsStyle options.now style)
+        (λ fault. spec.IsFault options.now (erased_fault fault)) }
 {
     let writing = match find_format(options.to) {
         Ok(writing) => writing,

@@ -249,7 +249,7 @@ const REPORTS: &[Row] = &[
     },
     Row {
         name: "keep-going",
-        help: "Goes on under --strict, with its status",
+        help: "Continues under --strict, with its status",
         needs: &["strict"],
         ..FLAG
     },
@@ -286,7 +286,7 @@ pub(crate) const OTHERS: &[Row] = &[
     },
     Row {
         name: "progress",
-        help: "Tells how far a long file was read",
+        help: "Reports how far a long file was read",
         ..FLAG
     },
     Row {

@@ -1,6 +1,5 @@
 //! Whether a default can be of use.
 ghost use Rattle.std.specs.Prelude.{◌≡◌, MatchOption};
-ghost use Rattle.time_values.specs.Calendar.{greatest_year};
 ghost use Rattle.restamp_command.specs.Fault.{erased_fault};
 ghost use Rattle.restamp_command.specs.Request as spec;
 
@@ -23,7 +22,7 @@ pub(crate) fn find_unused<'a>(
 ) -> Option<Fault<'a>>
     requires { spec.AreFormats options.now first.now others.now }
     ensures { MatchOption result (spec.AreUsed options.now first.now others.now)
-        (λ fault. spec.IsFault greatest_year options.now (erased_fault fault)) }
+        (λ fault. spec.IsFault options.now (erased_fault fault)) }
 {
     if !one_can_default(first, others, Part::Year) {
         if let Some(text) = options.year {

@@ -1,6 +1,5 @@
 //! Parses the values of options.
 ghost use Rattle.std.specs.Prelude.{◌≡◌, map};
-ghost use Rattle.time_values.specs.Calendar.{greatest_year};
 ghost use Rattle.time_components.specs.Tree.{borrowed_shape, sequence, trees};
 ghost use Rattle.restamp_command.specs.Values as spec;
 
@@ -10,23 +9,23 @@ use time_formatting::FractionDigits;
 use time_parsing::Parsable;
 use time_values::UtcOffset;
 
-/// A number.
+/// Parses a decimal number from 0 to 18446744073709551615, which may have a `+`. Returns `None` for any other text.
 pub fn find_number(text: &str) -> Option<u64>
     ensures { spec.IsNumber text.now result }
 {
     text.parse::<u64>().ok()
 }
 
-/// A number from 1.
+/// Parses a decimal number from 1 to 18446744073709551615, which may have a `+`. Returns `None` for any other text.
 pub fn find_positive(text: &str) -> Option<usize>
     ensures { spec.IsPositive text.now result }
 {
     text.parse::<usize>().ok().filter(|number| *number != 0)
 }
 
-/// A year from -999999 to 999999.
+/// Parses a year from -999999 to 999999. Returns `None` for any other text.
 pub fn find_year(text: &str) -> Option<i32>
-    ensures { spec.IsYear greatest_year text.now result }
+    ensures { spec.IsYear text.now result }
 {
     let year = text.parse::<i32>().ok();
     year.filter(|year| year.unsigned_abs() <= 999_999)
@@ -107,7 +106,7 @@ fn compound<'a>(items: &'a [BorrowedFormatItem<'a>]) -> BorrowedFormatItem<'a>
 
 /// An offset such as `+05:30`.
 pub fn find_offset(text: &str) -> Option<UtcOffset>
-    ensures { spec.IsOffsetText greatest_year text.now result }
+    ensures { spec.IsOffsetText text.now result }
 {
     let items = offset_items();
     let description = compound(&items);

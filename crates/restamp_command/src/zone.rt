@@ -1,6 +1,5 @@
 //! The zones that options name.
 ghost use Rattle.std.specs.Prelude.{◌≡◌, MatchResult, option_map};
-ghost use Rattle.time_values.specs.Calendar.{greatest_year};
 ghost use Rattle.time_zones.specs.Suffix.{zone_of};
 ghost use Rattle.restamp_command.specs.Zones as spec;
 
@@ -107,7 +106,7 @@ pub(crate) fn parse_zone<R: Env + Files + AllocGlobal>(
     rt: &R,
     text: &str,
 ) -> Result<Zone, ZoneFault>
-    ensures { MatchResult result (spec.IsZone greatest_year text.now) (spec.IsNoZone greatest_year text.now) }
+    ensures { MatchResult result (spec.IsZone text.now) (spec.IsNoZone text.now) }
 {
     if text == "keep" {
         return Ok(Zone::Keep);

@@ -115,7 +115,7 @@ no_digit [] rest = tt
 no_digit (c ∷ cs) rest = λ h. omega (arith, h)
 
 module _ (v : OffsetDateTime) (none : Times.nanosecond (offset_time v) ≡ 0) (minutes : Offsets.seconds (offset_of v) ≡ pos 0) where
-  stops : AllStop greatest_year v (pieces common_tree)
+  stops : AllStop v (pieces common_tree)
   stops = (tt, (tt, (no_digit (year_sign false (Dates.year (offset_date v))) _, (tt, (tt, (tt, (tt, (tt, tt))))))))
 
   -- the record with the values of all components
@@ -140,7 +140,7 @@ module _ (v : OffsetDateTime) (none : Times.nanosecond (offset_time v) ≡ 0) (m
     no_count = refl;
   }
 
-  says : DeterminesMoment greatest_year common_tree no_defaults v
+  says : DeterminesMoment common_tree no_defaults v
   says = says_all_told v common_tree no_defaults after stops refl has_all
 
 -- the format of that name
@@ -149,11 +149,11 @@ complete_tree : (format : Reading) (tree : Tree) → meaning_of format ≡ as_co
 complete_tree (Reading.Complete d) tree e = let same : steps_shape d ≡ tree = cc in (d, refl, same)
 complete_tree format tree e = absurd cc
 
-pub common_reads_back : CommonReadsBack greatest_year
+pub common_reads_back : CommonReadsBack
 common_reads_back v format defaults d (read_tree, reads, is) (e, (tree, writes, same), one) none minutes =
     let here : shape d ≡ common_tree = ap (λ (x : Description MOST_STEPS). shape x) (same_described d e one) ∙ same_as_tree (shape e) tree same
     ∙ one_description (version_of 2) common_text tree common_tree writes describes_common in
     let there = one_description (version_of 2) common_text read_tree common_tree reads describes_common in
     let (c, format_is, tree_is) = complete_tree format read_tree is in
-    subst (λ (f : Reading). ReadsTree greatest_year f defaults (shape d) v) (sym format_is)
-    (tree_is ∙ there ∙ sym here, subst (λ (t : Tree). DeterminesMoment greatest_year t no_defaults v) (sym here) (says v none minutes))
+    subst (λ (f : Reading). ReadsTree f defaults (shape d) v) (sym format_is)
+    (tree_is ∙ there ∙ sym here, subst (λ (t : Tree). DeterminesMoment t no_defaults v) (sym here) (says v none minutes))

@@ -9,7 +9,7 @@ use Rattle.time_formatting.specs.Components.{count_of, kept}
 use Rattle.time_record.specs.Resolution.{IsDated, IsConstructed, clock_at, clock_of, hour_of, Row, IsRowDate}
 use Rattle.time_values.specs.Dates as Dates
 use Rattle.time_values.specs.Offsets as Offsets
-use Rattle.restamp_formats.specs.Common.{greatest_year, insufficient, Date, Time, UtcOffset, offset_date, offset_of, offset_time, OffsetDateTime, Component, hour_12, value_of, put_value, Record, empty, IsMoment, IsMomentOfParts, IsTimed, IsOffset, is_leap_second, stand_in, by_ordinal, by_month_and_day, row_of_two, row_of_three, full_year}
+use Rattle.restamp_formats.specs.Common.{greatest_year, insufficient, Date, Time, UtcOffset, offset_date, offset_of, offset_time, OffsetDateTime, Component, hour_12, value_of, put_value, Record, empty, IsMoment, IsMomentOfParts, IsTimed, IsOffset, is_leap_second, replace_leap_second, by_ordinal, by_month_and_day, row_of_two, row_of_three, full_year}
 use Rattle.restamp_formats.specs.ComponentValues.{Piece, verbatim, part, pieces, put_values, with_value_of, with_values_of, clock, HasAll}
 use Rattle.restamp_formats.specs.{Laws.AllValuesDetermine, Laws.SignsDetermine, Reading.completed}
 use Rattle.restamp_formats.proofs.ParseLemmas.{on_none, on_some}
@@ -51,7 +51,7 @@ module _ (v : OffsetDateTime) where
   o = offset_of v
 
   -- setting a component's value gives the record with that value
-  put_told : (c : Component) (r q : Record) → with_value_of greatest_year v c r ≡ Some q
+  put_told : (c : Component) (r q : Record) → with_value_of v c r ≡ Some q
       → put_value greatest_year c (value_of greatest_year v c) r ≡ Some q
   put_told (Component.Day m) r q e = rw (day_fits d) e
   put_told (Component.MonthShort m) r q e = e
@@ -76,13 +76,13 @@ module _ (v : OffsetDateTime) where
   put_told (Component.End m) r q e = e
   put_told c r q e = absurd (none-some q e)
 
-  put_all_told : (ps : List Piece) (r q : Record) → with_values_of greatest_year v ps r ≡ Some q
-      → put_values greatest_year v ps r ≡ Some q
+  put_all_told : (ps : List Piece) (r q : Record) → with_values_of v ps r ≡ Some q
+      → put_values v ps r ≡ Some q
   put_all_told [] r q e = e
   put_all_told (verbatim text ∷ ps) r q e = put_all_told ps r q e
   put_all_told (part c ∷ ps) r q e =
-      option_and_then_some (with_values_of greatest_year v ps) (with_value_of greatest_year v c r) q e (λ mid here next.
-      ap (option_and_then (put_values greatest_year v ps)) (put_told c r mid here) ∙ put_all_told ps mid q next)
+      option_and_then_some (with_values_of v ps) (with_value_of v c r) q e (λ mid here next.
+      ap (option_and_then (put_values v ps)) (put_told c r mid here) ∙ put_all_told ps mid q next)
 
   -- a record with all of a moment resolves to it
   dated : (year : Option ℤ) (number : Option ℕ) (month : Option Month) (day : Option ℕ) (later : Option Row)
@@ -127,10 +127,10 @@ module _ (v : OffsetDateTime) where
     unfolding IsDated
     is_dated = dated (full_year r) r.ordinal r.month r.day _ all.date.0 all.date.1
 
-    is_timed : IsTimed (stand_in r) (Ok t)
+    is_timed : IsTimed (replace_leap_second r) (Ok t)
     unfolding IsTimed
     is_timed =
-        let same : stand_in r ≡ r = ap (λ leap. if leap then record r { second = Some 59; subsecond = Some 999_999_999 } else r) not_leap in
+        let same : replace_leap_second r ≡ r = ap (λ leap. if leap then record r { second = Some 59; subsecond = Some 999_999_999 } else r) not_leap in
         subst (λ q. IsTimed q (Ok t)) (sym same) (on_some (clock_of r) (clock t) _ _ all.time clock_made)
 
     is_offset : IsOffset r (Ok o)
@@ -144,12 +144,12 @@ module _ (v : OffsetDateTime) where
         on_none r.unix_timestamp_nanos _ _ all.no_count
         (inr (d, is_dated, inr (t, is_timed, inr (o, is_offset, ((refl, refl, refl), λ leap. absurd (let none = not_leap in cc))))))
 
-pub says_all_told : AllValuesDetermine greatest_year
+pub says_all_told : AllValuesDetermine
 says_all_told v tree defaults after stops told all = record {
   stops = stops;
   after = after;
   puts = put_all_told v (pieces tree) empty after told;
-  is = moment v (completed greatest_year defaults after) all;
+  is = moment v (completed defaults after) all;
 }
 
 pub signs_tell : SignsDetermine

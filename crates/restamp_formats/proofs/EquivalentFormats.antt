@@ -1,36 +1,37 @@
 -- Formats whose tables of zones differ only in names that a text doesn't have parse it alike.
+use Rattle.time_values.specs.Calendar.{greatest_year}
 use Rattle.std.proofs.Common.{◌≡◌, ℕ, zero, suc, ℤ, pos, Bool, true, false, List, [], ◌∷◌, ◌++◌, ◌+◌, ◌-◌, take, drop, sym, ap, subst, refl, ◌∙◌, None, Some, Ok, Err, append_assoc, append-nil, inl, inr, Option, Result, ◌-ℤ◌, MatchOption, MatchResult, MatchBool, slice_range}
 use Rattle.std.proofs.lemmas.{List.take-append-drop, Result.MatchResult-weaker}
-use Rattle.time_zones.specs.{Suffix.at_offset as by_offset, Suffix.tags_text, Suffix.StandsIn, declared.checking.SuffixFault.TheVariants.UnknownZone}
-use Rattle.restamp_formats.specs.Common.{offset_of, Refusal, OffsetDateTime, UtcOffset, Checked, GoesWith, GoesWithNamed, GoesWithZone, IsSuffix, Zone, ZoneTag, Tag, IsZoneText, bracketed, critical_key, named, IsNameIn, NamedZone, zone_named, Zones, Clocks, Defaults, Reading, Match}
-use Rattle.restamp_formats.specs.Zoned.{IsChecked, IsLongestSuffix, IsSuffixed, Suffix, has_tail, tells_offset}
+use Rattle.time_zones.specs.{Suffix.at_offset as by_offset, Suffix.tags_text, Suffix.IsSubstring, declared.checking.SuffixFault.TheVariants.UnknownZone}
+use Rattle.restamp_formats.specs.Common.{offset_of, Refusal, OffsetDateTime, UtcOffset, Checked, AgreesWith, AgreesWithNamed, AgreesWithZone, IsSuffix, Zone, ZoneTag, Tag, IsZoneText, bracketed, critical_key, named, IsNameIn, NamedZone, zone_named, Zones, Clocks, Defaults, Reading, Match}
+use Rattle.restamp_formats.specs.Zoned.{IsChecked, IsLongestSuffix, IsSuffixed, Suffix, has_tail, has_local_offset}
 use Rattle.restamp_formats.specs.Reading.{IsReadInFront, ParsesAs, ParsesInZone, ParsesLocally, undated, at_offset, in_year, is_after, year_after, AreYearsTried, IsDated, AreTried, IsReadInTurn}
 use Rattle.restamp_formats.specs.{Laws.SameZones, Laws.AreEquivalent, Laws.AllEquivalent, Reason.Reason, Reason.unread, Reason.is_local_time_error}
 use Rattle.restamp_formats.proofs.FrontLemmas.{EndsBefore, front_ends}
 
 -- a part of a part is a part of the whole
-pub deeper : (name part bytes : List ℕ) → StandsIn name part → StandsIn part bytes → StandsIn name bytes
+pub deeper : (name part bytes : List ℕ) → IsSubstring name part → IsSubstring part bytes → IsSubstring name bytes
 deeper name part bytes p q = record {
   before = q.before ++ p.before;
   after = p.after ++ q.after;
   whole = q.whole ∙ ap (λ l. q.before ++ (l ++ q.after)) p.whole ∙ simp append_assoc;
 }
 
-pub of_take : (n : ℕ) (bytes : List ℕ) → StandsIn (take n bytes) bytes
+pub of_take : (n : ℕ) (bytes : List ℕ) → IsSubstring (take n bytes) bytes
 of_take n bytes = record { before = []; after = drop n bytes; whole = sym (take-append-drop n bytes) }
 
-pub of_drop : (n : ℕ) (bytes : List ℕ) → StandsIn (drop n bytes) bytes
+pub of_drop : (n : ℕ) (bytes : List ℕ) → IsSubstring (drop n bytes) bytes
 of_drop n bytes = record {
   before = take n bytes;
   after = [];
   whole = sym (take-append-drop n bytes) ∙ ap (λ l. take n bytes ++ l) (sym (append-nil (drop n bytes)));
 }
 
-pub of_range : (start stop : ℕ) (bytes : List ℕ) → StandsIn (slice_range bytes start stop) bytes
+pub of_range : (start stop : ℕ) (bytes : List ℕ) → IsSubstring (slice_range bytes start stop) bytes
 of_range start stop bytes = deeper (slice_range bytes start stop) (drop start bytes) bytes (of_take (stop - start) (drop start bytes)) (of_drop start bytes)
 
 -- a name in a part is in the whole
-name_deeper : (name part bytes : List ℕ) → IsNameIn part name → StandsIn part bytes → IsNameIn bytes name
+name_deeper : (name part bytes : List ℕ) → IsNameIn part name → IsSubstring part bytes → IsNameIn bytes name
 name_deeper name part bytes p q = record {
   end = p.end;
   is_critical = p.is_critical;
@@ -63,15 +64,15 @@ name_of_suffix text rest len tag tags name ends e s =
 
 goes_zone : (zone : Zone) (zones other : Zones) (tells : Bool) (m : OffsetDateTime) (a : Checked)
     → ((name : List ℕ) → zone ≡ named name → zone_named other name ≡ zone_named zones name)
-    → GoesWithZone zones tells m zone a → GoesWithZone other tells m zone a
+    → AgreesWithZone zones tells m zone a → AgreesWithZone other tells m zone a
 goes_zone (named name) zones other tells m a same p =
-    subst (λ (found : Option NamedZone). MatchOption found (a ≡ Err UnknownZone) (λ zone. GoesWithNamed tells m zone a))
+    subst (λ (found : Option NamedZone). MatchOption found (a ≡ Err UnknownZone) (λ zone. AgreesWithNamed tells m zone a))
     (sym (same name refl)) p
 goes_zone (by_offset o) zones other tells m a same p = p
 
 goes : (tag : Option ZoneTag) (key : Option (List ℕ)) (zones other : Zones) (tells : Bool) (m : OffsetDateTime) (a : Checked)
     → ((z : ZoneTag) (name : List ℕ) → tag ≡ Some z → z.zone ≡ named name → zone_named other name ≡ zone_named zones name)
-    → GoesWith zones tells m tag key a → GoesWith other tells m tag key a
+    → AgreesWith zones tells m tag key a → AgreesWith other tells m tag key a
 goes tag (Some key) zones other tells m a same p = p
 goes None None zones other tells m a same p = p
 goes (Some z) None zones other tells m a same p = goes_zone z.zone zones other tells m a (λ name e. same z name refl e) p
@@ -91,36 +92,36 @@ module _ (zones other : Zones) (text : List ℕ) (same : SameZones text zones ot
   checked_alike front s a ends longest p =
       let rest = drop front.length text in (
         p.0,
-        goes s.zone (critical_key s.tags) zones other (tells_offset (take front.length text)) front.moment p.0
+        goes s.zone (critical_key s.tags) zones other (has_local_offset (take front.length text)) front.moment p.0
             (λ z name e n. same name
             (name_of_suffix text rest s.len z s.tags name ends n
             (subst (λ (tag : Option ZoneTag). IsSuffix (take s.len rest) tag s.tags) e longest.is_suffix))) p.1,
         p.2,
       )
 
-  told_alike : (Y : ℕ) (is_prefix : Bool) (outcome : Result Match Refusal) (a : Result Match Reason) → IsReadInFront Y text outcome
+  told_alike : (is_prefix : Bool) (outcome : Result Match Refusal) (a : Result Match Reason) → IsReadInFront text outcome
       → MatchResult outcome (λ s. IsSuffixed zones is_prefix text s a) (λ e. a ≡ Err (unread e))
       → MatchResult outcome (λ s. IsSuffixed other is_prefix text s a) (λ e. a ≡ Err (unread e))
-  told_alike Y is_prefix (Ok s) a front p =
-      (p.0, p.1, bool_weaker (has_tail is_prefix text (s.length + p.0.len)) p.2 (λ q. q) (checked_alike s p.0 a (front_ends Y text s front) p.1))
-  told_alike Y is_prefix (Err e) a front p = p
+  told_alike is_prefix (Ok s) a front p =
+      (p.0, p.1, bool_weaker (has_tail is_prefix text (s.length + p.0.len)) p.2 (λ q. q) (checked_alike s p.0 a (front_ends text s front) p.1))
+  told_alike is_prefix (Err e) a front p = p
 
 -- each match of a text by one format is its match by the other
-abbrev Alike : ℕ → Bool → List ℕ → Reading → Reading → Type 0
-Alike Y is_prefix text format other =
-    (d : Defaults) (a : Result Match Reason) → ParsesAs Y format is_prefix text d a → ParsesAs Y other is_prefix text d a
+abbrev Alike : Bool → List ℕ → Reading → Reading → Type 0
+Alike is_prefix text format other =
+    (d : Defaults) (a : Result Match Reason) → ParsesAs format is_prefix text d a → ParsesAs other is_prefix text d a
 
-says_alike : (Y : ℕ) (is_prefix : Bool) (text : List ℕ) (format other : Reading) → AreEquivalent text format other → Alike Y is_prefix text format other
-says_alike Y is_prefix text format other (inl e) d a p = subst (λ (f : Reading). ParsesAs Y f is_prefix text d a) e p
-says_alike Y is_prefix text format other (inr (zones, same, e, f, h)) d a p =
-    let q : ParsesAs Y (Reading.Zoned zones) is_prefix text d a = subst (λ (r : Reading). ParsesAs Y r is_prefix text d a) e p in
-    let r : ParsesAs Y (Reading.Zoned same) is_prefix text d a = (q.0, q.1, told_alike zones same text h Y is_prefix q.0 a q.1 q.2) in
-    subst (λ (r : Reading). ParsesAs Y r is_prefix text d a) (sym f) r
+says_alike : (is_prefix : Bool) (text : List ℕ) (format other : Reading) → AreEquivalent text format other → Alike is_prefix text format other
+says_alike is_prefix text format other (inl e) d a p = subst (λ (f : Reading). ParsesAs f is_prefix text d a) e p
+says_alike is_prefix text format other (inr (zones, same, e, f, h)) d a p =
+    let q : ParsesAs (Reading.Zoned zones) is_prefix text d a = subst (λ (r : Reading). ParsesAs r is_prefix text d a) e p in
+    let r : ParsesAs (Reading.Zoned same) is_prefix text d a = (q.0, q.1, told_alike zones same text h is_prefix q.0 a q.1 q.2) in
+    subst (λ (r : Reading). ParsesAs r is_prefix text d a) (sym f) r
 
 -- equal matches have equal results: in zones, with years, by several formats
-module _ (Y : ℕ) (is_prefix : Bool) (text : List ℕ) (format other : Reading) (says : Alike Y is_prefix text format other) where
+module _ (is_prefix : Bool) (text : List ℕ) (format other : Reading) (says : Alike is_prefix text format other) where
   on_clocks : (d : Defaults) (a : Result Match Reason) (clocks : Clocks)
-      → ParsesInZone Y clocks format is_prefix text d a → ParsesInZone Y clocks other is_prefix text d a
+      → ParsesInZone clocks format is_prefix text d a → ParsesInZone clocks other is_prefix text d a
   on_clocks d a clocks p = (
     p.0,
     p.1,
@@ -129,21 +130,21 @@ module _ (Y : ℕ) (is_prefix : Bool) (text : List ℕ) (format other : Reading)
     MatchResult-weaker p.2 p.4 (λ s q. (q.0, q.1, MatchResult-weaker q.0 q.2 (λ o. says (at_offset o d) a) (λ why e. e))) (λ why e. e),
   )
 
-  locally : (d : Defaults) (a : Result Match Reason) → ParsesLocally Y format is_prefix text d a → ParsesLocally Y other is_prefix text d a
+  locally : (d : Defaults) (a : Result Match Reason) → ParsesLocally format is_prefix text d a → ParsesLocally other is_prefix text d a
   locally d a p =
       (p.0, says d p.0 p.1, MatchResult-weaker p.0 p.2 (λ s e. e) (λ reason q. option_weaker d.clocks _ q (on_clocks d a)))
 
   module _ (offset : Option UtcOffset) (clocks : Option Clocks) (latest : OffsetDateTime) where
     years : (n : ℕ) (year : ℤ) (reason : Reason) (a : Result Match Reason)
-        → AreYearsTried Y (undated format is_prefix text offset clocks latest) n year reason a
-        → AreYearsTried Y (undated other is_prefix text offset clocks latest) n year reason a
+        → AreYearsTried (undated format is_prefix text offset clocks latest) n year reason a
+        → AreYearsTried (undated other is_prefix text offset clocks latest) n year reason a
     unfolding AreYearsTried
     years zero year reason a p = p
     years (suc n) year reason a p = (
       p.0,
       locally (in_year year offset clocks) p.0 p.1,
       MatchResult-weaker p.0 p.2
-          (λ s q. bool_weaker (is_after Y s.moment latest) q (years n (year -ℤ pos 1) reason a) (λ e. e))
+          (λ s q. bool_weaker (is_after s.moment latest) q (years n (year -ℤ pos 1) reason a) (λ e. e))
           (λ why q. (
             q.0,
             bool_weaker (is_local_time_error why) q.1
@@ -152,7 +153,7 @@ module _ (Y : ℕ) (is_prefix : Bool) (text : List ℕ) (format other : Reading)
           )),
     )
 
-  dated : (d : Defaults) (a : Result Match Reason) → IsDated Y format is_prefix text d a → IsDated Y other is_prefix text d a
+  dated : (d : Defaults) (a : Result Match Reason) → IsDated format is_prefix text d a → IsDated other is_prefix text d a
   dated d a p = (
     p.0,
     locally d p.0 p.1,
@@ -160,13 +161,13 @@ module _ (Y : ℕ) (is_prefix : Bool) (text : List ℕ) (format other : Reading)
         (λ reason q. option_weaker d.latest _ q (λ v. years d.offset d.clocks v 10 (year_after v) reason a)),
   )
 
-module _ (Y : ℕ) (is_prefix : Bool) (text : List ℕ) where
+module _ (is_prefix : Bool) (text : List ℕ) where
   pub dated_alike : (format other : Reading) (d : Defaults) (a : Result Match Reason) → AreEquivalent text format other
-      → IsDated Y format is_prefix text d a → IsDated Y other is_prefix text d a
-  dated_alike format other d a alike p = dated Y is_prefix text format other (says_alike Y is_prefix text format other alike) d a p
+      → IsDated format is_prefix text d a → IsDated other is_prefix text d a
+  dated_alike format other d a alike p = dated is_prefix text format other (says_alike is_prefix text format other alike) d a p
 
   tried_alike : (formats others : List Reading) (d : Defaults) (reason : Reason) (a : Result Match Reason) → AllEquivalent text formats others
-      → AreTried Y formats is_prefix text d reason a → AreTried Y others is_prefix text d reason a
+      → AreTried formats is_prefix text d reason a → AreTried others is_prefix text d reason a
   tried_alike [] [] d reason a alike p = p
   tried_alike (format ∷ formats) (other ∷ others) d reason a alike p = (
     p.0,
@@ -177,7 +178,7 @@ module _ (Y : ℕ) (is_prefix : Bool) (text : List ℕ) where
 
   pub in_turn_alike : (format other : Reading) (formats others : List Reading) (d : Defaults) (a : Result Match Reason)
       → AreEquivalent text format other → AllEquivalent text formats others
-      → IsReadInTurn Y format formats is_prefix text d a → IsReadInTurn Y other others is_prefix text d a
+      → IsReadInTurn format formats is_prefix text d a → IsReadInTurn other others is_prefix text d a
   in_turn_alike format other formats others d a alike all p = (
     p.0,
     dated_alike format other d p.0 alike p.1,
@@ -185,12 +186,12 @@ module _ (Y : ℕ) (is_prefix : Bool) (text : List ℕ) where
   )
 
 -- formats that are equal for some bytes are equal for a part of them
-pub part_alike : (part bytes : List ℕ) (format other : Reading) → StandsIn part bytes → AreEquivalent bytes format other → AreEquivalent part format other
+pub part_alike : (part bytes : List ℕ) (format other : Reading) → IsSubstring part bytes → AreEquivalent bytes format other → AreEquivalent part format other
 part_alike part bytes format other stands (inl e) = inl e
 part_alike part bytes format other stands (inr (zones, same, e, f, h)) =
     inr (zones, same, e, f, λ name p. h name (name_deeper name part bytes p stands))
 
-pub parts_alike : (part bytes : List ℕ) (formats others : List Reading) → StandsIn part bytes → AllEquivalent bytes formats others
+pub parts_alike : (part bytes : List ℕ) (formats others : List Reading) → IsSubstring part bytes → AllEquivalent bytes formats others
     → AllEquivalent part formats others
 parts_alike part bytes [] [] stands alike = alike
 parts_alike part bytes (format ∷ formats) (other ∷ others) stands alike =

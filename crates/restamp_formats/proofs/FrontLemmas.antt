@@ -4,12 +4,13 @@ use Rattle.std.proofs.{Math.Seq.take-length, Math.Seq.take-append_seam, Math.Seq
 use Rattle.std.specs.Char.{to_ascii_lowercase}
 use Rattle.time_zones.specs.Suffix.{is_time_end}
 use Rattle.time_digits.specs.Digits.{Cut, IsDigit, IsDigitRun, NoDigitFirst, sign_byte}
-use Rattle.time_readers.specs.Rfc3339.{Asks, HasForm, IsOffsetColon, IsOffsetMinute, IsSubsecond, NoDotFirst, date_places, nothing_read, offset_places, time_places, to_second_places}
-use Rattle.time_readers.specs.{Readers.Stand, declared.rfc3339.Numbers.Numbers, declared.rfc3339.Place.Place}
-use Rattle.time_readers.proofs.Walking.{Stand-append, Stand-ends, Stand-split}
-use Rattle.time_parsing.specs.Rfc3339.{Reads, Refuses}
-use Rattle.restamp_formats.specs.Common.{greatest_year, OffsetDateTime, GoesWith, IsSuffix, Tag, ZoneTag, critical_key, Zones, RefusesRfc3339, empty, IsMoment, IsOutcome, IsFront, direct, Defaults, Match, Reading}
-use Rattle.restamp_formats.specs.Zoned.{IsLongestSuffix, IsSuffixed, Suffix, has_tail, tells_offset}
+use Rattle.time_readers.specs.Rfc3339.{PlaceSyntax, HasForm, IsOffsetColon, IsOffsetMinute, IsSubsecond, NoDotFirst, date_places, nothing_read, offset_places, time_places, to_second_places}
+use Rattle.time_readers.specs.{Readers.MatchesPlaces, declared.rfc3339.Numbers.Numbers, declared.rfc3339.Place.Place}
+use Rattle.time_readers.proofs.Walking.{MatchesPlaces-append, MatchesPlaces-ends, MatchesPlaces-split}
+use Rattle.time_parsing.specs.Rfc3339Strict.{Reads, Refuses}
+use Rattle.time_parsing.proofs.StrictTexts.{separator-append, strict_texts}
+use Rattle.restamp_formats.specs.Common.{greatest_year, OffsetDateTime, AgreesWith, IsSuffix, Tag, ZoneTag, critical_key, Zones, RefusesDirectly, empty, IsMoment, IsOutcome, IsFront, direct, Defaults, Match, Reading}
+use Rattle.restamp_formats.specs.Zoned.{IsLongestSuffix, IsSuffixed, Suffix, has_tail, has_local_offset}
 use Rattle.restamp_formats.specs.{Reading.IsReadBy, Reading.IsReadInFront, Reading.said, Reading.ParsesAs, Laws.ReadsSuffixedBack}
 use Rattle.restamp_formats.proofs.OneReading.{one_has}
 
@@ -52,8 +53,8 @@ module _ (tail : List ℕ) where
   offset_minute false n m text xs h = (h.0, (run 2 text xs h.0 h.1.0, h.1.1), h.2)
 
   -- a place keeps its syntax if more bytes follow
-  asked : (p : Place) (n m : Numbers) (text xs : List ℕ) → (is_plain p ≡ false → 1 ≤ length xs) → Asks true p n text xs m
-      → Asks true p n text (xs ++ tail) m
+  asked : (p : Place) (n m : Numbers) (text xs : List ℕ) → (is_plain p ≡ false → 1 ≤ length xs) → PlaceSyntax true p n text xs m
+      → PlaceSyntax true p n text (xs ++ tail) m
   asked Place.Year n m text xs some h = (h.0, run 4 text xs h.0 h.1, h.2)
   asked Place.Month n m text xs some h = (h.0, (run 2 text xs h.0 h.1.0, h.1.1), h.2, h.3)
   asked Place.Day n m text xs some h = (h.0, (run 2 text xs h.0 h.1.0, h.1.1), h.2)
@@ -73,35 +74,35 @@ module _ (tail : List ℕ) where
   asked Place.OffsetMinute n m text xs some h = offset_minute n.is_utc n m text xs h
   asked p n m text xs some h = h
 
-  cut : (p : Place) (n m : Numbers) (bytes xs : List ℕ) → (is_plain p ≡ false → 1 ≤ length xs) → Cut (Asks true p n) bytes xs m
-      → Cut (Asks true p n) (bytes ++ tail) (xs ++ tail) m
+  cut : (p : Place) (n m : Numbers) (bytes xs : List ℕ) → (is_plain p ≡ false → 1 ≤ length xs) → Cut (PlaceSyntax true p n) bytes xs m
+      → Cut (PlaceSyntax true p n) (bytes ++ tail) (xs ++ tail) m
   cut p n m bytes xs some h =
       (h.0, ap (λ x. x ++ tail) h.1 ∙ append_assoc h.0 xs tail, asked p n m h.0 xs some h.2)
 
-  stand : (ps : List Place) (n m : Numbers) (bytes rest : List ℕ) → are_plain ps ≡ true → Stand (Asks true) ps n bytes rest m
-      → Stand (Asks true) ps n (bytes ++ tail) (rest ++ tail) m
-  unfolding Stand
+  stand : (ps : List Place) (n m : Numbers) (bytes rest : List ℕ) → are_plain ps ≡ true → MatchesPlaces (PlaceSyntax true) ps n bytes rest m
+      → MatchesPlaces (PlaceSyntax true) ps n (bytes ++ tail) (rest ++ tail) m
+  unfolding MatchesPlaces
   stand [] n m bytes rest plain s = (ap (λ x. x ++ tail) s.0, s.1)
   stand (p ∷ ps) n m bytes rest plain s =
       let parts = and_parts (is_plain p) (are_plain ps) plain in
       (s.0 ++ tail, s.1, cut p n s.1 bytes s.0 (λ is. absurd (let plain = parts.0 in cc)) s.2, stand ps s.1 m s.0 rest parts.1 s.3)
 
   -- an offset has at least one byte
-  offset_long : (n m : Numbers) (bytes rest : List ℕ) → Cut (Asks true Place.OffsetHour n) bytes rest m → 1 ≤ length bytes
+  offset_long : (n m : Numbers) (bytes rest : List ℕ) → Cut (PlaceSyntax true Place.OffsetHour n) bytes rest m → 1 ≤ length bytes
   offset_long n m bytes rest (text, is, inl utc) =
       let long : length bytes ≡ length (utc.0.0 ∷ rest) = ap length (is ∙ ap (λ x. x ++ rest) utc.0.1) in omega (arith, long)
   offset_long n m bytes rest (text, is, inr signed) =
       let long = ap length (is ∙ ap (λ x. x ++ rest) signed.cut) in omega (arith, long)
 
   form : (bytes : List ℕ) (n : Numbers) → HasForm true bytes [] n → HasForm true (bytes ++ tail) tail n
-  unfolding Stand
+  unfolding MatchesPlaces
   form bytes n h =
-      let first = Stand-split (Asks true) to_second_places (Place.Subsecond ∷ offset_places) nothing_read n bytes [] h in
+      let first = MatchesPlaces-split (PlaceSyntax true) to_second_places (Place.Subsecond ∷ offset_places) nothing_read n bytes [] h in
       let mid = first.0 in
       let k = first.1.0 in
       let s = first.1.2 in
       let long = offset_long s.1 s.3.1 s.0 s.3.0 s.3.2 in
-      Stand-append (Asks true) to_second_places (Place.Subsecond ∷ offset_places) nothing_read k n (bytes ++ tail) (mid ++ tail) tail
+      MatchesPlaces-append (PlaceSyntax true) to_second_places (Place.Subsecond ∷ offset_places) nothing_read k n (bytes ++ tail) (mid ++ tail) tail
       (stand to_second_places nothing_read k bytes mid refl first.1.1)
       (s.0 ++ tail, s.1, cut Place.Subsecond k s.1 mid s.0 (λ is. long) s.2, stand offset_places s.1 n s.0 [] refl s.3)
 
@@ -109,12 +110,18 @@ module _ (tail : List ℕ) where
 pub front-moment : (bytes tail : List ℕ) (v : OffsetDateTime)
     → IsOutcome (IsMoment greatest_year) (Reads greatest_year) (Refuses greatest_year) bytes empty (Ok v)
     → IsFront (IsMoment greatest_year) (Reads greatest_year) (Refuses greatest_year) (bytes ++ tail) empty (Ok (v, tail))
-front-moment bytes tail v (r, (n, m, whole, month, put), moment) = (r, (n, m, form tail bytes n whole, month, put), moment)
+front-moment bytes tail v (r, read, moment) =
+    let (separator, (n, m, whole, month, put)) = (strict_texts greatest_year bytes empty [] r).0 read in (
+      r,
+      (strict_texts greatest_year (bytes ++ tail) empty tail r).1
+          (separator-append bytes tail separator, (n, m, form tail bytes n whole, month, put)),
+      moment,
+    )
 
 -- a prefix of a text parses as the moment
 pub front_said : (text : List ℕ) (end : ℕ) (v : OffsetDateTime) → end ≤ length text
     → IsOutcome (IsMoment greatest_year) (Reads greatest_year) (Refuses greatest_year) (take end text) empty (Ok v)
-    → IsReadBy greatest_year true (direct (RefusesRfc3339 greatest_year)) (Reads greatest_year) (Refuses greatest_year) text (Ok (said v end))
+    → IsReadBy true (direct (RefusesDirectly greatest_year)) (Reads greatest_year) (Refuses greatest_year) text (Ok (said v end))
 front_said text end v fits moment =
     let rest = drop end text in
     let long : end ≡ length text - length rest = omega (arith, fits, length-drop end text) in (
@@ -153,7 +160,7 @@ run_ends (a ∷ []) after rest v h = absurd (omega (arith, h.enough))
 run_ends (a ∷ b ∷ []) after rest v h = record { before = a ∷ []; end = b; is_end = digit_ends b h.digits.1.0; whole = refl }
 run_ends (a ∷ b ∷ c ∷ text) after rest v h = absurd (omega (arith, h.within))
 
-hour_ends : (n m : Numbers) (bytes rest : List ℕ) → Cut (Asks true Place.OffsetHour n) bytes rest m → EndsBefore bytes rest
+hour_ends : (n m : Numbers) (bytes rest : List ℕ) → Cut (PlaceSyntax true Place.OffsetHour n) bytes rest m → EndsBefore bytes rest
 hour_ends n m bytes rest (text, e, inl utc) = record {
   before = [];
   end = utc.0.0;
@@ -173,8 +180,8 @@ minute_ends false n m bytes mid next last colon minute ends e is f asks =
     (ends.whole ∙ ap (λ x. ends.before ++ ends.end ∷ x) e ∙ sym (append_assoc ends.before (ends.end ∷ colon) next))
     (subst (λ x. EndsBefore x last) (sym f) (run_ends minute last last asks.0 asks.1.0))
 
-offset_ends : (n m : Numbers) (bytes rest : List ℕ) → Stand (Asks true) offset_places n bytes rest m → EndsBefore bytes rest
-unfolding Stand
+offset_ends : (n m : Numbers) (bytes rest : List ℕ) → MatchesPlaces (PlaceSyntax true) offset_places n bytes rest m → EndsBefore bytes rest
+unfolding MatchesPlaces
 offset_ends n m bytes rest (mid, k, hour, (next, j, (colon, e, (is, same)), (last, i, (minute, f, asks), (ended, all)))) =
     subst (EndsBefore bytes) (sym ended)
     (minute_ends j.is_utc j i bytes mid next last colon minute (hour_ends n k bytes mid hour) e
@@ -182,8 +189,8 @@ offset_ends n m bytes rest (mid, k, hour, (next, j, (colon, e, (is, same)), (las
 
 form_ends : (bytes rest : List ℕ) (n : Numbers) → HasForm true bytes rest n → EndsBefore bytes rest
 form_ends bytes rest n h =
-    let cut = Stand-split (Asks true) (date_places ++ time_places) offset_places nothing_read n bytes rest h in
-    let before = Stand-ends (Asks true) (date_places ++ time_places) nothing_read cut.1.0 bytes cut.0 cut.1.1 in
+    let cut = MatchesPlaces-split (PlaceSyntax true) (date_places ++ time_places) offset_places nothing_read n bytes rest h in
+    let before = MatchesPlaces-ends (PlaceSyntax true) (date_places ++ time_places) nothing_read cut.1.0 bytes cut.0 cut.1.1 in
     ends_longer before.0 cut.0 rest bytes before.1 (offset_ends cut.1.0 n cut.0 rest cut.1.2)
 
 what_is_left : (text rest : List ℕ) (ends : EndsBefore text rest) → drop (length text - length rest) text ≡ rest
@@ -193,18 +200,19 @@ what_is_left text rest ends =
     let long : length text - length rest ≡ length front = omega (arith, ap length whole, length-append front rest) in
     ap (λ (n : ℕ). drop n text) long ∙ ap (drop (length front)) whole ∙ drop-append_seam front rest
 
-pub front_ends : (Y : ℕ) (text : List ℕ) (s : Match) → IsReadInFront Y text (Ok s) → EndsBefore text (drop s.length text)
-front_ends Y text s (Ok (v, rest), (r, (n, m, form, month, put), moment), e) =
-    let ends = form_ends text rest n form in
+pub front_ends : (text : List ℕ) (s : Match) → IsReadInFront text (Ok s) → EndsBefore text (drop s.length text)
+front_ends text s (Ok (v, rest), (r, read, moment), e) =
+    let form = ((strict_texts greatest_year text empty rest r).0 read).1 in
+    let ends = form_ends text rest form.0 form.2 in
     let same : s ≡ said v (length text - length rest) = cc in
     subst (EndsBefore text) (sym (ap (λ (x : Match). drop x.length text) same ∙ what_is_left text rest ends)) ends
-front_ends Y text s (Err f, front, e) = absurd cc
+front_ends text s (Err f, front, e) = absurd cc
 
 -- ---- A text of RFC 3339 with a suffix that fits its moment parses back
 
 -- the moment of a whole text
 whole-moment : (text : List ℕ) (defaults : Defaults) (v : OffsetDateTime)
-    → ParsesAs greatest_year Reading.Rfc3339 false text defaults (Ok (said v (length text)))
+    → ParsesAs Reading.Rfc3339 false text defaults (Ok (said v (length text)))
     → IsOutcome (IsMoment greatest_year) (Reads greatest_year) (Refuses greatest_year) text empty (Ok v)
 whole-moment text defaults v (Ok s, (Ok w, outcome, zoned_whole), is) =
     let same : said v (length text) ≡ said w (length text) = cc in
@@ -231,16 +239,16 @@ module _ (zones : Zones) (v : OffsetDateTime) (text behind : List ℕ) (zone : O
         longest = λ n z t within it. within;
       })
 
-  suffixed : IsSuffix behind zone tags → GoesWith zones (tells_offset text) v zone (critical_key tags) (Ok tt)
+  suffixed : IsSuffix behind zone tags → AgreesWith zones (has_local_offset text) v zone (critical_key tags) (Ok tt)
       → IsSuffixed zones false zoned_whole (said v (length text)) (Ok (said v (length zoned_whole)))
   suffixed is goes =
       let ended : has_tail false zoned_whole (length text + length behind) ≡ false =
       none_left (length text + length behind) (length zoned_whole) (length-append text behind) in
-      let with_front = subst (λ (front : List ℕ). GoesWith zones (tells_offset front) v zone (critical_key tags) (Ok tt))
+      let with_front = subst (λ (front : List ℕ). AgreesWith zones (has_local_offset front) v zone (critical_key tags) (Ok tt))
       (sym (take-append_seam text behind)) goes in
       (suffix, longest is, rw ended (Ok tt, with_front, ap (λ (n : ℕ). Ok (said v n)) (length-append text behind)))
 
-pub reads_suffixed_back : ReadsSuffixedBack greatest_year
+pub reads_suffixed_back : ReadsSuffixedBack
 reads_suffixed_back zones defaults v text behind zone tags read says is goes reads =
     let moment = subst (λ (front : List ℕ). IsOutcome (IsMoment greatest_year) (Reads greatest_year) (Refuses greatest_year) front empty (Ok v))
     (sym (take-append_seam text behind)) (whole-moment text defaults v says) in

@@ -12,5 +12,5 @@ pub mod MissingFieldTrees
 pub mod MissingFieldMoments
 pub mod MissingFieldUses
 pub mod ParseLemmas
-pub mod GivesLemmas
+pub mod SatisfiesLemmas
 pub mod EquivalentFormats

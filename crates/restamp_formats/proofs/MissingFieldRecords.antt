@@ -1,4 +1,5 @@
--- The parts that a record has, component by component. `Y` is the greatest year.
+-- The parts that a record has, component by component.
+use Rattle.time_values.specs.Calendar.{greatest_year}
 use Rattle.std.proofs.Common.{Ok, Err, arith, ◌≡◌, ℕ, ℤ, Bool, true, None, Some, Option, Result, MatchOption, IsOkAnd, ◌||◌, ◌&&◌, is_some}
 use Rattle.std.specs.Option.{option_or}
 use Rattle.time_record.specs.Resolution.{IsDated, IsStamped, by_iso_week, by_sunday_week, by_monday_week, first_row}
@@ -56,9 +57,9 @@ said-put_here : (k : Kind) (e : Entry) (r : Record) → said k (put_here e r) �
 said-put_here k e r = grind arith
 
 -- setting a component's value adds the component's part, and changes no other
-pub put_tells : (Y : ℕ) (k : Kind) (c : Component) (v : Value) (r q : Record) → put_value Y c v r ≡ Some q → said k q ≡ (same (kind_of c) k || said k r)
-put_tells Y k (Component.Day m) v r q is = grind (arith, said-put_here)
-put_tells Y k c v r q is = grind (arith, said-put_here)
+pub put_tells : (k : Kind) (c : Component) (v : Value) (r q : Record) → put_value greatest_year c v r ≡ Some q → said k q ≡ (same (kind_of c) k || said k r)
+put_tells k (Component.Day m) v r q is = grind (arith, said-put_here)
+put_tells k c v r q is = grind (arith, said-put_here)
 
 -- ---- The parts of a record with a date, and with a count from 1970
 
@@ -84,30 +85,31 @@ row_parts : (year iso_year : Option ℤ) (r : Record)
 row_parts year iso_year r is = grind arith
 
 -- a record with a date has its parts
-pub dated_parts : (Y : ℕ) (r : Record) (d : Date) → IsDated Y r (Ok d)
+pub dated_parts : (r : Record) (d : Date) → IsDated greatest_year r (Ok d)
     → ((day_of r && is_some (full_year r)) || (iso_day_of r && is_some (full_iso_year r))) ≡ true
 unfolding IsDated
-dated_parts Y r d is = row_parts (full_year r) (full_iso_year r) r (found d (first_row r) _ is)
+dated_parts r d is = row_parts (full_year r) (full_iso_year r) r (found d (first_row r) _ is)
 
 -- defaults change neither a count from 1970 nor a fraction
-module _ (Y : ℕ) (defaults : Defaults) (r : Record) where
-  pub count_stays : (completed Y defaults r).unix_timestamp_nanos ≡ r.unix_timestamp_nanos
+module _ (defaults : Defaults) (r : Record) where
+  pub count_stays : (completed defaults r).unix_timestamp_nanos ≡ r.unix_timestamp_nanos
   count_stays = grind arith
 
-  pub fraction_stays : (completed Y defaults r).subsecond ≡ r.subsecond
+  pub fraction_stays : (completed defaults r).subsecond ≡ r.subsecond
   fraction_stays = grind arith
 
 -- the moment of a record with a count from 1970 comes from the count and its fraction alone
-abbrev pub CountedAt : ℕ → Result OffsetDateTime Refusal → Option ℕ → ℤ → Type 0
-CountedAt Y result fraction n = IsOkAnd result (λ v. IsStamped Y n fraction (offset_date v) (offset_time v) × IsUtc (offset_of v))
+abbrev pub CountedAt : Result OffsetDateTime Refusal → Option ℕ → ℤ → Type 0
+CountedAt result fraction n = IsOkAnd result (λ v. IsStamped greatest_year n fraction (offset_date v) (offset_time v) × IsUtc (offset_of v))
 
-pub counted_moment : (Y : ℕ) (q p : Record) (result : Result OffsetDateTime Refusal) → is_some p.unix_timestamp_nanos ≡ true
-    → q.unix_timestamp_nanos ≡ p.unix_timestamp_nanos → q.subsecond ≡ p.subsecond → IsMoment Y p result → IsMoment Y q result
+pub counted_moment : (q p : Record) (result : Result OffsetDateTime Refusal) → is_some p.unix_timestamp_nanos ≡ true
+    → q.unix_timestamp_nanos ≡ p.unix_timestamp_nanos → q.subsecond ≡ p.subsecond → IsMoment greatest_year p result → IsMoment greatest_year q result
 unfolding IsMoment
-counted_moment Y q p result counts same_count same_fraction is =
+counted_moment q p result counts same_count same_fraction is =
     by_count q.unix_timestamp_nanos p.unix_timestamp_nanos q.subsecond p.subsecond counts same_count same_fraction is
   where
     by_count : (n m : Option ℤ) (s t : Option ℕ) → is_some m ≡ true → n ≡ m → s ≡ t
-        → MatchOption m (IsMomentOfParts Y p result) (CountedAt Y result t) → MatchOption n (IsMomentOfParts Y q result) (CountedAt Y result s)
+        → MatchOption m (IsMomentOfParts greatest_year p result) (CountedAt result t) → MatchOption n (IsMomentOfParts greatest_year q result)
+        (CountedAt result s)
     by_count n None s t counts e f h = absurd cc
     by_count n (Some m) s t counts e f h = rw (e, f) h

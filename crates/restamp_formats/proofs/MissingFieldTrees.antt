@@ -1,4 +1,5 @@
--- The record of a reading has the parts that the tree's components give. `Y` is the greatest year.
+-- The record of a reading has the parts that the tree's components give.
+use Rattle.time_values.specs.Calendar.{greatest_year}
 use Rattle.std.proofs.Common.{◌||◌, ◌&&◌, ⊎_elim, ◌≡◌, ℕ, zero, suc, ◌≤◌, Bool, true, false, List, [], ◌∷◌, length, get_or, take, drop, refl, ap, sym, ◌∙◌, arith, length-take, length-drop, inl, inr, subst}
 use Rattle.std.proofs.lemmas.{List.Folds.list_any-append, List.take-append-drop, Bool.and_parts, Bool.or_cases, Bool.or_left, Bool.or_right}
 use Rattle.std.specs.List.{list_any}
@@ -89,28 +90,28 @@ from_either : (first later between before : Bool) → (later || between) ≡ tru
     → ((first || later) || before) ≡ true
 from_either first later between before is then = grind arith
 
-module _ (Y : ℕ) (k : Kind) where
+module _ (k : Kind) where
   mutual
     unfolding Reads ReadsAll ReadsSome
 
     -- a part of the record after a reading was in it before, or the tree gives it
-    pub only : (t : Tree) (b : List ℕ) (r : Record) (rest : List ℕ) (q : Record) → Reads Y t b r rest q → said k q ≡ true
+    pub only : (t : Tree) (b : List ℕ) (r : Record) (rest : List ℕ) (q : Record) → Reads greatest_year t b r rest q → said k q ≡ true
         → (has_kind k t || said k r) ≡ true
     only (tree_literal text) b r rest q h s = ap (said k) (sym h.1) ∙ s
-    only (component w c) b r rest q h s = sym (put_tells Y k c h.value r q h.puts) ∙ s
+    only (component w c) b r rest q h s = sym (put_tells k c h.value r q h.puts) ∙ s
     only (sequence ts) b r rest q h s = only_all ts b r rest q h s
     only (optional t) b r rest q (inl h) s = only t b r rest q h s
     only (optional t) b r rest q (inr h) s = or_right (has_kind k t) (said k r) (ap (said k) (sym h.2) ∙ s)
     only (first_of tree_none) b r rest q h s = ap (said k) (sym h.1) ∙ s
     only (first_of (more t ts)) b r rest q h s = only_some (more t ts) b r rest q h s
 
-    only_all : (ts : Trees) (b : List ℕ) (r : Record) (rest : List ℕ) (q : Record) → ReadsAll Y ts b r rest q → said k q ≡ true
+    only_all : (ts : Trees) (b : List ℕ) (r : Record) (rest : List ℕ) (q : Record) → ReadsAll greatest_year ts b r rest q → said k q ≡ true
         → (one_has k ts || said k r) ≡ true
     only_all tree_none b r rest q h s = ap (said k) (sym h.1) ∙ s
     only_all (more t ts) b r rest q (mid, p, h, hs) s =
         from_either (has_kind k t) (one_has k ts) (said k p) (said k r) (only_all ts mid p rest q hs s) (only t b r mid p h)
 
-    only_some : (ts : Trees) (b : List ℕ) (r : Record) (rest : List ℕ) (q : Record) → ReadsSome Y ts b r rest q → said k q ≡ true
+    only_some : (ts : Trees) (b : List ℕ) (r : Record) (rest : List ℕ) (q : Record) → ReadsSome greatest_year ts b r rest q → said k q ≡ true
         → (one_has k ts || said k r) ≡ true
     only_some tree_none b r rest q h s = absurd h
     only_some (more t ts) b r rest q (inl h) s =
@@ -127,17 +128,17 @@ pub record SaysPart (p : Part) (r : Record) : Type 0 where
 same-one : (k : Kind) → same k k ≡ true
 same-one k = grind arith
 
-module _ (Y : ℕ) (p : Part) where
+module _ (p : Part) where
   mutual
     unfolding Reads ReadsAll ReadsSome
 
     -- a part that was present is still present
-    kept : (t : Tree) (b : List ℕ) (r : Record) (rest : List ℕ) (q : Record) → Reads Y t b r rest q → SaysPart p r → SaysPart p q
+    kept : (t : Tree) (b : List ℕ) (r : Record) (rest : List ℕ) (q : Record) → Reads greatest_year t b r rest q → SaysPart p r → SaysPart p q
     kept (tree_literal text) b r rest q h s = subst (SaysPart p) (sym h.1) s
     kept (component w c) b r rest q h s = record {
       of = s.of;
       is = s.is;
-      said = put_tells Y s.of c h.value r q h.puts ∙ or_right (same (kind_of c) s.of) (said s.of r) s.said;
+      said = put_tells s.of c h.value r q h.puts ∙ or_right (same (kind_of c) s.of) (said s.of r) s.said;
     }
     kept (sequence ts) b r rest q h s = kept_all ts b r rest q h s
     kept (optional t) b r rest q (inl h) s = kept t b r rest q h s
@@ -145,11 +146,11 @@ module _ (Y : ℕ) (p : Part) where
     kept (first_of tree_none) b r rest q h s = subst (SaysPart p) (sym h.1) s
     kept (first_of (more t ts)) b r rest q h s = kept_some (more t ts) b r rest q h s
 
-    kept_all : (ts : Trees) (b : List ℕ) (r : Record) (rest : List ℕ) (q : Record) → ReadsAll Y ts b r rest q → SaysPart p r → SaysPart p q
+    kept_all : (ts : Trees) (b : List ℕ) (r : Record) (rest : List ℕ) (q : Record) → ReadsAll greatest_year ts b r rest q → SaysPart p r → SaysPart p q
     kept_all tree_none b r rest q h s = subst (SaysPart p) (sym h.1) s
     kept_all (more t ts) b r rest q (mid, m, h, hs) s = kept_all ts mid m rest q hs (kept t b r mid m h s)
 
-    kept_some : (ts : Trees) (b : List ℕ) (r : Record) (rest : List ℕ) (q : Record) → ReadsSome Y ts b r rest q → SaysPart p r → SaysPart p q
+    kept_some : (ts : Trees) (b : List ℕ) (r : Record) (rest : List ℕ) (q : Record) → ReadsSome greatest_year ts b r rest q → SaysPart p r → SaysPart p q
     kept_some tree_none b r rest q h s = absurd h
     kept_some (more t ts) b r rest q (inl h) s = kept t b r rest q h s
     kept_some (more t ts) b r rest q (inr h) s = kept_some ts b r rest q h.1 s
@@ -158,26 +159,26 @@ module _ (Y : ℕ) (p : Part) where
     unfolding Reads ReadsAll ReadsSome
 
     -- each reading of a tree that always gives a part has it
-    pub part_said : (t : Tree) (b : List ℕ) (r : Record) (rest : List ℕ) (q : Record) → always p t ≡ true → Reads Y t b r rest q → SaysPart p q
+    pub part_said : (t : Tree) (b : List ℕ) (r : Record) (rest : List ℕ) (q : Record) → always p t ≡ true → Reads greatest_year t b r rest q → SaysPart p q
     part_said (tree_literal text) b r rest q e h = absurd cc
     part_said (component w c) b r rest q e h = record {
       of = kind_of c;
       is = e;
-      said = put_tells Y (kind_of c) c h.value r q h.puts ∙ or_left (same (kind_of c) (kind_of c)) (said (kind_of c) r) (same-one (kind_of c));
+      said = put_tells (kind_of c) c h.value r q h.puts ∙ or_left (same (kind_of c) (kind_of c)) (said (kind_of c) r) (same-one (kind_of c));
     }
     part_said (sequence ts) b r rest q e h = part_said_all ts b r rest q e h
     part_said (optional t) b r rest q e h = absurd cc
     part_said (first_of tree_none) b r rest q e h = absurd cc
     part_said (first_of (more t ts)) b r rest q e h = part_said_some (more t ts) b r rest q e h
 
-    part_said_all : (ts : Trees) (b : List ℕ) (r : Record) (rest : List ℕ) (q : Record) → one_always p ts ≡ true → ReadsAll Y ts b r rest q
+    part_said_all : (ts : Trees) (b : List ℕ) (r : Record) (rest : List ℕ) (q : Record) → one_always p ts ≡ true → ReadsAll greatest_year ts b r rest q
         → SaysPart p q
     part_said_all tree_none b r rest q e h = absurd cc
     part_said_all (more t ts) b r rest q e (mid, m, h, hs) =
         ⊎_elim (λ now. kept_all ts mid m rest q hs (part_said t b r mid m now h)) (λ later. part_said_all ts mid m rest q later hs)
         (or_cases (always p t) (one_always p ts) e)
 
-    part_said_some : (ts : Trees) (b : List ℕ) (r : Record) (rest : List ℕ) (q : Record) → each_always p ts ≡ true → ReadsSome Y ts b r rest q
+    part_said_some : (ts : Trees) (b : List ℕ) (r : Record) (rest : List ℕ) (q : Record) → each_always p ts ≡ true → ReadsSome greatest_year ts b r rest q
         → SaysPart p q
     part_said_some tree_none b r rest q e h = absurd h
     part_said_some (more t ts) b r rest q e (inl h) = part_said t b r rest q (and_parts (always p t) (each_always p ts) e).0 h

@@ -4,11 +4,11 @@ use Rattle.std.proofs.lemmas.Int.{ints}
 use Rattle.std.specs.Fmt.{signed_decimal}
 use Rattle.time_values.specs.Instants.{clock_nanos}
 use Rattle.time_values.proofs.{InstantLemmas.instant_is, InstantLemmas.clock_nanos_range, InstantLemmas.same_moment, NumberLemmas.same_weekday}
-use Rattle.time_zones.specs.{Suffix.Says, Suffix.zone_tag_of, declared.suffix.Suffixed.Suffixed}
+use Rattle.time_zones.specs.{Suffix.ParsesSuffix, Suffix.zone_tag_of, declared.suffix.Suffixed.Suffixed}
 use Rattle.time_zones.proofs.{FolderLemmas.same_offset_by_seconds, FolderLemmas.one_check, LongestLemmas.suffix_once}
 use Rattle.time_formatting.specs.WellKnown.{mail_text}
-use Rattle.restamp_formats.specs.Common.{TimeZone, shown_at, offset_date, offset_time, offset_of, offset_instant, IsInstant, IsWhole, greatest_year, Items, OffsetDateTime, UtcOffset, trailing, Checked, GoesWith, IsLongest, IsSuffix, Tag, critical_key, Zones, WritesSuch, IsMailText, FractionDigits, Unwritable, Clock, Form, Named, Writing, Match}
-use Rattle.restamp_formats.specs.Zoned.{IsConvertedTo, IsConvertedIn, IsConverted, conversion_error, IsChecked, IsLongestSuffix, IsSuffixed, Suffix, checked, extended, has_tail, tells_offset}
+use Rattle.restamp_formats.specs.Common.{TimeZone, local_time_at, offset_date, offset_time, offset_of, offset_instant, IsInstant, IsWhole, greatest_year, Items, OffsetDateTime, UtcOffset, trailing, Checked, AgreesWith, IsLongest, IsSuffix, Tag, critical_key, Zones, WritesTextWith, IsMailText, FractionDigits, Unwritable, Clock, Form, Named, Writing, Match}
+use Rattle.restamp_formats.specs.Zoned.{IsConvertedTo, IsConvertedIn, IsConverted, conversion_error, IsChecked, IsLongestSuffix, IsSuffixed, Suffix, checked, extended, has_tail, has_local_offset}
 use Rattle.restamp_formats.specs.Form.{IsCounted, IsNamedText, IsWrittenBy, IsWritten, unit_of, written}
 use Rattle.restamp_formats.specs.{Reason.Reason, Reason.unread, declared.form.Unit.Unit as Unit_}
 
@@ -30,7 +30,7 @@ one_bool false P Q x y one other p q = other p q
 
 -- the local date and time of a moment
 clock_is : (v : OffsetDateTime)
-    → clock_nanos greatest_year (offset_date v) (offset_time v) ≡ shown_at (offset_instant greatest_year v) (offset_of v)
+    → clock_nanos greatest_year (offset_date v) (offset_time v) ≡ local_time_at (offset_instant greatest_year v) (offset_of v)
 clock_is v = let e = instant_is (offset_date v) (offset_time v) (offset_of v) in omega (arith, ints, e)
 
 -- moments with one instant and one offset are equal
@@ -38,30 +38,30 @@ pub same_shown : (v w : OffsetDateTime)
     → offset_instant greatest_year v ≡ offset_instant greatest_year w → offset_of v ≡ offset_of w → v ≡ w
 same_shown v w e o =
     let clocks : clock_nanos greatest_year (offset_date v) (offset_time v) ≡ clock_nanos greatest_year (offset_date w) (offset_time w) =
-    clock_is v ∙ ap (λ n. shown_at n (offset_of v)) e ∙ ap (shown_at (offset_instant greatest_year w)) o ∙ sym (clock_is w) in
+    clock_is v ∙ ap (λ n. local_time_at n (offset_of v)) e ∙ ap (local_time_at (offset_instant greatest_year w)) o ∙ sym (clock_is w) in
     let parts = same_moment (offset_date v) (offset_date w) (offset_time v) (offset_time w) clocks in
     λ j. record { date = parts.0 j; time = parts.1 j; offset = o j }
 
 -- a moment has a date at its own offset
-pub converted_in : (v : OffsetDateTime) → IsInstant greatest_year (shown_at (offset_instant greatest_year v) (offset_of v))
+pub converted_in : (v : OffsetDateTime) → IsInstant greatest_year (local_time_at (offset_instant greatest_year v) (offset_of v))
 converted_in v = subst (IsInstant greatest_year) (clock_is v) (clock_nanos_range (offset_date v) (offset_time v))
 
 -- a moment has a date at the offset that it is converted to
-date_at : (o : UtcOffset) (v w : OffsetDateTime) → IsConvertedTo greatest_year o v (Some w)
-    → IsInstant greatest_year (shown_at (offset_instant greatest_year v) o)
+date_at : (o : UtcOffset) (v w : OffsetDateTime) → IsConvertedTo o v (Some w)
+    → IsInstant greatest_year (local_time_at (offset_instant greatest_year v) o)
 date_at o v w is =
-    subst (λ n. IsInstant greatest_year (shown_at n o)) is.0
-    (subst (λ k. IsInstant greatest_year (shown_at (offset_instant greatest_year w) k)) is.1 (converted_in w))
+    subst (λ n. IsInstant greatest_year (local_time_at n o)) is.0
+    (subst (λ k. IsInstant greatest_year (local_time_at (offset_instant greatest_year w) k)) is.1 (converted_in w))
 
 one_shown_at : (o : UtcOffset) (v : OffsetDateTime) (a b : Option OffsetDateTime)
-    → IsConvertedTo greatest_year o v a → IsConvertedTo greatest_year o v b → a ≡ b
+    → IsConvertedTo o v a → IsConvertedTo o v b → a ≡ b
 one_shown_at o v None None p q = refl
 one_shown_at o v None (Some w) p q = absurd (p (date_at o v w q))
 one_shown_at o v (Some w) None p q = absurd (q (date_at o v w p))
 one_shown_at o v (Some w) (Some x) p q = ap Some (same_shown w x (p.0 ∙ sym q.0) (p.1 ∙ sym q.1))
 
 one_shown_in : (zone : TimeZone) (v : OffsetDateTime) (a b : Option OffsetDateTime)
-    → IsConvertedIn greatest_year zone v a → IsConvertedIn greatest_year zone v b → a ≡ b
+    → IsConvertedIn zone v a → IsConvertedIn zone v b → a ≡ b
 one_shown_in zone v None None p q = refl
 one_shown_in zone v None (Some w) p q = absurd (p q.1)
 one_shown_in zone v (Some w) None p q = absurd (q p.1)
@@ -69,7 +69,7 @@ one_shown_in zone v (Some w) (Some x) p q =
     ap Some (same_shown w x (p.0 ∙ sym q.0) (same_offset_by_seconds (offset_of w) (offset_of x) (p.2 ∙ sym q.2)))
 
 pub one_shown : (on : Clock) (v : OffsetDateTime) (a b : Option OffsetDateTime)
-    → IsConverted greatest_year on v a → IsConverted greatest_year on v b → a ≡ b
+    → IsConverted on v a → IsConverted on v b → a ≡ b
 one_shown Clock.Own v a b p q = p ∙ sym q
 one_shown (Clock.Fixed o) v a b p q = one_shown_at o v a b p q
 one_shown (Clock.Zone zone) v a b p q = one_shown_in zone v a b p q
@@ -78,7 +78,7 @@ same_items : (s t : Items) → s.items ≡ t.items → s ≡ t
 same_items s t e = λ j. record { items = e j }
 
 one_such : (reason : Option Unwritable) (such : List ℕ → Type 0) (a b : Result Items Unwritable)
-    → ((s t : List ℕ) → such s → such t → s ≡ t) → WritesSuch reason such a → WritesSuch reason such b → a ≡ b
+    → ((s t : List ℕ) → such s → such t → s ≡ t) → WritesTextWith reason such a → WritesTextWith reason such b → a ≡ b
 one_such (Some why) such a b one p q = p ∙ sym q
 one_such None such (Ok s) (Ok t) one p q = ap Ok (same_items s t (one s.items t.items p q))
 one_such None such (Ok s) (Err e) one p q = absurd q
@@ -91,7 +91,7 @@ one_whole : (unit : Unit_) (n x y : ℤ) → IsWhole (unit_of unit) n x → IsWh
 one_whole unit n x y p q = grind (arith, ints)
 
 one_count : (unit : Unit_) (v : OffsetDateTime) (a b : Result Items Reason)
-    → IsCounted greatest_year unit v a → IsCounted greatest_year unit v b → a ≡ b
+    → IsCounted unit v a → IsCounted unit v b → a ≡ b
 one_count unit v (Ok s) (Ok t) p q =
     ap Ok (same_items s t (p.1.2 ∙ ap signed_decimal (one_whole unit (offset_instant greatest_year v) p.1.0 q.1.0 p.1.1 q.1.1) ∙ sym q.1.2))
 one_count unit v (Ok s) (Err e) p q = absurd (q.1 p.0)
@@ -99,24 +99,24 @@ one_count unit v (Err e) (Ok t) p q = absurd (p.1 q.0)
 one_count unit v (Err e) (Err f) p q = ap Err (p.0 ∙ sym q.0)
 
 one_named : (named : Named) (digits : FractionDigits) (v : OffsetDateTime) (a b : Result Items Reason)
-    → IsNamedText greatest_year named digits v a → IsNamedText greatest_year named digits v b → a ≡ b
+    → IsNamedText named digits v a → IsNamedText named digits v b → a ≡ b
 one_named Named.Rfc3339 digits v a b p q = p.2 ∙ ap written (one_such _ (λ t. t ≡ _) p.0 q.0 (λ s t. both_are) p.1 q.1) ∙ sym q.2
 one_named Named.Rfc2822 digits v a b p q = p.2 ∙ ap written (one_such _ (IsMailText v) p.0 q.0 (one_mail_text v) p.1 q.1) ∙ sym q.2
 one_named Named.Iso8601 digits v a b p q = p.2 ∙ ap written (one_such _ (λ t. t ≡ _) p.0 q.0 (λ s t. both_are) p.1 q.1) ∙ sym q.2
 one_named (Named.Count unit) digits v a b p q = one_count unit v a b p q
 
 one_by : (writing : Writing) (digits : FractionDigits) (v : OffsetDateTime) (a b : Result Items Reason)
-    → IsWrittenBy greatest_year writing digits v a → IsWrittenBy greatest_year writing digits v b → a ≡ b
+    → IsWrittenBy writing digits v a → IsWrittenBy writing digits v b → a ≡ b
 one_by (Writing.Named named) digits v a b p q = one_named named digits v a b p q
 one_by (Writing.Described d) digits v a b p q = p ∙ sym q
 
 pub one_written : (form : Form) (v : OffsetDateTime) (a b : Result Items Reason)
-    → IsWritten greatest_year form v a → IsWritten greatest_year form v b → a ≡ b
+    → IsWritten form v a → IsWritten form v b → a ≡ b
 one_written form v a b p q =
-    one_option q.0 (λ x. x ≡ Err (conversion_error form.clock)) (λ w x. IsWrittenBy greatest_year form.writing.now form.digits w x) a b both_are
+    one_option q.0 (λ x. x ≡ Err (conversion_error form.clock)) (λ w x. IsWrittenBy form.writing.now form.digits w x) a b both_are
     (λ w. one_by form.writing.now form.digits w a b)
     (subst (λ (shown : Option OffsetDateTime). MatchOption shown (a ≡ Err (conversion_error form.clock))
-    (λ w. IsWrittenBy greatest_year form.writing.now form.digits w a)) (one_shown form.clock v p.0 q.0 p.1 q.1) p.2) q.2
+    (λ w. IsWrittenBy form.writing.now form.digits w a)) (one_shown form.clock v p.0 q.0 p.1 q.1) p.2) q.2
 
 -- ---- A timestamp with a suffix: the longest suffix after it is unique, and so is the match of both
 
@@ -133,7 +133,7 @@ module _ (zones : Zones) (text : List ℕ) (front : Match) where
   one_checked : (s : Suffix) (a b : Result Match Reason) → IsChecked zones text front s a → IsChecked zones text front s b → a ≡ b
   one_checked s a b p q =
       p.2 ∙ ap (checked (extended front s.len))
-      (one_check zones (tells_offset (take front.length text)) front.moment s.zone (critical_key s.tags) p.0 q.0 p.1 q.1) ∙ sym q.2
+      (one_check zones (has_local_offset (take front.length text)) front.moment s.zone (critical_key s.tags) p.0 q.0 p.1 q.1) ∙ sym q.2
 
   pub one_suffixed : (is_prefix : Bool) (a b : Result Match Reason) → IsSuffixed zones is_prefix text front a
       → IsSuffixed zones is_prefix text front b → a ≡ b
@@ -149,13 +149,13 @@ suffix_of r tags = record { len = r.len; zone = option_map zone_tag_of r.zone; t
 
 -- that suffix is the longest one after a prefix, and decides the match of the text
 pub read-longest : (text : List ℕ) (front : Match) (r : Suffixed) (rest : List ℕ) → rest ≡ drop front.length text → r.len ≤ length rest
-    → (says : Says (take r.len rest) r) → IsLongest rest r.len → IsLongestSuffix (drop front.length text) (suffix_of r says.0)
+    → (says : ParsesSuffix (take r.len rest) r) → IsLongest rest r.len → IsLongestSuffix (drop front.length text) (suffix_of r says.0)
 read-longest text front r rest cut within says longest =
     subst (λ (bytes : List ℕ). IsLongestSuffix bytes (suffix_of r says.0)) cut
     (record { within = within; is_suffix = says.1; longest = longest })
 
 module _ (zones : Zones) (is_prefix : Bool) (text : List ℕ) (front : Match) (r : Suffixed) (rest : List ℕ)
-    (cut : rest ≡ drop front.length text) (within : r.len ≤ length rest) (says : Says (take r.len rest) r)
+    (cut : rest ≡ drop front.length text) (within : r.len ≤ length rest) (says : ParsesSuffix (take r.len rest) r)
     (longest : IsLongest rest r.len) where
   found : IsLongestSuffix (drop front.length text) (suffix_of r says.0)
   found = read-longest text front r rest cut within says longest
@@ -164,10 +164,10 @@ module _ (zones : Zones) (is_prefix : Bool) (text : List ℕ) (front : Match) (r
   read-refused tail = (suffix_of r says.0, found, rw tail refl)
 
   pub read-checked : (tells : Bool) (answer : Checked) → has_tail is_prefix text (front.length + r.len) ≡ false
-      → tells ≡ tells_offset (take front.length text)
-      → GoesWith zones tells front.moment (option_map zone_tag_of r.zone) (option_map (λ key. key.now) r.critical_key) answer
+      → tells ≡ has_local_offset (take front.length text)
+      → AgreesWith zones tells front.moment (option_map zone_tag_of r.zone) (option_map (λ key. key.now) r.critical_key) answer
       → IsSuffixed zones is_prefix text front (checked (extended front r.len) answer)
   read-checked tells answer tail is goes =
-      let by_tags = subst (λ (key : Option (List ℕ)). GoesWith zones tells front.moment (option_map zone_tag_of r.zone) key answer) says.2 goes in
-      let by_front = subst (λ (b : Bool). GoesWith zones b front.moment (option_map zone_tag_of r.zone) (critical_key says.0) answer) is by_tags in
+      let by_tags = subst (λ (key : Option (List ℕ)). AgreesWith zones tells front.moment (option_map zone_tag_of r.zone) key answer) says.2 goes in
+      let by_front = subst (λ (b : Bool). AgreesWith zones b front.moment (option_map zone_tag_of r.zone) (critical_key says.0) answer) is by_tags in
       (suffix_of r says.0, found, rw tail (answer, by_front, refl))

@@ -7,14 +7,15 @@ pub use Rattle.std.specs.Prelude.{Ok, Err, MatchResult, IfOk, IsOkAnd}
 pub use Rattle.jiff_core.specs.Timestamp.{IsTimestampNanos}
 pub use Rattle.jiff_tz.specs.declared.timezone.TimeZone.{TimeZone}
 pub use Rattle.time_values.specs.Moments.{offset_date, offset_instant, offset_of, offset_time, plain_date, plain_time}
-pub use Rattle.time_values.specs.Moments.{shown_at, nanoseconds}
+pub use Rattle.time_values.specs.Moments.{local_time_at, nanoseconds}
 pub use Rattle.time_values.specs.Refusal.{Refusal, insufficient, refusal_of, trailing}
 pub use Rattle.time_values.specs.{Calendar.greatest_year, Instants.IsInstant, Instants.IsWhole, Offsets.IsUtc}
-pub use Rattle.time_values.specs.{Offsets.offset_seconds, Shown.Items, Shown.is_behind, declared.date.Date.Date}
+pub use Rattle.time_values.specs.{Offsets.offset_seconds, DisplayTexts.Items}
+pub use Rattle.time_values.specs.{DisplayTexts.is_behind, declared.date.Date.Date}
 pub use Rattle.time_values.specs.{declared.error.Parse.Parse, declared.offset_date_time.OffsetDateTime.OffsetDateTime}
 pub use Rattle.time_values.specs.{declared.plain_date_time.PlainDateTime.PlainDateTime, declared.time.Time.Time}
 pub use Rattle.time_values.specs.{declared.utc_offset.UtcOffset.UtcOffset}
-unfoldable pub use Rattle.time_values.specs.Shown.{fixed}
+unfoldable pub use Rattle.time_values.specs.DisplayTexts.{fixed}
 pub use Rattle.time_components.specs.Tree.{Tree, Trees, literal, component, sequence, optional, first_of, none, more}
 pub use Rattle.time_components.specs.Tree.{further, steps_shape}
 pub use Rattle.time_components.specs.{declared.format_description.Component.Component, declared.inspect.Step.Step}
@@ -22,18 +23,21 @@ pub use Rattle.time_descriptions.specs.Description.{shape, version_of}
 pub use Rattle.time_descriptions.specs.declared.description.Description.{Description}
 unfoldable pub use Rattle.time_descriptions.specs.{Grammar.Describes, Strftime.DescribesStrftime}
 pub use Rattle.time_formatting.specs.Components.{component_text, value_of, hour_12}
-pub use Rattle.time_formatting.specs.WellKnown.{IsMailText, WritesSuch, moment_text, unwritable_2822, unwritable_3339}
+pub use Rattle.time_formatting.specs.WellKnown.{IsMailText, WritesTextWith}
+pub use Rattle.time_formatting.specs.WellKnown.{moment_text, unwritable_2822, unwritable_3339}
 pub use Rattle.time_formatting.specs.{Texts.text_of, declared.parts.FractionDigits.FractionDigits}
 pub use Rattle.time_formatting.specs.{declared.parts.Unwritable.Unwritable, declared.walk.Unformattable.Unformattable}
-pub use Rattle.time_readers.specs.Direct.{RefusesRfc2822, RefusesRfc3339}
+pub use Rattle.time_readers.specs.Direct.{RefusesRfc2822}
+pub use Rattle.time_parsing.specs.Rfc3339Strict.{RefusesDirectly}
 pub use Rattle.time_record.specs.Resolution.{by_month_and_day, by_ordinal, full_iso_year, full_year, is_leap_second}
-pub use Rattle.time_record.specs.Resolution.{row_of_three, row_of_two, stand_in}
+pub use Rattle.time_record.specs.Resolution.{row_of_three, row_of_two, replace_leap_second}
 pub use Rattle.time_record.specs.{Components.put_value, Record.Record, Record.empty, Record.put, Record.year_is}
 unfoldable pub use Rattle.time_record.specs.Reading.{Reads, ReadsSome}
 unfoldable pub use Rattle.time_record.specs.Resolution.{IsMoment, IsMomentOfParts, IsOffset, IsPlain, IsTimed}
 pub use Rattle.time_parsing.specs.Outcome.{IsFront, IsOutcome, Path, Refusing, direct, over_record}
 pub use Rattle.time_zones.specs.Finding.{IsZoneIfAny, zone_named}
-pub use Rattle.time_zones.specs.Suffix.{Checked, GoesWith, GoesWithNamed, GoesWithZone, IsLongest, IsNameIn, IsSuffix}
+pub use Rattle.time_zones.specs.Suffix.{Checked, AgreesWith, AgreesWithNamed}
+pub use Rattle.time_zones.specs.Suffix.{AgreesWithZone, IsLongest, IsNameIn, IsSuffix}
 pub use Rattle.time_zones.specs.Suffix.{IsZoneText, Tag, Zone, ZoneTag, bracketed, critical_key, named}
 pub use Rattle.time_zones.specs.{declared.finding.NamedZone.NamedZone, declared.zones.Zones.Zones}
 pub use Rattle.restamp_formats.specs.declared.form.Unit.TheVariants.{Seconds, Milliseconds, Microseconds, Nanoseconds}

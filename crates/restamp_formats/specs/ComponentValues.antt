@@ -1,4 +1,5 @@
--- The values of a moment that components give, and when these determine it. `Y` is the greatest year.
+-- The values of a moment that components give, and when these determine it.
+use Rattle.time_values.specs.Calendar.{greatest_year}
 use Rattle.std.specs.Prelude.{◌≡◌, ◌∷◌, ◌++◌}
 use Rattle.time_values.specs.Sign.{signed_by}
 use Rattle.time_formatting.specs.Components.{Stops, count_of, half_of, weekday_of, kept}
@@ -9,7 +10,7 @@ use Rattle.time_values.specs.Times as Times
 use Rattle.restamp_formats.specs.Common.{ℕ, List, [], false, Option, None, Some, option_and_then, Result, Ok, Err, pos, unsigned_abs, MatchOption, OffsetDateTime, offset_date, offset_of, offset_time, is_behind, Date, Time, UtcOffset, Component, Tree, Trees, literal, component, sequence, optional, first_of, none, more, steps_shape, component_text, value_of, hour_12, Unformattable, put_value, Record, empty, full_year, Defaults, Reading}
 use Rattle.restamp_formats.specs.Reading.{IsCompleted, is_negative_fraction}
 
--- ---- The text of a moment by a tree, and when it parses back. `Y` is the greatest year.
+-- ---- The text of a moment by a tree, and when it parses back.
 
 -- a text, or no bytes if it can't be written
 abbrev pub or_nothing : Result (List ℕ) Unformattable → List ℕ
@@ -39,83 +40,84 @@ abbrev mutual
   first_pieces (more t ts) = pieces t
 
 -- the text of the pieces, however long it is
-abbrev pub whole_text : ℕ → OffsetDateTime → List Piece → List ℕ
-whole_text Y v [] = []
-whole_text Y v (verbatim text ∷ ps) = text ++ whole_text Y v ps
-whole_text Y v (part c ∷ ps) = or_nothing (component_text Y v c) ++ whole_text Y v ps
+abbrev pub whole_text : OffsetDateTime → List Piece → List ℕ
+whole_text v [] = []
+whole_text v (verbatim text ∷ ps) = text ++ whole_text v ps
+whole_text v (part c ∷ ps) = or_nothing (component_text greatest_year v c) ++ whole_text v ps
 
 -- Each component's text is followed by bytes that may follow it, so that it is parsed whole.
-abbrev pub AllStop : ℕ → OffsetDateTime → List Piece → Type 0
-AllStop Y v [] = Unit {0}
-AllStop Y v (verbatim text ∷ ps) = AllStop Y v ps
-AllStop Y v (part c ∷ ps) = Stops Y v c (whole_text Y v ps) × AllStop Y v ps
+abbrev pub AllStop : OffsetDateTime → List Piece → Type 0
+AllStop v [] = Unit {0}
+AllStop v (verbatim text ∷ ps) = AllStop v ps
+AllStop v (part c ∷ ps) = Stops greatest_year v c (whole_text v ps) × AllStop v ps
 
 -- the record with each component's value of the moment set in turn, or `None` if one is out of range
-abbrev pub put_values : ℕ → OffsetDateTime → List Piece → Record → Option Record
-put_values Y v [] r = Some r
-put_values Y v (verbatim text ∷ ps) r = put_values Y v ps r
-put_values Y v (part c ∷ ps) r = option_and_then (put_values Y v ps) (put_value Y c (value_of Y v c) r)
+abbrev pub put_values : OffsetDateTime → List Piece → Record → Option Record
+put_values v [] r = Some r
+put_values v (verbatim text ∷ ps) r = put_values v ps r
+put_values v (part c ∷ ps) r =
+    option_and_then (put_values v ps) (put_value greatest_year c (value_of greatest_year v c) r)
 
 -- The text of the moment by the tree determines it with the defaults: each component's text is parsed whole, and the
 -- values of the components make a record that resolves to that moment with the defaults.
-pub record DeterminesMoment (Y : ℕ) (tree : Tree) (defaults : Defaults) (v : OffsetDateTime) : Type 0 where
-  pub stops : AllStop Y v (pieces tree)
+pub record DeterminesMoment (tree : Tree) (defaults : Defaults) (v : OffsetDateTime) : Type 0 where
+  pub stops : AllStop v (pieces tree)
   pub after : Record
-  pub puts : put_values Y v (pieces tree) empty ≡ Some after
-  pub is : IsCompleted Y defaults after (Ok v)
+  pub puts : put_values v (pieces tree) empty ≡ Some after
+  pub is : IsCompleted defaults after (Ok v)
 
 -- no defaults
 abbrev pub no_defaults : Defaults
 no_defaults = record { year = None; offset = None; clocks = None; latest = None }
 
 -- The format has that tree, and parses all of the moment from its text by the tree.
-abbrev pub ReadsTree : ℕ → Reading → Defaults → Tree → OffsetDateTime → Type 0
-ReadsTree Y (Reading.Described d) defaults tree v = (steps_shape d ≡ tree) × DeterminesMoment Y tree defaults v
-ReadsTree Y (Reading.Complete d) defaults tree v = (steps_shape d ≡ tree) × DeterminesMoment Y tree no_defaults v
-ReadsTree Y (Reading.Counted d) defaults tree v =
-    (steps_shape d ≡ tree) × DeterminesMoment Y tree defaults v
-    × (is_negative_fraction (whole_text Y v (pieces tree)) ≡ false)
-ReadsTree Y format defaults tree v = ⊥
+abbrev pub ReadsTree : Reading → Defaults → Tree → OffsetDateTime → Type 0
+ReadsTree (Reading.Described d) defaults tree v = (steps_shape d ≡ tree) × DeterminesMoment tree defaults v
+ReadsTree (Reading.Complete d) defaults tree v = (steps_shape d ≡ tree) × DeterminesMoment tree no_defaults v
+ReadsTree (Reading.Counted d) defaults tree v =
+    (steps_shape d ≡ tree) × DeterminesMoment tree defaults v
+    × (is_negative_fraction (whole_text v (pieces tree)) ≡ false)
+ReadsTree format defaults tree v = ⊥
 
 -- the record with the component's value of the moment, which is a number or a name of the date, the time or the offset;
 -- `None` for any other component
-abbrev pub with_value_of : ℕ → OffsetDateTime → Component → Record → Option Record
-with_value_of Y v (Component.Day m) r = Some (record r { day = Some (Dates.day (offset_date v)) })
-with_value_of Y v (Component.MonthShort m) r = Some (record r { month = Some (Dates.month (offset_date v)) })
-with_value_of Y v (Component.MonthLong m) r = Some (record r { month = Some (Dates.month (offset_date v)) })
-with_value_of Y v (Component.MonthNumerical m) r = Some (record r { month = Some (Dates.month (offset_date v)) })
-with_value_of Y v (Component.Ordinal m) r = Some (record r { ordinal = Some (Dates.ordinal (offset_date v)) })
-with_value_of Y v (Component.WeekdayShort m) r = Some (record r { weekday = Some (weekday_of Y v) })
-with_value_of Y v (Component.WeekdayLong m) r = Some (record r { weekday = Some (weekday_of Y v) })
-with_value_of Y v (Component.WeekdaySunday m) r = Some (record r { weekday = Some (weekday_of Y v) })
-with_value_of Y v (Component.WeekdayMonday m) r = Some (record r { weekday = Some (weekday_of Y v) })
-with_value_of Y v (Component.CalendarYearFullExtendedRange m) r =
+abbrev pub with_value_of : OffsetDateTime → Component → Record → Option Record
+with_value_of v (Component.Day m) r = Some (record r { day = Some (Dates.day (offset_date v)) })
+with_value_of v (Component.MonthShort m) r = Some (record r { month = Some (Dates.month (offset_date v)) })
+with_value_of v (Component.MonthLong m) r = Some (record r { month = Some (Dates.month (offset_date v)) })
+with_value_of v (Component.MonthNumerical m) r = Some (record r { month = Some (Dates.month (offset_date v)) })
+with_value_of v (Component.Ordinal m) r = Some (record r { ordinal = Some (Dates.ordinal (offset_date v)) })
+with_value_of v (Component.WeekdayShort m) r = Some (record r { weekday = Some (weekday_of greatest_year v) })
+with_value_of v (Component.WeekdayLong m) r = Some (record r { weekday = Some (weekday_of greatest_year v) })
+with_value_of v (Component.WeekdaySunday m) r = Some (record r { weekday = Some (weekday_of greatest_year v) })
+with_value_of v (Component.WeekdayMonday m) r = Some (record r { weekday = Some (weekday_of greatest_year v) })
+with_value_of v (Component.CalendarYearFullExtendedRange m) r =
     Some (record r { year = Some (Dates.year (offset_date v)) })
-with_value_of Y v (Component.CalendarYearFullStandardRange m) r =
+with_value_of v (Component.CalendarYearFullStandardRange m) r =
     Some (record r { year = Some (Dates.year (offset_date v)) })
-with_value_of Y v (Component.Hour12 m) r = Some (record r { hour_12 = Some (hour_12 (Times.hour (offset_time v))) })
-with_value_of Y v (Component.Hour24 m) r = Some (record r { hour_24 = Some (Times.hour (offset_time v)) })
-with_value_of Y v (Component.Minute m) r = Some (record r { minute = Some (Times.minute (offset_time v)) })
-with_value_of Y v (Component.Period m) r =
+with_value_of v (Component.Hour12 m) r = Some (record r { hour_12 = Some (hour_12 (Times.hour (offset_time v))) })
+with_value_of v (Component.Hour24 m) r = Some (record r { hour_24 = Some (Times.hour (offset_time v)) })
+with_value_of v (Component.Minute m) r = Some (record r { minute = Some (Times.minute (offset_time v)) })
+with_value_of v (Component.Period m) r =
     Some (record r { hour_12_is_pm = Some (is_pm (half_of (Times.hour (offset_time v)))) })
-with_value_of Y v (Component.Second m) r = Some (record r { second = Some (Times.second (offset_time v)) })
-with_value_of Y v (Component.Subsecond m) r =
+with_value_of v (Component.Second m) r = Some (record r { second = Some (Times.second (offset_time v)) })
+with_value_of v (Component.Subsecond m) r =
     let n = Times.nanosecond (offset_time v) in Some (record r { subsecond = Some (kept (count_of m.digits n) n) })
-with_value_of Y v (Component.OffsetHour m) r =
+with_value_of v (Component.OffsetHour m) r =
     let o = offset_of v in
     Some (record r { offset_hour = Some (Offsets.hours o); offset_is_negative = is_behind o })
-with_value_of Y v (Component.OffsetMinute m) r =
+with_value_of v (Component.OffsetMinute m) r =
     Some (record r { offset_minute = Some (pos (unsigned_abs (Offsets.minutes (offset_of v)))) })
-with_value_of Y v (Component.OffsetSecond m) r =
+with_value_of v (Component.OffsetSecond m) r =
     Some (record r { offset_second = Some (pos (unsigned_abs (Offsets.seconds (offset_of v)))) })
-with_value_of Y v (Component.End m) r = Some r
-with_value_of Y v _ r = None
+with_value_of v (Component.End m) r = Some r
+with_value_of v _ r = None
 
 -- the record with the values of pieces in turn
-abbrev pub with_values_of : ℕ → OffsetDateTime → List Piece → Record → Option Record
-with_values_of Y v [] r = Some r
-with_values_of Y v (verbatim text ∷ ps) r = with_values_of Y v ps r
-with_values_of Y v (part c ∷ ps) r = option_and_then (with_values_of Y v ps) (with_value_of Y v c r)
+abbrev pub with_values_of : OffsetDateTime → List Piece → Record → Option Record
+with_values_of v [] r = Some r
+with_values_of v (verbatim text ∷ ps) r = with_values_of v ps r
+with_values_of v (part c ∷ ps) r = option_and_then (with_values_of v ps) (with_value_of v c r)
 
 -- The record has the year of the date, and its day of the year or, if that is absent, its month and day.
 abbrev pub HasDate : Record → Date → Type 0

@@ -1,13 +1,14 @@
 -- Laws of formats.
+use Rattle.time_values.specs.Calendar.{greatest_year}
 use Rattle.std.specs.Prelude.{◌≡◌, ◌++◌, ◌⊎◌, ◌∷◌}
 use Rattle.time_zones.specs.{Suffix.at_offset, Finding.SameNamed}
 use Rattle.time_parsing.specs.Written.{kept, written}
 use Rattle.time_values.specs.Offsets as Offsets
 use Rattle.time_values.specs.Times as Times
-use Rattle.restamp_formats.specs.Common.{ℕ, pos, codes, false, List, length, Option, Some, Result, Ok, IsOkAnd, [], offset_of, offset_time, Items, OffsetDateTime, UtcOffset, GoesWith, IsNameIn, IsSuffix, IsZoneText, Tag, Zone, ZoneTag, bracketed, critical_key, named, zone_named, IsZoneIfAny, Zones, FractionDigits, Tree, steps_shape, Step, shape, Description, Record, empty, IsMoment, Clock, Form, Writing, Defaults, Reading, MOST_STEPS, Match, Named}
+use Rattle.restamp_formats.specs.Common.{ℕ, pos, codes, false, List, length, Option, Some, Result, Ok, IsOkAnd, [], offset_of, offset_time, Items, OffsetDateTime, UtcOffset, AgreesWith, IsNameIn, IsSuffix, IsZoneText, Tag, Zone, ZoneTag, bracketed, critical_key, named, zone_named, IsZoneIfAny, Zones, FractionDigits, Tree, steps_shape, Step, shape, Description, Record, empty, IsMoment, Clock, Form, Writing, Defaults, Reading, MOST_STEPS, Match, Named}
 use Rattle.restamp_formats.specs.Naming.{format_name_of, common_text, meaning_of, Means, MeansWriting}
 use Rattle.restamp_formats.specs.ComponentValues.{pieces, AllStop, DeterminesMoment, ReadsTree, with_values_of, HasAll, SignDetermines}
-use Rattle.restamp_formats.specs.{Zoned.IsConverted, Zoned.tells_offset, Form.IsWritten, Reading.ParsesAs, Reading.completed, Reading.IsCompleted, Reading.said, Reason.Reason}
+use Rattle.restamp_formats.specs.{Zoned.IsConverted, Zoned.has_local_offset, Form.IsWritten, Reading.ParsesAs, Reading.completed, Reading.IsCompleted, Reading.said, Reason.Reason}
 
 -- All digits of the moment's fraction after the first k are 0.
 abbrev pub HasDigits : ℕ → OffsetDateTime → Type 0
@@ -19,38 +20,39 @@ AutoHasAll = (v : OffsetDateTime) → HasDigits (written FractionDigits.Auto v) 
 
 -- The format parses all of the moment from its text by the output format. A named format is the one that wrote the
 -- text, with each nonzero digit; a description has the tree of the one that wrote it.
-abbrev pub ReadsAll : ℕ → Reading → Defaults → Writing → FractionDigits → OffsetDateTime → Type 0
-ReadsAll Y format defaults (Writing.Named Named.Rfc3339) digits v = (format ≡ Reading.Rfc3339) × HasDigits (written digits v) v
-ReadsAll Y format defaults (Writing.Named Named.Rfc2822) digits v = (format ≡ Reading.Rfc2822) × HasDigits 0 v
-ReadsAll Y format defaults (Writing.Named Named.Iso8601) digits v = format ≡ Reading.Iso8601
-ReadsAll Y format defaults (Writing.Named (Named.Count unit)) digits v = ⊥
-ReadsAll Y format defaults (Writing.Described d) digits v = ReadsTree Y format defaults (shape d) v
+abbrev pub ReadsAll : Reading → Defaults → Writing → FractionDigits → OffsetDateTime → Type 0
+ReadsAll format defaults (Writing.Named Named.Rfc3339) digits v =
+    (format ≡ Reading.Rfc3339) × HasDigits (written digits v) v
+ReadsAll format defaults (Writing.Named Named.Rfc2822) digits v = (format ≡ Reading.Rfc2822) × HasDigits 0 v
+ReadsAll format defaults (Writing.Named Named.Iso8601) digits v = format ≡ Reading.Iso8601
+ReadsAll format defaults (Writing.Named (Named.Count unit)) digits v = ⊥
+ReadsAll format defaults (Writing.Described d) digits v = ReadsTree format defaults (shape d) v
 
 -- The text is that of the moment in a form, and the format parses all of the moment, as it is after its conversion.
-abbrev pub IsReadable : ℕ → Reading → Defaults → Form → OffsetDateTime → List ℕ → Type 0
-IsReadable Y format defaults form v bytes =
-    ((w : OffsetDateTime) × IsConverted Y form.clock v (Some w)
-    × ReadsAll Y format defaults form.writing.now form.digits w)
-    × ((text : Items) × IsWritten Y form v (Ok text) × (bytes ≡ text.items))
+abbrev pub IsReadable : Reading → Defaults → Form → OffsetDateTime → List ℕ → Type 0
+IsReadable format defaults form v bytes =
+    ((w : OffsetDateTime) × IsConverted form.clock v (Some w)
+    × ReadsAll format defaults form.writing.now form.digits w)
+    × ((text : Items) × IsWritten form v (Ok text) × (bytes ≡ text.items))
 
 -- A text of `IsReadable` parses as its moment, converted to the clock of its form, with all its bytes.
-abbrev pub ReadsRewrittenBack : ℕ → Type 0
-ReadsRewrittenBack Y =
+abbrev pub ReadsRewrittenBack : Type 0
+ReadsRewrittenBack =
     (format : Reading) (defaults : Defaults) (form : Form) (v : OffsetDateTime) (bytes : List ℕ)
     (read : Result Match Reason)
-    → IsReadable Y format defaults form v bytes → ParsesAs Y format false bytes defaults read
+    → IsReadable format defaults form v bytes → ParsesAs format false bytes defaults read
     → IsOkAnd read
-    (λ said. IsConverted Y form.clock v (Some said.moment) × (said.start ≡ 0) × (said.length ≡ length bytes))
+    (λ said. IsConverted form.clock v (Some said.moment) × (said.start ≡ 0) × (said.length ≡ length bytes))
 
 -- If a text of RFC 3339 parses as a moment, and the suffix after it fits the moment, both together parse as that moment
 -- with all their bytes.
-abbrev pub ReadsSuffixedBack : ℕ → Type 0
-ReadsSuffixedBack Y =
+abbrev pub ReadsSuffixedBack : Type 0
+ReadsSuffixedBack =
     (zones : Zones) (defaults : Defaults) (v : OffsetDateTime) (text behind : List ℕ) (zone : Option ZoneTag)
     (tags : List Tag) (read : Result Match Reason)
-    → ParsesAs Y Reading.Rfc3339 false text defaults (Ok (said v (length text)))
-    → IsSuffix behind zone tags → GoesWith zones (tells_offset text) v zone (critical_key tags) (Ok tt)
-    → ParsesAs Y (Reading.Zoned zones) false (text ++ behind) defaults read
+    → ParsesAs Reading.Rfc3339 false text defaults (Ok (said v (length text)))
+    → IsSuffix behind zone tags → AgreesWith zones (has_local_offset text) v zone (critical_key tags) (Ok tt)
+    → ParsesAs (Reading.Zoned zones) false (text ++ behind) defaults read
     → read ≡ Ok (said v (length (text ++ behind)))
 
 -- The zone is the one that moments are converted to: a table of zones has it by its name.
@@ -63,52 +65,53 @@ IsZoneOfClock zones (Clock.Zone zone) (named name) = IsZoneIfAny (zone_named zon
 
 -- The text is that of the moment by RFC 3339 in a form, with each nonzero digit, and the name is that of the zone that
 -- the moment is converted to.
-pub record HasZone (Y : ℕ) (zones : Zones) (defaults : Defaults) (form : Form) (v : OffsetDateTime)
+pub record HasZone (zones : Zones) (defaults : Defaults) (form : Form) (v : OffsetDateTime)
     (text name : List ℕ) : Type 0 where
   pub zone : Zone
-  pub readable : IsReadable Y Reading.Rfc3339 defaults form v text
+  pub readable : IsReadable Reading.Rfc3339 defaults form v text
   pub of_clock : IsZoneOfClock zones form.clock zone
   pub told : IsZoneText name zone
 
 -- A text of `HasZone` with that suffix parses as its moment, converted to the clock of the form, with all its bytes.
-abbrev pub ReadsZonedBack : ℕ → Type 0
-ReadsZonedBack Y =
+abbrev pub ReadsZonedBack : Type 0
+ReadsZonedBack =
     (zones : Zones) (defaults : Defaults) (form : Form) (v : OffsetDateTime) (text name : List ℕ)
     (read : Result Match Reason)
-    → HasZone Y zones defaults form v text name
-    → ParsesAs Y (Reading.Zoned zones) false (text ++ bracketed false name) defaults read
-    → IsOkAnd read (λ said. IsConverted Y form.clock v (Some said.moment) × (said.start ≡ 0)
+    → HasZone zones defaults form v text name
+    → ParsesAs (Reading.Zoned zones) false (text ++ bracketed false name) defaults read
+    → IsOkAnd read (λ said. IsConverted form.clock v (Some said.moment) × (said.start ≡ 0)
     × (said.length ≡ length (text ++ bracketed false name)))
 
 -- The moment as which a text of `HasZone` with that suffix parses has the same text in the form.
-abbrev pub WritesZonedSame : ℕ → Type 0
-WritesZonedSame Y =
+abbrev pub WritesZonedSame : Type 0
+WritesZonedSame =
     (zones : Zones) (defaults : Defaults) (form : Form) (v : OffsetDateTime) (text name : List ℕ) (said : Match)
     (again : Result Items Reason)
-    → HasZone Y zones defaults form v text name
-    → ParsesAs Y (Reading.Zoned zones) false (text ++ bracketed false name) defaults (Ok said)
-    → IsWritten Y form said.moment again → IsOkAnd again (λ written. written.items ≡ text)
+    → HasZone zones defaults form v text name
+    → ParsesAs (Reading.Zoned zones) false (text ++ bracketed false name) defaults (Ok said)
+    → IsWritten form said.moment again → IsOkAnd again (λ written. written.items ≡ text)
 
 -- A text of `IsReadable` parses as a moment that has the same text in the form.
-abbrev pub WritesSameText : ℕ → Type 0
-WritesSameText Y =
+abbrev pub WritesSameText : Type 0
+WritesSameText =
     (format : Reading) (defaults : Defaults) (form : Form) (v : OffsetDateTime) (bytes : List ℕ) (said : Match)
     (again : Result Items Reason)
-    → IsReadable Y format defaults form v bytes → ParsesAs Y format false bytes defaults (Ok said)
-    → IsWritten Y form said.moment again → IsOkAnd again (λ text. text.items ≡ bytes)
+    → IsReadable format defaults form v bytes → ParsesAs format false bytes defaults (Ok said)
+    → IsWritten form said.moment again → IsOkAnd again (λ text. text.items ≡ bytes)
 
 -- A tree determines a moment with the defaults if the record of its components' values has all of it with them, and
 -- each component's text is parsed whole.
-abbrev pub AllValuesDetermine : ℕ → Type 0
-AllValuesDetermine Y =
+abbrev pub AllValuesDetermine : Type 0
+AllValuesDetermine =
     (v : OffsetDateTime) (tree : Tree) (defaults : Defaults) (after : Record)
-    → AllStop Y v (pieces tree) → with_values_of Y v (pieces tree) empty ≡ Some after
-    → HasAll (completed Y defaults after) v → DeterminesMoment Y tree defaults v
+    → AllStop v (pieces tree) → with_values_of v (pieces tree) empty ≡ Some after
+    → HasAll (completed defaults after) v → DeterminesMoment tree defaults v
 
 -- Defaults change no record that has all of a moment: they only supply what it omits.
-abbrev pub KeepsMoment : ℕ → Type 0
-KeepsMoment Y =
-    (defaults : Defaults) (r : Record) (v : OffsetDateTime) → IsMoment Y r (Ok v) → IsCompleted Y defaults r (Ok v)
+abbrev pub KeepsMoment : Type 0
+KeepsMoment =
+    (defaults : Defaults) (r : Record) (v : OffsetDateTime) → IsMoment greatest_year r (Ok v)
+    → IsCompleted defaults r (Ok v)
 
 -- The sign of each offset and the sizes of its parts determine the offset.
 abbrev pub SignsDetermine : Type 0
@@ -123,12 +126,12 @@ OneTree =
 
 -- A moment without a fraction, and with an offset of whole minutes, that the description of access logs wrote parses
 -- back by the format of that name, whatever the defaults.
-abbrev pub CommonReadsBack : ℕ → Type 0
-CommonReadsBack Y =
+abbrev pub CommonReadsBack : Type 0
+CommonReadsBack =
     (v : OffsetDateTime) (format : Reading) (defaults : Defaults) (d : Description MOST_STEPS)
     → Means (format_name_of (codes "common")) (meaning_of format) → MeansWriting common_text (Writing.Described d)
     → Times.nanosecond (offset_time v) ≡ 0 → Offsets.seconds (offset_of v) ≡ pos 0
-    → ReadsTree Y format defaults (shape d) v
+    → ReadsTree format defaults (shape d) v
 
 -- ---- Formats with tables of zones that differ only in names that aren't in some bytes
 

@@ -1,4 +1,5 @@
 -- The parts that all texts of a description's tree omit, so that no text by it is a moment.
+use Rattle.time_values.specs.Calendar.{greatest_year}
 use Rattle.std.specs.Prelude.{◌&&◌, ◌||◌, if◌then◌else◌, ◌≡◌}
 use Rattle.restamp_formats.specs.Common.{Bool, true, false, not, List, codes, ℕ, Option, None, Some, is_some, Result, Ok, Refusal, OffsetDateTime, steps_shape, Tree, Trees, literal, component, sequence, optional, first_of, none, more, Component, Reads, Record, empty, Kind, MissingField, Part, Reading, Defaults, Match}
 use Rattle.restamp_formats.specs.{Reading.IsCompleted, Reading.IsDated, Reading.ParsesLocally, Reason.Reason}
@@ -165,19 +166,19 @@ missing_field_text MissingField.Minute = codes "it says no minute"
 missing_field_text MissingField.Second = codes "it says no second"
 missing_field_text MissingField.Offset = codes "it says no offset"
 
--- ---- Laws of what all texts of a format omit. `Y` is the greatest year.
+-- ---- Laws of what all texts of a format omit.
 
 -- the defaults have a year
 abbrev pub has_default_year : Defaults → Bool
 has_default_year defaults = is_some defaults.year || is_some defaults.latest
 
 -- No text, and no prefix of one, parses as a moment by a format with a missing part.
-abbrev pub ParsesNoMoment : ℕ → Type 0
-ParsesNoMoment Y =
+abbrev pub ParsesNoMoment : Type 0
+ParsesNoMoment =
     (format : Reading) (missing_field : MissingField) (is_prefix : Bool) (text : List ℕ) (defaults : Defaults)
     (said : Match)
     → format_missing_field (has_default_year defaults) format ≡ Some missing_field
-    → ¬ IsDated Y format is_prefix text defaults (Ok said)
+    → ¬ IsDated format is_prefix text defaults (Ok said)
 
 -- Both defaults are equal except for that part.
 abbrev pub SameBut : Part → Defaults → Defaults → Type 0
@@ -185,16 +186,16 @@ SameBut Part.Year defaults others = defaults.offset ≡ others.offset
 SameBut Part.Offset defaults others = defaults.year ≡ others.year
 
 -- A default for a part changes nothing if each reading of the tree has the part.
-abbrev pub HasNoUse : ℕ → Type 0
-HasNoUse Y =
+abbrev pub HasNoUse : Type 0
+HasNoUse =
     (p : Part) (tree : Tree) (bytes rest : List ℕ) (r : Record) (defaults others : Defaults)
     (result : Result OffsetDateTime Refusal)
-    → always p tree ≡ true → Reads Y tree bytes empty rest r → SameBut p defaults others
-    → IsCompleted Y defaults r result → IsCompleted Y others r result
+    → always p tree ≡ true → Reads greatest_year tree bytes empty rest r → SameBut p defaults others
+    → IsCompleted defaults r result → IsCompleted others r result
 
 -- The zone for local times changes nothing if each text of the format has an offset.
-abbrev pub ClocksHaveNoUse : ℕ → Type 0
-ClocksHaveNoUse Y =
+abbrev pub ClocksHaveNoUse : Type 0
+ClocksHaveNoUse =
     (format : Reading) (is_prefix : Bool) (text : List ℕ) (defaults : Defaults) (result : Result Match Reason)
-    → can_default Part.Offset format ≡ false → ParsesLocally Y format is_prefix text defaults result
-    → ParsesLocally Y format is_prefix text (record defaults { clocks = None }) result
+    → can_default Part.Offset format ≡ false → ParsesLocally format is_prefix text defaults result
+    → ParsesLocally format is_prefix text (record defaults { clocks = None }) result

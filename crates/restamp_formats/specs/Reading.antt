@@ -1,4 +1,5 @@
--- Parses a timestamp. `Y` is the greatest year.
+-- Parses a timestamp.
+use Rattle.time_values.specs.Calendar.{greatest_year}
 use Rattle.std.specs.Prelude.{◌≡◌, ◌-◌, ◌+ℤ◌, ◌-ℤ◌, ◌&&◌, ◌||◌, ◌==◌, ◌∷◌, if◌then◌else◌}
 use Rattle.std.specs.{Char.is_ascii_whitespace, List.list_any, List.prefix_len, List.suffix_len}
 use Rattle.time_parsing.specs.Outcome.{Resolving, IsMomentOutcome}
@@ -8,9 +9,9 @@ use Rattle.time_record.specs.Reading as Description
 use Rattle.time_parsing.specs.Outcome as Outcome
 use Rattle.time_parsing.specs.Iso8601 as Iso8601
 use Rattle.time_parsing.specs.Rfc2822 as Rfc2822
-use Rattle.time_parsing.specs.Rfc3339 as Rfc3339
+use Rattle.time_parsing.specs.Rfc3339Strict as Rfc3339
 use Rattle.restamp_formats.specs.declared.dated.Undated as declared
-use Rattle.restamp_formats.specs.Common.{ℕ, zero, suc, ℤ, pos, int_lt, Bool, true, false, not, MatchBool, List, [], length, take, drop, slice_index, Option, None, Some, MatchOption, is_some, unwrap_or, Result, Ok, Err, MatchResult, offset_date, offset_instant, offset_of, IsUtc, Refusal, refusal_of, Parse, OffsetDateTime, UtcOffset, RefusesRfc3339, RefusesRfc2822, Record, empty, put, year_is, IsMoment, Refusing, Path, over_record, direct, IsFront, IsOutcome, steps_shape, Zones, Clocks, Reading, Match, Defaults}
+use Rattle.restamp_formats.specs.Common.{ℕ, zero, suc, ℤ, pos, int_lt, Bool, true, false, not, MatchBool, List, [], length, take, drop, slice_index, Option, None, Some, MatchOption, is_some, unwrap_or, Result, Ok, Err, MatchResult, offset_date, offset_instant, offset_of, IsUtc, Refusal, refusal_of, Parse, OffsetDateTime, UtcOffset, RefusesRfc2822, Record, empty, put, year_is, IsMoment, Refusing, Path, over_record, direct, IsFront, IsOutcome, steps_shape, Zones, Clocks, Reading, Match, Defaults}
 use Rattle.restamp_formats.specs.{Zoned.IsOffsetWhen, Zoned.IsSuffixed, Reason.Reason, Reason.unread, Reason.negative_fraction, Reason.is_local_time_error}
 
 -- a match of the first n bytes of a text
@@ -33,13 +34,13 @@ front_of text (Ok x) = Ok (said x.0 (length text - length x.1))
 front_of text (Err e) = Err e
 
 -- the match of a text by a format: of a prefix if `is_prefix` is true, otherwise of the whole text
-abbrev pub IsReadBy : ℕ → Bool → Path → Outcome.Reading → Refusing → List ℕ → Result Match Refusal → Type 0
-IsReadBy Y true path reads refuses text result =
+abbrev pub IsReadBy : Bool → Path → Outcome.Reading → Refusing → List ℕ → Result Match Refusal → Type 0
+IsReadBy true path reads refuses text result =
     (outcome : Result (OffsetDateTime × List ℕ) Refusal)
-    × IsFront (IsMoment Y) reads refuses text empty outcome × (result ≡ front_of text outcome)
-IsReadBy Y false path reads refuses text result =
+    × IsFront (IsMoment greatest_year) reads refuses text empty outcome × (result ≡ front_of text outcome)
+IsReadBy false path reads refuses text result =
     (outcome : Result OffsetDateTime Refusal)
-    × IsMomentOutcome Y path reads refuses text None outcome × (result ≡ all_of text outcome)
+    × IsMomentOutcome greatest_year path reads refuses text None outcome × (result ≡ all_of text outcome)
 
 -- the record has a part of a year
 abbrev pub has_year : Record → Bool
@@ -48,9 +49,9 @@ has_year r =
     || is_some r.iso_year || is_some r.iso_year_century || is_some r.iso_year_last_two
 
 -- the record with that year, unless it has a part of one
-abbrev pub with_year : ℕ → Option ℤ → Record → Record
-with_year Y None r = r
-with_year Y (Some year) r = if has_year r then r else unwrap_or (put Y (year_is year) r) r
+abbrev pub with_year : Option ℤ → Record → Record
+with_year None r = r
+with_year (Some year) r = if has_year r then r else unwrap_or (put greatest_year (year_is year) r) r
 
 -- the record with the parts of that offset, unless it has an hour of one
 abbrev pub with_offset : Option UtcOffset → Record → Record
@@ -64,21 +65,21 @@ with_offset (Some o) r =
     }
 
 -- the record of a text, with defaults for what it omits
-abbrev pub completed : ℕ → Defaults → Record → Record
-completed Y defaults r = with_offset defaults.offset (with_year Y defaults.year r)
+abbrev pub completed : Defaults → Record → Record
+completed defaults r = with_offset defaults.offset (with_year defaults.year r)
 
 -- The moment of a record with defaults.
-abbrev pub IsCompleted : ℕ → Defaults → Resolving OffsetDateTime
-IsCompleted Y defaults r = IsMoment Y (completed Y defaults r)
+abbrev pub IsCompleted : Defaults → Resolving OffsetDateTime
+IsCompleted defaults r = IsMoment greatest_year (completed defaults r)
 
 -- the match of a text by a format, with defaults for what it omits
-abbrev pub IsReadWith : ℕ → Bool → Outcome.Reading → Refusing → List ℕ → Defaults → Result Match Refusal → Type 0
-IsReadWith Y true reads refuses text defaults result =
+abbrev pub IsReadWith : Bool → Outcome.Reading → Refusing → List ℕ → Defaults → Result Match Refusal → Type 0
+IsReadWith true reads refuses text defaults result =
     (outcome : Result (OffsetDateTime × List ℕ) Refusal)
-    × IsFront (IsCompleted Y defaults) reads refuses text empty outcome × (result ≡ front_of text outcome)
-IsReadWith Y false reads refuses text defaults result =
+    × IsFront (IsCompleted defaults) reads refuses text empty outcome × (result ≡ front_of text outcome)
+IsReadWith false reads refuses text defaults result =
     (outcome : Result OffsetDateTime Refusal)
-    × IsOutcome (IsCompleted Y defaults) reads refuses text empty outcome × (result ≡ all_of text outcome)
+    × IsOutcome (IsCompleted defaults) reads refuses text empty outcome × (result ≡ all_of text outcome)
 
 -- how many bytes come before the white space at the end
 abbrev pub before_blanks : List ℕ → ℕ
@@ -104,40 +105,45 @@ bare_where false text result = result
 
 -- The match of a mail date, RFC 2822, which may have white space around it. The match excludes the white space if
 -- `is_prefix` is true.
-abbrev pub IsReadMail : ℕ → Bool → List ℕ → Result Match Refusal → Type 0
-IsReadMail Y is_prefix text result =
+abbrev pub IsReadMail : Bool → List ℕ → Result Match Refusal → Type 0
+IsReadMail is_prefix text result =
     (padded : Result Match Refusal)
-    × IsReadBy Y is_prefix (direct (RefusesRfc2822 Y)) (Rfc2822.Reads Y) (Rfc2822.Refuses Y) text padded
+    × IsReadBy is_prefix (direct (RefusesRfc2822 greatest_year)) (Rfc2822.Reads greatest_year)
+    (Rfc2822.Refuses greatest_year) text padded
     × (result ≡ bare_where is_prefix text padded)
 
--- the match of a text by RFC 3339
-abbrev pub IsRead3339 : ℕ → Bool → List ℕ → Result Match Refusal → Type 0
-IsRead3339 Y is_prefix = IsReadBy Y is_prefix (direct (RefusesRfc3339 Y)) (Rfc3339.Reads Y) (Rfc3339.Refuses Y)
+-- the match of a text by RFC 3339, with `T`, `t` or a space between the date and the time
+abbrev pub IsRead3339 : Bool → List ℕ → Result Match Refusal → Type 0
+IsRead3339 is_prefix = IsReadBy is_prefix (direct (Rfc3339.RefusesDirectly greatest_year))
+    (Rfc3339.Reads greatest_year) (Rfc3339.Refuses greatest_year)
 
 -- the match of a prefix of a text by RFC 3339
-abbrev pub IsReadInFront : ℕ → List ℕ → Result Match Refusal → Type 0
-IsReadInFront Y = IsRead3339 Y true
+abbrev pub IsReadInFront : List ℕ → Result Match Refusal → Type 0
+IsReadInFront = IsRead3339 true
 
 -- The match by any of the formats; for RFC 9557, that of the text before the suffix. RFC 3339, RFC 2822 and a complete
 -- description give all of a moment, so defaults have no effect on them.
-abbrev pub IsRead : ℕ → Reading → Bool → List ℕ → Defaults → Result Match Refusal → Type 0
-IsRead Y Reading.Rfc3339 is_prefix text defaults = IsRead3339 Y is_prefix text
-IsRead Y (Reading.Zoned zones) is_prefix text defaults = IsReadInFront Y text
-IsRead Y Reading.Rfc2822 is_prefix text defaults = IsReadMail Y is_prefix text
-IsRead Y Reading.Iso8601 is_prefix text defaults =
-    IsReadWith Y is_prefix (Iso8601.Reads Y) (Iso8601.Refuses Y) text defaults
-IsRead Y (Reading.Described d) is_prefix text defaults =
-    IsReadWith Y is_prefix (Description.Reads Y (steps_shape d)) (Description.Refuses Y (steps_shape d)) text defaults
-IsRead Y (Reading.Complete d) is_prefix text defaults =
-    IsReadBy Y is_prefix over_record (Description.Reads Y (steps_shape d)) (Description.Refuses Y (steps_shape d)) text
-IsRead Y (Reading.Counted d) is_prefix text defaults =
-    IsReadWith Y is_prefix (Description.Reads Y (steps_shape d)) (Description.Refuses Y (steps_shape d)) text defaults
+abbrev pub IsRead : Reading → Bool → List ℕ → Defaults → Result Match Refusal → Type 0
+IsRead Reading.Rfc3339 is_prefix text defaults = IsRead3339 is_prefix text
+IsRead (Reading.Zoned zones) is_prefix text defaults = IsReadInFront text
+IsRead Reading.Rfc2822 is_prefix text defaults = IsReadMail is_prefix text
+IsRead Reading.Iso8601 is_prefix text defaults =
+    IsReadWith is_prefix (Iso8601.Reads greatest_year) (Iso8601.Refuses greatest_year) text defaults
+IsRead (Reading.Described d) is_prefix text defaults =
+    IsReadWith is_prefix (Description.Reads greatest_year (steps_shape d))
+    (Description.Refuses greatest_year (steps_shape d)) text defaults
+IsRead (Reading.Complete d) is_prefix text defaults =
+    IsReadBy is_prefix over_record (Description.Reads greatest_year (steps_shape d))
+    (Description.Refuses greatest_year (steps_shape d)) text
+IsRead (Reading.Counted d) is_prefix text defaults =
+    IsReadWith is_prefix (Description.Reads greatest_year (steps_shape d))
+    (Description.Refuses greatest_year (steps_shape d)) text defaults
 
 -- a prefix of a text parses into a record, by a format without zones that may omit parts of a moment
-abbrev pub ReadsRecord : ℕ → Reading → Outcome.Reading
-ReadsRecord Y Reading.Iso8601 text base rest r = Iso8601.Reads Y text base rest r
-ReadsRecord Y (Reading.Described d) text base rest r = Description.Reads Y (steps_shape d) text base rest r
-ReadsRecord Y format text base rest r = ⊥
+abbrev pub ReadsRecord : Reading → Outcome.Reading
+ReadsRecord Reading.Iso8601 text base rest r = Iso8601.Reads greatest_year text base rest r
+ReadsRecord (Reading.Described d) text base rest r = Description.Reads greatest_year (steps_shape d) text base rest r
+ReadsRecord format text base rest r = ⊥
 
 -- the zones that a suffix may name
 abbrev pub zones_of : Reading → Option Zones
@@ -164,15 +170,15 @@ IsGuarded format is_prefix text s result =
     MatchOption (zones_of format) (result ≡ guarded format text s) (λ zones. IsSuffixed zones is_prefix text s result)
 
 -- the match of a text by RFC 3339 with a suffix, or an error
-abbrev pub ParsesZoned : ℕ → Zones → Bool → List ℕ → Result Match Reason → Type 0
-ParsesZoned Y zones is_prefix text result =
-    (front : Result Match Refusal) × IsReadInFront Y text front
+abbrev pub ParsesZoned : Zones → Bool → List ℕ → Result Match Reason → Type 0
+ParsesZoned zones is_prefix text result =
+    (front : Result Match Refusal) × IsReadInFront text front
     × MatchResult front (λ s. IsSuffixed zones is_prefix text s result) (λ e. result ≡ Err (unread e))
 
 -- the match of a text by a format, or an error
-abbrev pub ParsesAs : ℕ → Reading → Bool → List ℕ → Defaults → Result Match Reason → Type 0
-ParsesAs Y format is_prefix text defaults result =
-    (outcome : Result Match Refusal) × IsRead Y format is_prefix text defaults outcome
+abbrev pub ParsesAs : Reading → Bool → List ℕ → Defaults → Result Match Reason → Type 0
+ParsesAs format is_prefix text defaults result =
+    (outcome : Result Match Refusal) × IsRead format is_prefix text defaults outcome
     × MatchResult outcome (λ s. IsGuarded format is_prefix text s result) (λ e. result ≡ Err (unread e))
 
 -- the defaults with that offset
@@ -181,27 +187,27 @@ at_offset o d = record { year = d.year; offset = Some o; clocks = None; latest =
 
 -- The match of a text as a local time in a zone: parsed at the offset that the zone has at the date and time of the
 -- text in UTC.
-abbrev pub ParsesInZone : ℕ → Clocks → Reading → Bool → List ℕ → Defaults → Result Match Reason → Type 0
-ParsesInZone Y clocks format is_prefix text defaults result =
+abbrev pub ParsesInZone : Clocks → Reading → Bool → List ℕ → Defaults → Result Match Reason → Type 0
+ParsesInZone clocks format is_prefix text defaults result =
     (utc : UtcOffset) × IsUtc utc
-    × (shown : Result Match Reason) × ParsesAs Y format is_prefix text (at_offset utc defaults) shown
+    × (shown : Result Match Reason) × ParsesAs format is_prefix text (at_offset utc defaults) shown
     × MatchResult shown
     (λ s. (offset : Result UtcOffset Reason) × IsOffsetWhen clocks s.moment offset
-    × MatchResult offset (λ o. ParsesAs Y format is_prefix text (at_offset o defaults) result)
+    × MatchResult offset (λ o. ParsesAs format is_prefix text (at_offset o defaults) result)
     (λ why. result ≡ Err why))
     (λ why. result ≡ Err why)
 
 -- The match of a text by a format; if the format rejects it, as a local time in the zone of the defaults.
-abbrev pub ParsesLocally : ℕ → Reading → Bool → List ℕ → Defaults → Result Match Reason → Type 0
-ParsesLocally Y format is_prefix text defaults result =
-    (plain : Result Match Reason) × ParsesAs Y format is_prefix text defaults plain
+abbrev pub ParsesLocally : Reading → Bool → List ℕ → Defaults → Result Match Reason → Type 0
+ParsesLocally format is_prefix text defaults result =
+    (plain : Result Match Reason) × ParsesAs format is_prefix text defaults plain
     × MatchResult plain (λ s. result ≡ Ok s)
     (λ reason. MatchOption defaults.clocks (result ≡ Err reason)
-    (λ clocks. ParsesInZone Y clocks format is_prefix text defaults result))
+    (λ clocks. ParsesInZone clocks format is_prefix text defaults result))
 
 -- the first moment is after the second
-abbrev pub is_after : ℕ → OffsetDateTime → OffsetDateTime → Bool
-is_after Y v w = int_lt (offset_instant Y w) (offset_instant Y v)
+abbrev pub is_after : OffsetDateTime → OffsetDateTime → Bool
+is_after v w = int_lt (offset_instant greatest_year w) (offset_instant greatest_year v)
 
 -- a text without a year, its format, the default offset or the zone for local times, and the latest moment that it may
 -- mean
@@ -230,55 +236,55 @@ abbrev pub in_year : ℤ → Option UtcOffset → Option Clocks → Defaults
 in_year year offset clocks = record { year = Some year; offset = offset; clocks = clocks; latest = None }
 
 -- the match of a text with that year
-abbrev pub IsReadInYear : ℕ → Undated → ℤ → Result Match Reason → Type 0
-IsReadInYear Y u year = ParsesLocally Y u.format u.is_prefix u.text (in_year year u.offset u.clocks)
+abbrev pub IsReadInYear : Undated → ℤ → Result Match Reason → Type 0
+IsReadInYear u year = ParsesLocally u.format u.is_prefix u.text (in_year year u.offset u.clocks)
 
 -- the result is a match that isn't too late, that is, not after the latest moment
-abbrev pub is_early : ℕ → OffsetDateTime → Result Match Reason → Bool
-is_early Y latest (Ok s) = not (is_after Y s.moment latest)
-is_early Y latest (Err why) = false
+abbrev pub is_early : OffsetDateTime → Result Match Reason → Bool
+is_early latest (Ok s) = not (is_after s.moment latest)
+is_early latest (Err why) = false
 
 -- Whether the text, with that year and at the offset of the latest moment, is a moment that isn't after it.
-abbrev pub IsEarly : ℕ → Undated → ℤ → Bool → Type 0
-IsEarly Y u year early =
+abbrev pub IsEarly : Undated → ℤ → Bool → Type 0
+IsEarly u year early =
     (shown : Result Match Reason)
-    × ParsesAs Y u.format u.is_prefix u.text (at_offset (offset_of u.latest) (in_year year u.offset u.clocks)) shown
-    × (early ≡ is_early Y u.latest shown)
+    × ParsesAs u.format u.is_prefix u.text (at_offset (offset_of u.latest) (in_year year u.offset u.clocks)) shown
+    × (early ≡ is_early u.latest shown)
 
 -- Whether no earlier year is tried: the zone rejects a local time that isn't too late.
-abbrev pub IsFinal : ℕ → Undated → ℤ → Reason → Bool → Type 0
-IsFinal Y u year why final = MatchBool (is_local_time_error why) (IsEarly Y u year final) (final ≡ false)
+abbrev pub IsFinal : Undated → ℤ → Reason → Bool → Type 0
+IsFinal u year why final = MatchBool (is_local_time_error why) (IsEarly u year final) (final ≡ false)
 
 -- The result with the first of n years, from `year` down, that gives a moment that isn't too late, or a local time that
 -- isn't too late but that the zone rejects; otherwise the last reason.
-unfoldable pub AreYearsTried : ℕ → Undated → ℕ → ℤ → Reason → Result Match Reason → Type 0
-AreYearsTried Y u zero year reason result = result ≡ Err reason
-AreYearsTried Y u (suc n) year reason result =
-    (read : Result Match Reason) × IsReadInYear Y u year read
+unfoldable pub AreYearsTried : Undated → ℕ → ℤ → Reason → Result Match Reason → Type 0
+AreYearsTried u zero year reason result = result ≡ Err reason
+AreYearsTried u (suc n) year reason result =
+    (read : Result Match Reason) × IsReadInYear u year read
     × MatchResult read
-    (λ s. MatchBool (is_after Y s.moment u.latest) (AreYearsTried Y u n (year -ℤ pos 1) reason result) (result ≡ Ok s))
-    (λ why. (final : Bool) × IsFinal Y u year why final
-    × MatchBool final (result ≡ Err why) (AreYearsTried Y u n (year -ℤ pos 1) why result))
+    (λ s. MatchBool (is_after s.moment u.latest) (AreYearsTried u n (year -ℤ pos 1) reason result) (result ≡ Ok s))
+    (λ why. (final : Bool) × IsFinal u year why final
+    × MatchBool final (result ≡ Err why) (AreYearsTried u n (year -ℤ pos 1) why result))
 
 -- The match of a text by a format; a text that the format rejects may omit its year, and then means the latest moment
 -- that isn't after a given one.
-abbrev pub IsDated : ℕ → Reading → Bool → List ℕ → Defaults → Result Match Reason → Type 0
-IsDated Y format is_prefix text defaults result =
-    (plain : Result Match Reason) × ParsesLocally Y format is_prefix text defaults plain
+abbrev pub IsDated : Reading → Bool → List ℕ → Defaults → Result Match Reason → Type 0
+IsDated format is_prefix text defaults result =
+    (plain : Result Match Reason) × ParsesLocally format is_prefix text defaults plain
     × MatchResult plain (λ s. result ≡ Ok s)
     (λ reason. MatchOption defaults.latest (result ≡ Err reason)
-    (λ latest. AreYearsTried Y (undated format is_prefix text defaults.offset defaults.clocks latest)
+    (λ latest. AreYearsTried (undated format is_prefix text defaults.offset defaults.clocks latest)
     10 (year_after latest) reason result))
 
 -- the match of the first of these formats that has one, otherwise that reason
-abbrev pub AreTried : ℕ → List Reading → Bool → List ℕ → Defaults → Reason → Result Match Reason → Type 0
-AreTried Y [] is_prefix text defaults reason result = result ≡ Err reason
-AreTried Y (format ∷ formats) is_prefix text defaults reason result =
-    (first : Result Match Reason) × IsDated Y format is_prefix text defaults first
-    × MatchResult first (λ s. result ≡ Ok s) (λ _. AreTried Y formats is_prefix text defaults reason result)
+abbrev pub AreTried : List Reading → Bool → List ℕ → Defaults → Reason → Result Match Reason → Type 0
+AreTried [] is_prefix text defaults reason result = result ≡ Err reason
+AreTried (format ∷ formats) is_prefix text defaults reason result =
+    (first : Result Match Reason) × IsDated format is_prefix text defaults first
+    × MatchResult first (λ s. result ≡ Ok s) (λ _. AreTried formats is_prefix text defaults reason result)
 
 -- the match of the first of the formats that has one, otherwise the reason of the first format
-abbrev pub IsReadInTurn : ℕ → Reading → List Reading → Bool → List ℕ → Defaults → Result Match Reason → Type 0
-IsReadInTurn Y format formats is_prefix text defaults result =
-    (first : Result Match Reason) × IsDated Y format is_prefix text defaults first
-    × MatchResult first (λ s. result ≡ Ok s) (λ reason. AreTried Y formats is_prefix text defaults reason result)
+abbrev pub IsReadInTurn : Reading → List Reading → Bool → List ℕ → Defaults → Result Match Reason → Type 0
+IsReadInTurn format formats is_prefix text defaults result =
+    (first : Result Match Reason) × IsDated format is_prefix text defaults first
+    × MatchResult first (λ s. result ≡ Ok s) (λ reason. AreTried formats is_prefix text defaults reason result)

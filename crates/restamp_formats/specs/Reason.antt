@@ -80,9 +80,9 @@ is_local_time_error (ambiguous_offsets offsets) = true
 is_local_time_error reason = false
 
 -- The result satisfies a relation; its error is what a caller keeps of a reason.
-abbrev pub Gives : {V E : Type 0} → (Reason → E → Type 0) → (Result V Reason → Type 0) → Result V E → Type 0
-Gives IsOf P (Ok v) = P (Ok v)
-Gives IsOf P (Err e) = (reason : Reason) × IsOf reason e × P (Err reason)
+abbrev pub Satisfies : {V E : Type 0} → (Reason → E → Type 0) → (Result V Reason → Type 0) → Result V E → Type 0
+Satisfies IsOf P (Ok v) = P (Ok v)
+Satisfies IsOf P (Err e) = (reason : Reason) × IsOf reason e × P (Err reason)
 
 -- The result is an error: what a caller keeps of that reason.
 abbrev pub IsErrOf : {V E : Type 0} → (Reason → E → Type 0) → Reason → Result V E → Type 0

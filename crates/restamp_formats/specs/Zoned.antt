@@ -1,9 +1,10 @@
 -- The suffix that RFC 9557, section 4.1, adds to RFC 3339.
+use Rattle.time_values.specs.Calendar.{greatest_year}
 use Rattle.std.specs.Prelude.{◌≡◌, ◌+◌, ◌≤◌, ◌&&◌, ◌||◌}
 use Rattle.std.specs.List.{ends_with}
 use Rattle.time_zones.specs.{Zones.IsAnswer, declared.clocks.NotOne.NotOne}
 use Rattle.jiff_tz.specs.Zone as Zone
-use Rattle.restamp_formats.specs.Common.{ℕ, nat_eq, nat_lt, Bool, not, MatchBool, List, length, take, drop, codes, Option, Result, Ok, Err, Some, MatchOption, IsTimestampNanos, TimeZone, trailing, shown_at, offset_instant, offset_of, offset_date, offset_time, IsInstant, offset_seconds, OffsetDateTime, UtcOffset, PlainDateTime, Checked, GoesWith, IsLongest, IsSuffix, Tag, ZoneTag, critical_key, Zones, Match, Clock, Clocks, TwoOffsets}
+use Rattle.restamp_formats.specs.Common.{ℕ, nat_eq, nat_lt, Bool, not, MatchBool, List, length, take, drop, codes, Option, Result, Ok, Err, Some, MatchOption, IsTimestampNanos, TimeZone, trailing, local_time_at, offset_instant, offset_of, offset_date, offset_time, IsInstant, offset_seconds, OffsetDateTime, UtcOffset, PlainDateTime, Checked, AgreesWith, IsLongest, IsSuffix, Tag, ZoneTag, critical_key, Zones, Match, Clock, Clocks, TwoOffsets}
 use Rattle.restamp_formats.specs.Reason.{Reason, suffix, unread, out_of_range, outside_zone_range, nonexistent, ambiguous_offsets, parts_of}
 use Rattle.restamp_formats.specs.declared.local.Fold.{Fold}
 
@@ -20,8 +21,8 @@ pub record IsLongestSuffix (bytes : List ℕ) (s : Suffix) : Type 0 where
   pub longest : IsLongest bytes s.len
 
 -- A text of RFC 3339 has a known offset. Z and -00:00 leave the offset of a zone unknown.
-abbrev pub tells_offset : List ℕ → Bool
-tells_offset front =
+abbrev pub has_local_offset : List ℕ → Bool
+has_local_offset front =
     not (ends_with nat_eq front (codes "Z") || ends_with nat_eq front (codes "z")
     || ends_with nat_eq front (codes "-00:00"))
 
@@ -38,7 +39,7 @@ checked said (Err fault) = Err (suffix fault)
 abbrev pub IsChecked : Zones → List ℕ → Match → Suffix → Result Match Reason → Type 0
 IsChecked zones text front s result =
     (answer : Checked)
-    × GoesWith zones (tells_offset (take front.length text)) front.moment s.zone (critical_key s.tags) answer
+    × AgreesWith zones (has_local_offset (take front.length text)) front.moment s.zone (critical_key s.tags) answer
     × (result ≡ checked (extended front s.len) answer)
 
 -- bytes that aren't allowed follow the timestamp
@@ -52,26 +53,27 @@ IsSuffixed zones is_prefix text front result =
     × MatchBool (has_tail is_prefix text (front.length + s.len)) (result ≡ Err (unread trailing))
     (IsChecked zones text front s result)
 
--- ---- The clock that a moment is converted to. `Y` is the greatest year.
+-- ---- The clock that a moment is converted to.
 
 -- The moment at the offset, if it has a date there.
-abbrev pub IsConvertedTo : ℕ → UtcOffset → OffsetDateTime → Option OffsetDateTime → Type 0
-IsConvertedTo Y offset v result =
-    MatchOption result (¬ IsInstant Y (shown_at (offset_instant Y v) offset))
-    (λ w. (offset_instant Y w ≡ offset_instant Y v) × (offset_of w ≡ offset))
+abbrev pub IsConvertedTo : UtcOffset → OffsetDateTime → Option OffsetDateTime → Type 0
+IsConvertedTo offset v result =
+    MatchOption result (¬ IsInstant greatest_year (local_time_at (offset_instant greatest_year v) offset))
+    (λ w. (offset_instant greatest_year w ≡ offset_instant greatest_year v) × (offset_of w ≡ offset))
 
 -- The moment at the offset that a zone has then, if it is in the range of time zones.
-abbrev pub IsConvertedIn : ℕ → TimeZone → OffsetDateTime → Option OffsetDateTime → Type 0
-IsConvertedIn Y zone v result =
-    MatchOption result (¬ IsTimestampNanos (offset_instant Y v))
-    (λ w. (offset_instant Y w ≡ offset_instant Y v) × IsTimestampNanos (offset_instant Y v)
-    × (offset_seconds (offset_of w) ≡ Zone.offset_at zone (offset_instant Y v)))
+abbrev pub IsConvertedIn : TimeZone → OffsetDateTime → Option OffsetDateTime → Type 0
+IsConvertedIn zone v result =
+    MatchOption result (¬ IsTimestampNanos (offset_instant greatest_year v))
+    (λ w. (offset_instant greatest_year w ≡ offset_instant greatest_year v)
+    × IsTimestampNanos (offset_instant greatest_year v)
+    × (offset_seconds (offset_of w) ≡ Zone.offset_at zone (offset_instant greatest_year v)))
 
 -- The moment converted to a clock.
-abbrev pub IsConverted : ℕ → Clock → OffsetDateTime → Option OffsetDateTime → Type 0
-IsConverted Y Clock.Own v result = result ≡ Some v
-IsConverted Y (Clock.Fixed offset) v result = IsConvertedTo Y offset v result
-IsConverted Y (Clock.Zone zone) v result = IsConvertedIn Y zone v result
+abbrev pub IsConverted : Clock → OffsetDateTime → Option OffsetDateTime → Type 0
+IsConverted Clock.Own v result = result ≡ Some v
+IsConverted (Clock.Fixed offset) v result = IsConvertedTo offset v result
+IsConverted (Clock.Zone zone) v result = IsConvertedIn zone v result
 
 -- why a moment can't be converted to the clock
 abbrev pub conversion_error : Clock → Reason
@@ -102,7 +104,7 @@ abbrev pub offset_by : Fold → Result OffsetDateTime NotOne → Result UtcOffse
 offset_by fold (Ok m) = Ok (offset_of m)
 offset_by fold (Err NotOne.Gap) = Err nonexistent
 offset_by fold (Err (NotOne.Fold earlier later)) = of_two fold earlier later
-offset_by fold (Err NotOne.Untold) = Err outside_zone_range
+offset_by fold (Err NotOne.OutsideZoneRange) = Err outside_zone_range
 
 -- The offset of the zone at the local date and time of a moment, or why there isn't exactly one.
 abbrev pub IsOffsetWhen : Clocks → OffsetDateTime → Result UtcOffset Reason → Type 0

@@ -1,8 +1,8 @@
 //! The offset or zone that a moment is written in, and timestamps with a suffix of RFC 9557, section 4.1.
 ghost use Rattle.std.specs.Prelude.{◌≡◌, ◌≤◌, ◌+◌};
-ghost use Rattle.restamp_formats.specs.Common.{length, IfOk, greatest_year, Clock};
+ghost use Rattle.restamp_formats.specs.Common.{length, IfOk, Clock};
 ghost use Rattle.restamp_formats.specs.Zoned as spec;
-ghost use Rattle.restamp_formats.specs.{Reading.ParsesZoned, Reason.Gives, Reason.seen};
+ghost use Rattle.restamp_formats.specs.{Reading.ParsesZoned, Reason.Satisfies, Reason.seen};
 
 use crate::brief::FromReason;
 use crate::reading::{Match, read_front_3339};
@@ -24,8 +24,8 @@ pub enum Clock<'a> {
 
 // Converts the moment to the offset; `None` if it has no date there.
 #[inline(always)]
-fn shown_at(moment: OffsetDateTime, offset: UtcOffset) -> Option<OffsetDateTime>
-    ensures { spec.IsConverted greatest_year (Clock.Fixed offset) moment result }
+fn convert_to_offset(moment: OffsetDateTime, offset: UtcOffset) -> Option<OffsetDateTime>
+    ensures { spec.IsConverted (Clock.Fixed offset) moment result }
 {
     if moment.offset() == offset {
         return Some(moment);
@@ -36,7 +36,7 @@ fn shown_at(moment: OffsetDateTime, offset: UtcOffset) -> Option<OffsetDateTime>
 // Converts the moment to local time in the zone. Not inlined, so that it needs no stack for lines without a zone.
 #[inline(never)]
 fn converted_in(moment: OffsetDateTime, zone: &TimeZone<'_>) -> Option<OffsetDateTime>
-    ensures { spec.IsConverted greatest_year (Clock.Zone zone.now) moment result }
+    ensures { spec.IsConverted (Clock.Zone zone.now) moment result }
 {
     checked_to_zone(moment, zone)
 }
@@ -45,11 +45,11 @@ impl Clock<'_> {
     /// Converts the moment to this clock; `None` if it has no date at the offset, or the zone's range excludes it.
     #[inline(always)]
     pub(crate) fn show(&self, moment: OffsetDateTime) -> Option<OffsetDateTime>
-        ensures { spec.IsConverted greatest_year self.now moment result }
+        ensures { spec.IsConverted self.now moment result }
     {
         match self {
             Clock::Own => Some(moment),
-            Clock::Fixed(offset) => shown_at(moment, *offset),
+            Clock::Fixed(offset) => convert_to_offset(moment, *offset),
             Clock::Zone(zone) => converted_in(moment, zone),
         }
     }
@@ -72,8 +72,8 @@ const TRAILING: Parse = Parse::ParseFromDescription(
 );
 
 // Whether a text of RFC 3339 has a known offset. `Z` and `-00:00` leave the offset of a zone unknown.
-fn tells_offset(front: &[u8]) -> bool
-    ensures { result ≡ spec.tells_offset front.now }
+fn has_local_offset(front: &[u8]) -> bool
+    ensures { result ≡ spec.has_local_offset front.now }
 {
     !(front.ends_with(b"Z") || front.ends_with(b"z") || front.ends_with(b"-00:00"))
 }
@@ -94,7 +94,7 @@ fn with_suffix<E: FromReason>(
     front: Match,
 ) -> Result<Match, E>
     requires { front.length ≤ length text.now }
-    ensures said { Gives E.is_of (spec.IsSuffixed zones.now is_prefix text.now front) result }
+    ensures said { Satisfies E.is_of (spec.IsSuffixed zones.now is_prefix text.now front) result }
     ensures within { IfOk result (λ said. said.start + said.length ≤ length text.now) }
 {
     let suffix = read_suffix(&text[front.length..]);
@@ -102,8 +102,8 @@ fn with_suffix<E: FromReason>(
     if has_tail(is_prefix, text, end) {
         return Err(E::from_reason(Reason::Unread(TRAILING)));
     }
-    let tells_offset = tells_offset(&text[..front.length]);
-    match check_suffix(&suffix, front.moment, tells_offset, zones) {
+    let has_local_offset = has_local_offset(&text[..front.length]);
+    match check_suffix(&suffix, front.moment, has_local_offset, zones) {
         Ok(()) => Ok(Match {
             moment: front.moment,
             start: 0,
@@ -120,7 +120,7 @@ pub(crate) fn read_zoned<E: FromReason>(
     is_prefix: bool,
     text: &[u8],
 ) -> Result<Match, E>
-    ensures said { Gives E.is_of (ParsesZoned greatest_year zones.now is_prefix text.now) result }
+    ensures said { Satisfies E.is_of (ParsesZoned zones.now is_prefix text.now) result }
     ensures within { IfOk result (λ said. said.start + said.length ≤ length text.now) }
 {
     match read_front_3339(text) {

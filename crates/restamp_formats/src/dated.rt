@@ -2,9 +2,9 @@
 //!
 //! `fast` parses local times in a zone only once.
 ghost use Rattle.std.specs.Prelude.{◌≡◌, ◌+◌, ◌≤◌, ◌≤ℤ◌, ◌-ℤ◌};
-ghost use Rattle.restamp_formats.specs.Common.{neg_ℤ, pos, length, Err, IfOk, greatest_year};
+ghost use Rattle.restamp_formats.specs.Common.{neg_ℤ, pos, length, Err, IfOk};
 ghost use Rattle.restamp_formats.specs.Reading as spec;
-ghost use Rattle.restamp_formats.specs.Reason.{Gives, Reason as Reason_, erased};
+ghost use Rattle.restamp_formats.specs.Reason.{Satisfies, Reason as Reason_, erased};
 
 mod fast;
 
@@ -17,7 +17,7 @@ use time_values::{OffsetDateTime, UtcOffset};
 
 // Whether the moment is after another. Whole seconds mostly decide it, at a third of the cost of nanoseconds.
 fn is_after(moment: OffsetDateTime, other: OffsetDateTime) -> bool
-    ensures { result ≡ spec.is_after greatest_year moment other }
+    ensures { result ≡ spec.is_after moment other }
 {
     let seconds = moment.unix_timestamp();
     let others = other.unix_timestamp();
@@ -54,7 +54,7 @@ impl<'z> Undated<'_, 'z> {
     // Parses the text with that year.
     #[inline(always)]
     fn read_in_year<E: FromReason>(&self, year: i32) -> Result<Match, E>
-        ensures said { Gives E.is_of (spec.IsReadInYear greatest_year (spec.erased_undated self.now) year) result }
+        ensures said { Satisfies E.is_of (spec.IsReadInYear (spec.erased_undated self.now) year) result }
         ensures within { IfOk result (λ said. said.start + said.length ≤ length self.now.text.now) }
     {
         read_local(self.reading, self.is_prefix, self.text, &self.in_year(year))
@@ -62,7 +62,7 @@ impl<'z> Undated<'_, 'z> {
 
     // Whether the text, with that year and at the offset of the latest moment, is a moment that isn't after it.
     fn is_early(&self, year: i32) -> bool
-        ensures { spec.IsEarly greatest_year (spec.erased_undated self.now) year result }
+        ensures { spec.IsEarly (spec.erased_undated self.now) year result }
     {
         let defaults = self.in_year(year).at(self.latest.offset());
         match parse_outlined::<Brief>(self.reading, self.is_prefix, self.text, &defaults) {
@@ -74,7 +74,7 @@ impl<'z> Undated<'_, 'z> {
     // Whether to try no earlier year: the zone rejects a local time that isn't after the latest moment.
     fn is_final<E: FromReason>(&self, year: i32, why: E) -> bool
         ensures { (reason : Reason_) → E.is_of reason why
-            → spec.IsFinal greatest_year (spec.erased_undated self.now) year reason result }
+            → spec.IsFinal (spec.erased_undated self.now) year reason result }
     {
         if why.is_local_time_error() {
             return self.is_early(year);
@@ -87,7 +87,7 @@ impl<'z> Undated<'_, 'z> {
     fn read_years<E: FromReason>(&self, year: i32, count: u8, reason: E) -> Result<Match, E>
         requires { neg_ℤ (pos 2_000_000) ≤ℤ (year -ℤ pos count) }
         ensures said { (why : Reason_) → E.is_of why reason
-            → Gives E.is_of (spec.AreYearsTried greatest_year (spec.erased_undated self.now) count year why) result }
+            → Satisfies E.is_of (spec.AreYearsTried (spec.erased_undated self.now) count year why) result }
         ensures within { IfOk result (λ said. said.start + said.length ≤ length self.now.text.now) }
     {
         if count == 0 {
@@ -122,8 +122,8 @@ fn parse_by_defaults<E: FromReason>(
     reason: E,
 ) -> Result<Match, E>
     requires { (why : Reason_) × E.is_of why reason
-        × spec.ParsesAs greatest_year reading.now is_prefix text.now defaults.now (Err why) }
-    ensures said { Gives E.is_of (spec.IsDated greatest_year reading.now is_prefix text.now defaults.now) result }
+        × spec.ParsesAs reading.now is_prefix text.now defaults.now (Err why) }
+    ensures said { Satisfies E.is_of (spec.IsDated reading.now is_prefix text.now defaults.now) result }
     ensures within { IfOk result (λ said. said.start + said.length ≤ length text.now) }
 {
     match read_unplaced(reading, is_prefix, text, defaults, reason) {
@@ -155,7 +155,7 @@ pub fn parse_dated<E: FromReason>(
     text: &[u8],
     defaults: &Defaults<'_>,
 ) -> Result<Match, E>
-    ensures said { Gives E.is_of (spec.IsDated greatest_year reading.now is_prefix text.now defaults.now) result }
+    ensures said { Satisfies E.is_of (spec.IsDated reading.now is_prefix text.now defaults.now) result }
     ensures within { IfOk result (λ said. said.start + said.length ≤ length text.now) }
 {
     match parse(reading, is_prefix, text, defaults) {
@@ -177,7 +177,7 @@ pub fn read_dated(
     text: &[u8],
     defaults: &Defaults<'_>,
 ) -> Result<Match, Reason>
-    ensures said { spec.IsDated greatest_year reading.now is_prefix text.now defaults.now (erased result) }
+    ensures said { spec.IsDated reading.now is_prefix text.now defaults.now (erased result) }
     ensures within { IfOk result (λ said. said.start + said.length ≤ length text.now) }
 {
     parse_dated(reading, is_prefix, text, defaults)
@@ -192,7 +192,7 @@ fn read_others<E: FromReason>(
     reason: E,
 ) -> Result<Match, E>
     ensures said { (why : Reason_) → E.is_of why reason
-        → Gives E.is_of (spec.AreTried greatest_year readings.now is_prefix text.now defaults.now why) result }
+        → Satisfies E.is_of (spec.AreTried readings.now is_prefix text.now defaults.now why) result }
     ensures within { IfOk result (λ said. said.start + said.length ≤ length text.now) }
 {
     for reading in readings {
@@ -212,7 +212,7 @@ pub fn parse_in_turn<E: FromReason>(
     text: &[u8],
     defaults: &Defaults<'_>,
 ) -> Result<Match, E>
-    ensures said { Gives E.is_of (spec.IsReadInTurn greatest_year first.now others.now is_prefix text.now defaults.now) result }
+    ensures said { Satisfies E.is_of (spec.IsReadInTurn first.now others.now is_prefix text.now defaults.now) result }
     ensures within { IfOk result (λ said. said.start + said.length ≤ length text.now) }
 {
     if let Some(said) = fast::read_once(first, is_prefix, text, defaults) {
@@ -232,7 +232,7 @@ pub fn read_in_turn(
     text: &[u8],
     defaults: &Defaults<'_>,
 ) -> Result<Match, Reason>
-    ensures said { spec.IsReadInTurn greatest_year first.now others.now is_prefix text.now defaults.now (erased result) }
+    ensures said { spec.IsReadInTurn first.now others.now is_prefix text.now defaults.now (erased result) }
     ensures within { IfOk result (λ said. said.start + said.length ≤ length text.now) }
 {
     parse_in_turn(first, others, is_prefix, text, defaults)

@@ -143,7 +143,7 @@ fn milliseconds_of(moment: OffsetDateTime) -> Option<i64>
 #[inline(always)]
 fn count_text(moment: OffsetDateTime, unit: Unit) -> Option<Text>
     ensures { MatchOption result (¬ IsInstant greatest_year (offset_instant greatest_year moment))
-        (λ text. spec.IsCounted greatest_year unit moment (Ok text)) }
+        (λ text. spec.IsCounted unit moment (Ok text)) }
 {
     match unit {
         Unit::Seconds => Some(number(seconds_of(moment)?)),
@@ -156,7 +156,7 @@ fn count_text(moment: OffsetDateTime, unit: Unit) -> Option<Text>
 // Stores the moment's count of a unit since 1970.
 #[inline(always)]
 fn write_count<E: FromReason>(moment: OffsetDateTime, unit: Unit, text: &mut Text) -> Result<(), E>
-    ensures { Stores E.is_of (spec.IsCounted greatest_year unit moment) result text.new }
+    ensures { Stores E.is_of (spec.IsCounted unit moment) result text.new }
 {
     let Some(count) = count_text(moment, unit) else {
         return Err(E::from_reason(Reason::OutOfRange));
@@ -173,7 +173,7 @@ fn write_mail<E: FromReason>(
     digits: FractionDigits,
     text: &mut Text,
 ) -> Result<(), E>
-    ensures { Stores E.is_of (spec.IsNamedText greatest_year Named.Rfc2822 digits moment) result text.new }
+    ensures { Stores E.is_of (spec.IsNamedText Named.Rfc2822 digits moment) result text.new }
 {
     store(text_2822(moment), text)
 }
@@ -185,20 +185,20 @@ fn write_8601<E: FromReason>(
     digits: FractionDigits,
     text: &mut Text,
 ) -> Result<(), E>
-    ensures { Stores E.is_of (spec.IsNamedText greatest_year Named.Iso8601 digits moment) result text.new }
+    ensures { Stores E.is_of (spec.IsNamedText Named.Iso8601 digits moment) result text.new }
 {
     store(text_8601(moment), text)
 }
 
 // Stores the text of the moment by a named format, or returns what is kept of the reason why it has no text.
 #[inline(always)]
-fn write_shown<E: FromReason>(
+fn write_named_text<E: FromReason>(
     moment: OffsetDateTime,
     named: Named,
     digits: FractionDigits,
     text: &mut Text,
 ) -> Result<(), E>
-    ensures { Stores E.is_of (spec.IsNamedText greatest_year named digits moment) result text.new }
+    ensures { Stores E.is_of (spec.IsNamedText named digits moment) result text.new }
 {
     match named {
         Named::Rfc3339 => store(text_3339(moment, digits), text),
@@ -217,10 +217,10 @@ fn write_named<E: FromReason>(
     clock: &Clock<'_>,
     text: &mut Text,
 ) -> Result<(), E>
-    ensures { Stores E.is_of (spec.IsWrittenOn greatest_year (Writing.Named named) digits clock.now moment) result text.new }
+    ensures { Stores E.is_of (spec.IsWrittenOn (Writing.Named named) digits clock.now moment) result text.new }
 {
     match clock.show(moment) {
-        Some(shown) => write_shown(shown, named, digits, text),
+        Some(shown) => write_named_text(shown, named, digits, text),
         None => Err(E::from_reason(clock.conversion_error())),
     }
 }
@@ -235,7 +235,7 @@ fn write_described<E: FromReason>(
     clock: &Clock<'_>,
     text: &mut Text,
 ) -> Result<(), E>
-    ensures { Stores E.is_of (spec.IsWrittenOn greatest_year (Writing.Described description.now) digits clock.now moment) result
+    ensures { Stores E.is_of (spec.IsWrittenOn (Writing.Described description.now) digits clock.now moment) result
         text.new }
 {
     let Some(shown) = clock.show(moment) else {
@@ -257,7 +257,7 @@ pub fn write_to<E: FromReason>(
     form: &Form<'_>,
     text: &mut Text,
 ) -> Result<(), E>
-    ensures { Stores E.is_of (spec.IsWritten greatest_year form.now moment) result text.new }
+    ensures { Stores E.is_of (spec.IsWritten form.now moment) result text.new }
 {
     match form.writing {
         Writing::Named(named) => write_named(moment, *named, form.digits, &form.clock, text),
@@ -267,9 +267,9 @@ pub fn write_to<E: FromReason>(
     }
 }
 
-/// The text of the moment, or the reason why it has no text.
+/// Formats the moment, on the form's clock. An error is the reason why it has no text.
 pub fn write_moment(moment: OffsetDateTime, form: &Form<'_>) -> Result<Text, Reason>
-    ensures { spec.IsWritten greatest_year form.now moment (erased result) }
+    ensures { spec.IsWritten form.now moment (erased result) }
 {
     let mut text = Text::new();
     write_to(moment, form, &mut text)?;

@@ -2,7 +2,7 @@
 ghost use Rattle.std.specs.Prelude.{◌≡◌, ◌≤◌, ◌+◌, if◌then◌else◌};
 ghost use Rattle.restamp_formats.specs.Common.{length, take, IfOk, Err, Ok};
 ghost use Rattle.restamp_formats.specs.Reading as spec;
-ghost use Rattle.restamp_formats.specs.Reason.{Gives, negative_fraction};
+ghost use Rattle.restamp_formats.specs.Reason.{Satisfies, negative_fraction};
 
 use crate::brief::FromReason;
 use crate::reading::Match;
@@ -19,7 +19,7 @@ fn is_negative_fraction(number: &[u8]) -> bool
 #[inline(always)]
 pub(crate) fn without_negative_fraction<E: FromReason>(text: &[u8], said: Match) -> Result<Match, E>
     requires { said.start + said.length ≤ length text.now }
-    ensures said { Gives E.is_of (λ given. given ≡ (if spec.is_negative_fraction (take said.length text.now)
+    ensures said { Satisfies E.is_of (λ given. given ≡ (if spec.is_negative_fraction (take said.length text.now)
         then Err negative_fraction else Ok said)) result }
     ensures within { IfOk result (λ said. said.start + said.length ≤ length text.now) }
 {

@@ -10,28 +10,28 @@ ghost use Rattle.restamp_formats.specs.MissingField.{ClocksHaveNoUse, HasNoUse, 
 /// A text written by a description parses likewise by a description with the same tree, provided that the values of its
 /// components make a record of that moment, and that each component's text is followed by bytes that may follow it.
 pub fn law_rewritten_read_back()
-    ensures text { ReadsRewrittenBack greatest_year }
+    ensures text { ReadsRewrittenBack }
     ensures auto { AutoHasAll }
 {}
 
 /// A suffix that fits its moment changes nothing: if RFC 3339 matches a whole text, as it does each text that it
 /// writes, then RFC 9557 matches the text with the suffix, as the same moment.
 pub fn law_suffixed_read_back()
-    ensures { ReadsSuffixedBack greatest_year }
+    ensures { ReadsSuffixedBack }
 {}
 
 /// A text written by RFC 3339 with each nonzero digit of its fraction, and followed by the name of the zone that it was
 /// converted to, parses by RFC 9557 as the same moment with all its bytes. Writing that moment again gives the same
 /// text.
 pub fn law_zoned_read_back()
-    ensures text { ReadsZonedBack greatest_year }
-    ensures again { WritesZonedSame greatest_year }
+    ensures text { ReadsZonedBack }
+    ensures again { WritesZonedSame }
 {}
 
 /// Defaults change no record that has all of a moment.
 #[tactic(auto, using(crate::proofs::DescribedBack::keeps_moment))]
 pub fn law_defaults()
-    ensures { KeepsMoment greatest_year }
+    ensures { KeepsMoment }
 {}
 
 /// A text written by a description has all of a moment if the values of its components for the date, the time and the
@@ -39,7 +39,7 @@ pub fn law_defaults()
 /// offset and the sizes of its parts determine the offset.
 #[tactic(auto, using(crate::proofs::ComponentValueLemmas::says_all_told, crate::proofs::ComponentValueLemmas::signs_tell))]
 pub fn law_all_values()
-    ensures says { AllValuesDetermine greatest_year }
+    ensures says { AllValuesDetermine }
     ensures signs { SignsDetermine }
 {}
 
@@ -53,25 +53,25 @@ pub fn law_one_tree()
 /// description wrote it, whatever the defaults.
 #[tactic(auto, using(crate::proofs::CommonBack::common_reads_back))]
 pub fn law_common_read_back()
-    ensures { CommonReadsBack greatest_year }
+    ensures { CommonReadsBack }
 {}
 
 /// No text, and no prefix of one, parses as a moment by a format for which
 /// [`Reading::missing_field`](crate::Reading::missing_field) returns something.
 pub fn law_no_moment()
-    ensures { ParsesNoMoment greatest_year }
+    ensures { ParsesNoMoment }
 {}
 
 /// A default year changes nothing if each text of a description has a part of a year. A default offset changes nothing
 /// if each text has the hour of an offset. A count from 1970 gives both.
 #[tactic(auto, using(crate::proofs::MissingFieldUses::has_no_use))]
 pub fn law_no_use()
-    ensures { HasNoUse greatest_year }
+    ensures { HasNoUse }
 {}
 
 /// The zone for local times changes nothing if each text of a format has an offset, that is, if
 /// [`Reading::can_default`](crate::Reading::can_default) returns false for the offset.
 #[tactic(auto, using(crate::proofs::MissingFieldUses::clocks_have_no_use))]
 pub fn law_no_clocks()
-    ensures { ClocksHaveNoUse greatest_year }
+    ensures { ClocksHaveNoUse }
 {}

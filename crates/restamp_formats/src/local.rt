@@ -1,9 +1,9 @@
 //! Timestamps that omit their offset, parsed as local times in a zone.
 ghost use Rattle.std.specs.Prelude.{◌≡◌, ◌+◌, ◌≤◌};
-ghost use Rattle.restamp_formats.specs.Common.{false, length, Err, IfOk, None, greatest_year};
+ghost use Rattle.restamp_formats.specs.Common.{false, length, Err, IfOk, None};
 ghost use Rattle.restamp_formats.specs.Zoned as spec;
 ghost use Rattle.restamp_formats.specs.Reading.{ParsesAs, ParsesInZone, ParsesLocally, at_offset};
-ghost use Rattle.restamp_formats.specs.Reason.{Gives, Reason as Reason_, erased};
+ghost use Rattle.restamp_formats.specs.Reason.{Satisfies, Reason as Reason_, erased};
 
 use crate::brief::FromReason;
 use crate::reading::{Defaults, Match, Reading, parse, parse_outlined};
@@ -63,7 +63,7 @@ impl Clocks<'_> {
             Ok(moment) => Ok(moment.offset()),
             Err(NotOne::Gap) => Err(Reason::Nonexistent),
             Err(NotOne::Fold { earlier, later }) => self.fold.of_two(earlier, later),
-            Err(NotOne::Untold) => Err(Reason::OutsideZoneRange),
+            Err(NotOne::OutsideZoneRange) => Err(Reason::OutsideZoneRange),
         }
     }
 
@@ -76,7 +76,7 @@ impl Clocks<'_> {
         text: &[u8],
         defaults: &Defaults<'_>,
     ) -> Result<Match, E>
-        ensures said { Gives E.is_of (ParsesInZone greatest_year self.now reading.now is_prefix text.now defaults.now) result }
+        ensures said { Satisfies E.is_of (ParsesInZone self.now reading.now is_prefix text.now defaults.now) result }
         ensures within { IfOk result (λ said. said.start + said.length ≤ length text.now) }
     {
         let shown = match parse_outlined(reading, is_prefix, text, &defaults.at(UtcOffset::UTC)) {
@@ -121,8 +121,8 @@ pub(crate) fn read_unplaced<E: FromReason>(
     defaults: &Defaults<'_>,
     reason: E,
 ) -> Result<Match, E>
-    requires { (why : Reason_) × E.is_of why reason × ParsesAs greatest_year reading.now is_prefix text.now defaults.now (Err why) }
-    ensures said { Gives E.is_of (ParsesLocally greatest_year reading.now is_prefix text.now defaults.now) result }
+    requires { (why : Reason_) × E.is_of why reason × ParsesAs reading.now is_prefix text.now defaults.now (Err why) }
+    ensures said { Satisfies E.is_of (ParsesLocally reading.now is_prefix text.now defaults.now) result }
     ensures within { IfOk result (λ said. said.start + said.length ≤ length text.now) }
 {
     match defaults.clocks {
@@ -139,7 +139,7 @@ pub(crate) fn read_local<E: FromReason>(
     text: &[u8],
     defaults: &Defaults<'_>,
 ) -> Result<Match, E>
-    ensures said { Gives E.is_of (ParsesLocally greatest_year reading.now is_prefix text.now defaults.now) result }
+    ensures said { Satisfies E.is_of (ParsesLocally reading.now is_prefix text.now defaults.now) result }
     ensures within { IfOk result (λ said. said.start + said.length ≤ length text.now) }
 {
     match parse(reading, is_prefix, text, defaults) {

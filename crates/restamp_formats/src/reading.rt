@@ -1,10 +1,10 @@
 //! Parses a timestamp by a format.
 ghost use Rattle.std.specs.Prelude.{◌≡◌, ◌+◌, ◌-◌, ◌≤◌};
 ghost use Rattle.restamp_formats.specs.Common.{length, IfOk, MatchResult, Ok, greatest_year, refusal_of, empty, IsFront, IsOutcome, Reading};
-ghost use Rattle.time_parsing.specs.Outcome.{seen as seen_parse, seen_front};
+ghost use Rattle.time_parsing.specs.Outcome.{seen as seen_parse, erased_prefix_result};
 ghost use Rattle.time_parsing.specs.Iso8601 as iso8601;
 ghost use Rattle.restamp_formats.specs.Reading as spec;
-ghost use Rattle.restamp_formats.specs.Reason.{Gives, IsErrOf, erased, unread};
+ghost use Rattle.restamp_formats.specs.Reason.{Satisfies, IsErrOf, erased, unread};
 
 mod fast;
 
@@ -14,7 +14,7 @@ use crate::guard::without_negative_fraction;
 use crate::local::Clocks;
 use crate::reason::Reason;
 use std::convert::TryFrom;
-use time_parsing::{Iso8601, Parsable, Rfc2822, Rfc3339, value_before};
+use time_parsing::{Iso8601, Parsable, Rfc2822, Rfc3339Strict, value_before};
 use time_preparing::Prepared;
 use time_record::Parsed;
 use time_values::error::Parse;
@@ -27,7 +27,7 @@ pub const MOST_STEPS: usize = 256;
 /// A format that timestamps are parsed by.
 #[derive(Drop)]
 pub enum Reading {
-    /// RFC 3339, section 5.6.
+    /// RFC 3339, section 5.6, with `T`, `t` or a space between the date and the time.
     Rfc3339,
     /// RFC 9557, section 4.1: RFC 3339 with a suffix, which names one of these zones.
     Zoned(Zones),
@@ -83,7 +83,7 @@ pub fn has_year(parsed: &Parsed) -> bool
 // Sets the year of a record that has no part of one.
 #[inline(always)]
 pub(crate) fn put_year(year: Option<i32>, parsed: &mut Parsed)
-    ensures { parsed.new ≡ spec.with_year greatest_year year parsed.old }
+    ensures { parsed.new ≡ spec.with_year year parsed.old }
 {
     let Some(year) = year else {
         return;
@@ -114,7 +114,7 @@ fn put_offset(offset: Option<UtcOffset>, parsed: &mut Parsed)
 /// Sets the parts of a record that the text omits to the defaults.
 #[inline(always)]
 pub fn complete(defaults: &Defaults<'_>, parsed: &mut Parsed)
-    ensures { parsed.new ≡ spec.completed greatest_year defaults.now parsed.old }
+    ensures { parsed.new ≡ spec.completed defaults.now parsed.old }
 {
     put_year(defaults.year, parsed);
     put_offset(defaults.offset, parsed);
@@ -136,7 +136,7 @@ pub(crate) fn match_before(rest: &[u8], text: &[u8], moment: OffsetDateTime) -> 
 // Parses a prefix of the text by the format if `is_prefix` is true, otherwise the whole text.
 #[inline(always)]
 fn read_by<F: Parsable>(format: &F, is_prefix: bool, text: &[u8]) -> Result<Match, Parse>
-    ensures said { spec.IsReadBy greatest_year is_prefix (F.path format.now) (F.reads format.now) (F.refuses format.now) text.now
+    ensures said { spec.IsReadBy is_prefix (F.path format.now) (F.reads format.now) (F.refuses format.now) text.now
         (spec.erased_match result) }
     ensures within { IfOk result (λ said. said.start + said.length ≤ length text.now) }
 {
@@ -155,8 +155,8 @@ fn front_with<'a, F: Parsable>(
     text: &'a [u8],
     defaults: &Defaults<'_>,
 ) -> Result<(OffsetDateTime, &'a [u8]), Parse>
-    ensures { IsFront (spec.IsCompleted greatest_year defaults.now) (F.reads format.now) (F.refuses format.now) text.now
-        empty (seen_front result) }
+    ensures { IsFront (spec.IsCompleted defaults.now) (F.reads format.now) (F.refuses format.now) text.now
+        empty (erased_prefix_result result) }
 {
     let mut parsed = Parsed::new();
     let rest = format.parse_into(text, &mut parsed)?;
@@ -172,7 +172,7 @@ fn whole_with<F: Parsable>(
     text: &[u8],
     defaults: &Defaults<'_>,
 ) -> Result<OffsetDateTime, Parse>
-    ensures { IsOutcome (spec.IsCompleted greatest_year defaults.now) (F.reads format.now) (F.refuses format.now) text.now
+    ensures { IsOutcome (spec.IsCompleted defaults.now) (F.reads format.now) (F.refuses format.now) text.now
         empty (seen_parse result) }
 {
     let mut parsed = Parsed::new();
@@ -189,7 +189,7 @@ fn read_with<F: Parsable>(
     text: &[u8],
     defaults: &Defaults<'_>,
 ) -> Result<Match, Parse>
-    ensures said { spec.IsReadWith greatest_year is_prefix (F.reads format.now) (F.refuses format.now) text.now
+    ensures said { spec.IsReadWith is_prefix (F.reads format.now) (F.refuses format.now) text.now
         defaults.now (spec.erased_match result) }
     ensures within { IfOk result (λ said. said.start + said.length ≤ length text.now) }
 {
@@ -219,7 +219,7 @@ fn bare(said: Match, text: &[u8]) -> Match
 // Not inlined, so that the other formats are.
 #[inline(never)]
 fn read_mail(is_prefix: bool, text: &[u8]) -> Result<Match, Parse>
-    ensures said { spec.IsReadMail greatest_year is_prefix text.now (spec.erased_match result) }
+    ensures said { spec.IsReadMail is_prefix text.now (spec.erased_match result) }
     ensures within { IfOk result (λ said. said.start + said.length ≤ length text.now) }
 {
     let said = read_by(&Rfc2822, is_prefix, text)?;
@@ -233,31 +233,31 @@ fn read_mail(is_prefix: bool, text: &[u8]) -> Result<Match, Parse>
 /// beside whole texts.
 #[inline(never)]
 pub fn read_front_3339(text: &[u8]) -> Result<Match, Parse>
-    ensures said { spec.IsReadInFront greatest_year text.now (spec.erased_match result) }
+    ensures said { spec.IsReadInFront text.now (spec.erased_match result) }
     ensures within { IfOk result (λ said. said.start + said.length ≤ length text.now) }
 {
     if let Some(said) = fast::front_3339(text) {
         return Ok(said);
     }
-    read_by(&Rfc3339, true, text)
+    read_by(&Rfc3339Strict, true, text)
 }
 
 // Parses a prefix of the text by RFC 3339 if `is_prefix` is true, otherwise the whole text.
 #[inline(always)]
 fn read_3339(is_prefix: bool, text: &[u8]) -> Result<Match, Parse>
-    ensures said { spec.IsRead3339 greatest_year is_prefix text.now (spec.erased_match result) }
+    ensures said { spec.IsRead3339 is_prefix text.now (spec.erased_match result) }
     ensures within { IfOk result (λ said. said.start + said.length ≤ length text.now) }
 {
     if is_prefix {
         return read_front_3339(text);
     }
-    read_by(&Rfc3339, is_prefix, text)
+    read_by(&Rfc3339Strict, is_prefix, text)
 }
 
 // Parses a text by ISO 8601 with defaults. Not inlined, so that it needs no stack beside other formats.
 #[inline(never)]
 fn read_8601(is_prefix: bool, text: &[u8], defaults: &Defaults<'_>) -> Result<Match, Parse>
-    ensures said { spec.IsReadWith greatest_year is_prefix (iso8601.Reads greatest_year) (iso8601.Refuses greatest_year) text.now
+    ensures said { spec.IsReadWith is_prefix (iso8601.Reads greatest_year) (iso8601.Refuses greatest_year) text.now
         defaults.now (spec.erased_match result) }
     ensures within { IfOk result (λ said. said.start + said.length ≤ length text.now) }
 {
@@ -292,7 +292,7 @@ fn parse_counted<E: FromReason>(
     text: &[u8],
     defaults: &Defaults<'_>,
 ) -> Result<Match, E>
-    ensures said { Gives E.is_of (spec.ParsesAs greatest_year (Reading.Counted described.now) is_prefix text.now defaults.now) result }
+    ensures said { Satisfies E.is_of (spec.ParsesAs (Reading.Counted described.now) is_prefix text.now defaults.now) result }
     ensures within { IfOk result (λ said. said.start + said.length ≤ length text.now) }
 {
     match read_with(described, is_prefix, text, defaults) {
@@ -310,7 +310,7 @@ pub fn parse<E: FromReason>(
     text: &[u8],
     defaults: &Defaults<'_>,
 ) -> Result<Match, E>
-    ensures said { Gives E.is_of (spec.ParsesAs greatest_year reading.now is_prefix text.now defaults.now) result }
+    ensures said { Satisfies E.is_of (spec.ParsesAs reading.now is_prefix text.now defaults.now) result }
     ensures within { IfOk result (λ said. said.start + said.length ≤ length text.now) }
 {
     match reading {
@@ -332,7 +332,7 @@ pub(crate) fn parse_outlined<E: FromReason>(
     text: &[u8],
     defaults: &Defaults<'_>,
 ) -> Result<Match, E>
-    ensures said { Gives E.is_of (spec.ParsesAs greatest_year reading.now is_prefix text.now defaults.now) result }
+    ensures said { Satisfies E.is_of (spec.ParsesAs reading.now is_prefix text.now defaults.now) result }
     ensures within { IfOk result (λ said. said.start + said.length ≤ length text.now) }
 {
     parse(reading, is_prefix, text, defaults)
@@ -346,7 +346,7 @@ pub fn read(
     text: &[u8],
     defaults: &Defaults<'_>,
 ) -> Result<Match, Reason>
-    ensures said { spec.ParsesAs greatest_year reading.now is_prefix text.now defaults.now (erased result) }
+    ensures said { spec.ParsesAs reading.now is_prefix text.now defaults.now (erased result) }
     ensures within { IfOk result (λ said. said.start + said.length ≤ length text.now) }
 {
     parse_outlined(reading, is_prefix, text, defaults)

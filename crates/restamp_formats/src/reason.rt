@@ -17,13 +17,12 @@ pub struct TwoOffsets {
     pub later: OffsetParts,
 }
 
-/// How far local time is ahead of UTC, or behind it. Each field has a word of memory, so that a [`Reason`] is copied by
-/// words.
+/// An offset from UTC. Each field takes a word of memory, so that a [`Reason`] is copied by words.
 #[derive(Clone, Copy, Debug, PartialEq, Eq)]
 pub struct OffsetParts {
-    /// Whether local time is behind.
+    /// Whether local time is behind UTC.
     pub is_behind: bool,
-    /// By how many seconds.
+    /// The seconds between local time and UTC, 0 to 93599.
     pub seconds: u64,
 }
 

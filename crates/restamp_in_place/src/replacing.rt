@@ -134,7 +134,8 @@ fn install<F: Folder, S: Drop>(
     }
 }
 
-// Installs the new file, and writes the folder to the disk. Removes the new file if it can't be installed.
+// Installs the new file and syncs the folder. Removes the new file if it can't be installed. If only the sync fails, the
+// new file is in place, and the result is an error.
 fn put<F: Folder, S: Drop>(
     folder: &mut F,
     plan: &Plan<'_>,

@@ -9,7 +9,7 @@ use Rattle.time_values.specs.declared.weekday.Weekday.{Weekday}
 use Rattle.time_values.specs.declared.weekday.Weekday.TheVariants.{Monday}
 use Rattle.time_digits.specs.Digits.{NoCut, IsDigit, IsDigitRun}
 use Rattle.time_readers.specs.MailBlanks.{blanks, cfws, comment, comment_end, crlf, fws, is_blank, line_fold, opt_cfws}
-use Rattle.time_readers.specs.Readers.{Reader, Stand, one_of, ◌then◌, zero_or_more}
+use Rattle.time_readers.specs.Readers.{Reader, MatchesPlaces, one_of, ◌then◌, zero_or_more}
 use Rattle.time_readers.specs.Rfc2822.{FailsAt, IsShortWeekday, nothing_read, to_offset_places, offset_places}
 use Rattle.time_readers.specs.declared.rfc2822.Place.TheVariants.{WeekdayName, Day}
 use Rattle.time_readers.proofs.MailBlanks.{blanks_or_comment, fws-blanks, fws-none, more_lines-end, opt_cfws-leaves, read-cut}
@@ -92,7 +92,7 @@ no_weekday bytes none text rest w cut is = true≢false (sym (weekday-begins w t
 
 -- the day fails, because no day follows the bytes before it
 day-fails : (bytes mid : List ℕ) → opt_cfws bytes ≡ Some mid → is_ascii_digit (get_or mid 0 0) ≡ false → begin_none mid → FailsAt true bytes Day
-unfolding Stand
+unfolding MatchesPlaces
 day-fails bytes mid gap no_digit none =
     let front = read-cut opt_cfws opt_cfws-leaves bytes mid gap in
     record {

@@ -10,7 +10,7 @@ use Rattle.time_components.specs.declared.format_description.Component.TheVarian
 use Rattle.time_components.specs.declared.inspect.Step.{Step}
 use Rattle.time_components.specs.declared.inspect.Step.TheVariants as step
 use Rattle.restamp_lines.specs.Job.{is_inside}
-use Rattle.restamp_lines.specs.declared.anywhere.fast.Firsts.{Firsts}
+use Rattle.restamp_lines.specs.declared.anywhere.firsts.Firsts.{Firsts}
 use Rattle.restamp_formats.specs.declared.reading.Reading.{Reading}
 use Rattle.restamp_formats.specs.declared.reading.Reading.TheVariants as reading
 

@@ -1,4 +1,5 @@
--- The location of the error in a rejected timestamp, and what was expected there. `Y` is the greatest year.
+-- The location of the error in a rejected timestamp, and what was expected there.
+use Rattle.time_values.specs.Calendar.{greatest_year}
 use Rattle.std.specs.Prelude.{◌≡◌, ℕ, ◌+◌, ◌⊎◌, Bool, true, false, List, [], drop, Option, None, Some, MatchBool, MatchOption, Result, MatchResult, not, ◌&&◌, ◌||◌, if◌then◌else◌, is_some, unwrap_or}
 use Rattle.std.specs.Option.{option_map}
 use Rattle.time_values.specs.Refusal.{Refusal, trailing, insufficient}
@@ -11,15 +12,15 @@ use Rattle.time_record.specs.Record.{Record, empty}
 use Rattle.time_parsing.specs.Iso8601 as Iso8601
 use Rattle.time_parsing.specs.Outcome as Outcome
 use Rattle.time_parsing.specs.Rfc2822 as Rfc2822
-use Rattle.time_parsing.specs.Rfc3339 as Rfc3339
+use Rattle.time_parsing.specs.Rfc3339Strict as Rfc3339
 use Rattle.time_parsing.specs.Outcome.{Refusing}
 use Rattle.time_locating.specs.Iso8601 as located_iso
 use Rattle.time_locating.specs.IsoMarks as iso_marks
 use Rattle.time_locating.specs.Located.{IsLocated, IsValueAt, Locating, Marking, range_name, wants}
 use Rattle.time_locating.specs.Marks.{MarksTree}
-use Rattle.time_locating.specs.Misses.{LocatesTree, Wanted, first_byte, the_end}
+use Rattle.time_locating.specs.Misses.{LocatesTree, Expectation, first_byte, the_end}
 use Rattle.time_locating.specs.Rfc2822 as located_mail
-use Rattle.time_locating.specs.Rfc3339 as located_rfc3339
+use Rattle.time_locating.specs.Rfc3339Strict as located_rfc3339
 use Rattle.time_locating.specs.declared.located.Located.{Located}
 use Rattle.restamp_formats.specs.Reading.{IsReadInFront, completed, has_year, in_year}
 use Rattle.restamp_formats.specs.Reason.{Reason, suffix, unread, text_with}
@@ -38,9 +39,9 @@ use Rattle.restamp_formats.specs.declared.reading.Defaults.{Defaults}
 -- the location of an error: the column of the byte, from 1, and what was expected there, if that is reported
 pub record ErrorLocation : Type 0 where
   pub column : ℕ
-  pub wanted : Option Wanted
+  pub wanted : Option Expectation
 
-abbrev pub error_location : ℕ → Option Wanted → ErrorLocation
+abbrev pub error_location : ℕ → Option Expectation → ErrorLocation
 error_location column wanted = record { column = column; wanted = wanted }
 
 -- the location without the address of what was expected
@@ -77,8 +78,8 @@ IsLocationBy reads locates marks p e w =
     ⊎ ((IsMatched p.is_prefix reads p.text → ⊥) × IsMismatchLocation reads locates p w)
 
 -- the location of the error by a description
-abbrev pub IsTreeLocation : ℕ → Tree → Part → Refusal → ErrorLocation → Type 0
-IsTreeLocation Y tree = IsLocationBy (Description.Reads Y tree) (LocatesTree Y first_byte tree) (MarksTree Y tree)
+abbrev pub IsTreeLocation : Tree → Part → Refusal → ErrorLocation → Type 0
+IsTreeLocation tree = IsLocationBy (Description.Reads greatest_year tree) (LocatesTree first_byte tree) (MarksTree tree)
 
 -- bytes follow the text
 abbrev pub is_trailing : Refusal → Bool
@@ -86,8 +87,8 @@ is_trailing trailing = true
 is_trailing e = false
 
 -- the location of the error by RFC 3339
-abbrev pub IsRfc3339Location : ℕ → Part → Refusal → ErrorLocation → Type 0
-IsRfc3339Location Y = IsLocationBy (Rfc3339.Reads Y) located_rfc3339.Locates located_rfc3339.Marks
+abbrev pub IsRfc3339Location : Part → Refusal → ErrorLocation → Type 0
+IsRfc3339Location = IsLocationBy (Rfc3339.Reads greatest_year) located_rfc3339.Locates located_rfc3339.Marks
 
 -- the location behind the suffix that follows a prefix by RFC 3339
 abbrev pub IsLocationBehind : Part → Match → ErrorLocation → Type 0
@@ -96,55 +97,55 @@ IsLocationBehind p front w =
     × (w ≡ error_location (p.start + front.length + s.len + 1) (Some the_end))
 
 -- the location of bytes that follow a text with a suffix
-abbrev pub IsTailLocation : ℕ → Part → Refusal → ErrorLocation → Type 0
-IsTailLocation Y p e w =
-    (outcome : Result Match Refusal) × IsReadInFront Y p.text outcome
-    × MatchResult outcome (λ front. IsLocationBehind p front w) (λ _. IsRfc3339Location Y p e w)
+abbrev pub IsTailLocation : Part → Refusal → ErrorLocation → Type 0
+IsTailLocation p e w =
+    (outcome : Result Match Refusal) × IsReadInFront p.text outcome
+    × MatchResult outcome (λ front. IsLocationBehind p front w) (λ _. IsRfc3339Location p e w)
 
 -- the location of the error in a part of a line that may have a suffix
-abbrev pub IsZonedLocation : ℕ → Part → Refusal → ErrorLocation → Type 0
-IsZonedLocation Y p e w =
+abbrev pub IsZonedLocation : Part → Refusal → ErrorLocation → Type 0
+IsZonedLocation p e w =
     let front = record p { is_prefix = true } in
-    MatchBool (is_trailing e) (IsTailLocation Y front e w) (IsRfc3339Location Y front e w)
+    MatchBool (is_trailing e) (IsTailLocation front e w) (IsRfc3339Location front e w)
 
 -- The location of the error by any of the formats. Defaults have no effect, since they only supply what a text omits.
-abbrev pub IsPartLocation : ℕ → Reading → Part → Refusal → ErrorLocation → Type 0
-IsPartLocation Y reading.Rfc3339 = IsRfc3339Location Y
-IsPartLocation Y (reading.Zoned zones) = IsZonedLocation Y
-IsPartLocation Y reading.Rfc2822 = IsLocationBy (Rfc2822.Reads Y) located_mail.Locates located_mail.Marks
-IsPartLocation Y reading.Iso8601 = IsLocationBy (Iso8601.Reads Y) (located_iso.Locates Y) (iso_marks.Marks Y)
-IsPartLocation Y (reading.Described d) = IsTreeLocation Y (steps_shape d)
-IsPartLocation Y (reading.Complete d) = IsTreeLocation Y (steps_shape d)
-IsPartLocation Y (reading.Counted d) = IsTreeLocation Y (steps_shape d)
+abbrev pub IsPartLocation : Reading → Part → Refusal → ErrorLocation → Type 0
+IsPartLocation reading.Rfc3339 = IsRfc3339Location
+IsPartLocation (reading.Zoned zones) = IsZonedLocation
+IsPartLocation reading.Rfc2822 = IsLocationBy (Rfc2822.Reads greatest_year) located_mail.Locates located_mail.Marks
+IsPartLocation reading.Iso8601 = IsLocationBy (Iso8601.Reads greatest_year) located_iso.Locates iso_marks.Marks
+IsPartLocation (reading.Described d) = IsTreeLocation (steps_shape d)
+IsPartLocation (reading.Complete d) = IsTreeLocation (steps_shape d)
+IsPartLocation (reading.Counted d) = IsTreeLocation (steps_shape d)
 
 -- The location of a suffix that rejects the moment of its prefix by RFC 3339; `otherwise` if there is no such
 -- prefix.
-abbrev pub IsSuffixLocation : ℕ → Part → ErrorLocation → ErrorLocation → Type 0
-IsSuffixLocation Y p otherwise w =
-    (outcome : Result Match Refusal) × IsReadInFront Y p.text outcome
+abbrev pub IsSuffixLocation : Part → ErrorLocation → ErrorLocation → Type 0
+IsSuffixLocation p otherwise w =
+    (outcome : Result Match Refusal) × IsReadInFront p.text outcome
     × MatchResult outcome (λ front. w ≡ error_location (p.start + front.length + 1) None) (λ _. w ≡ otherwise)
 
 -- The location of the error in a part that was rejected for a reason: `otherwise`, unless no format matches it, or its
 -- suffix rejects it. If no format matches, it is the location by the first.
-abbrev pub IsReasonLocation : ℕ → Reading → Part → Reason → ErrorLocation → ErrorLocation → Type 0
-IsReasonLocation Y format p (unread e) otherwise w = IsPartLocation Y format p e w
-IsReasonLocation Y format p (suffix fault) otherwise w = IsSuffixLocation Y p otherwise w
-IsReasonLocation Y format p reason otherwise w = w ≡ otherwise
+abbrev pub IsReasonLocation : Reading → Part → Reason → ErrorLocation → ErrorLocation → Type 0
+IsReasonLocation format p (unread e) otherwise w = IsPartLocation format p e w
+IsReasonLocation format p (suffix fault) otherwise w = IsSuffixLocation p otherwise w
+IsReasonLocation format p reason otherwise w = w ≡ otherwise
 
 -- The location of the error in a timestamp that was rejected at a column for a reason: that column if the line has no
 -- part for a timestamp.
-abbrev pub IsErrorLocation : ℕ → Job → List ℕ → ℕ → Reason → ErrorLocation → Type 0
-IsErrorLocation Y job line column reason w =
+abbrev pub IsErrorLocation : Job → List ℕ → ℕ → Reason → ErrorLocation → Type 0
+IsErrorLocation job line column reason w =
     MatchOption (part_of job.place line) (w ≡ error_location column None)
-    (λ p. IsReasonLocation Y job.first.now p reason (error_location column None) w)
+    (λ p. IsReasonLocation job.first.now p reason (error_location column None) w)
 
 -- The error has one location, and one report of what was expected there, which may be `None`.
-abbrev pub OneErrorLocation : ℕ → Type 0
-OneErrorLocation Y =
+abbrev pub OneErrorLocation : Type 0
+OneErrorLocation =
     (job : Job) (line : List ℕ) (column : ℕ) (reason : Reason) (w other : ErrorLocation)
-    → IsErrorLocation Y job line column reason w → IsErrorLocation Y job line column reason other → w ≡ other
+    → IsErrorLocation job line column reason w → IsErrorLocation job line column reason other → w ≡ other
 
--- ---- The part that is missing from a rejected timestamp. `Y` is the greatest year.
+-- ---- The part that is missing from a rejected timestamp.
 
 -- a record has a whole year; it has a whole ISO 8601 week year
 abbrev pub has_whole_year : Record → Bool
@@ -196,21 +197,23 @@ abbrev pub dated : Defaults → Defaults
 dated d = dated_by d d.latest
 
 -- The missing part of a text, with defaults for what the text omits. A format has to match a prefix of the text.
-abbrev pub IsMissingFieldBy : ℕ → Outcome.Reading → Refusing → Defaults → List ℕ → Option MissingField → Type 0
-IsMissingFieldBy Y reads refuses defaults text result =
+abbrev pub IsMissingFieldBy : Outcome.Reading → Refusing → Defaults → List ℕ → Option MissingField → Type 0
+IsMissingFieldBy reads refuses defaults text result =
     ((e : Refusal) × refuses text empty e × (result ≡ None))
     ⊎ ((rest : List ℕ) × (r : Record) × reads text empty rest r
-    × (result ≡ Some (missing_field_in (completed Y defaults r))))
+    × (result ≡ Some (missing_field_in (completed defaults r))))
 
 -- The missing part by any of the formats. RFC 3339 and RFC 2822 give all of a moment, and a complete description gets
 -- no defaults.
-abbrev pub IsMissingFieldIn : ℕ → Reading → Defaults → List ℕ → Option MissingField → Type 0
-IsMissingFieldIn Y reading.Iso8601 = IsMissingFieldBy Y (Iso8601.Reads Y) (Iso8601.Refuses Y)
-IsMissingFieldIn Y (reading.Described d) =
-    IsMissingFieldBy Y (Description.Reads Y (steps_shape d)) (Description.Refuses Y (steps_shape d))
-IsMissingFieldIn Y (reading.Counted d) =
-    IsMissingFieldBy Y (Description.Reads Y (steps_shape d)) (Description.Refuses Y (steps_shape d))
-IsMissingFieldIn Y format = λ defaults text result. result ≡ None
+abbrev pub IsMissingFieldIn : Reading → Defaults → List ℕ → Option MissingField → Type 0
+IsMissingFieldIn reading.Iso8601 = IsMissingFieldBy (Iso8601.Reads greatest_year) (Iso8601.Refuses greatest_year)
+IsMissingFieldIn (reading.Described d) =
+    IsMissingFieldBy (Description.Reads greatest_year (steps_shape d))
+    (Description.Refuses greatest_year (steps_shape d))
+IsMissingFieldIn (reading.Counted d) =
+    IsMissingFieldBy (Description.Reads greatest_year (steps_shape d))
+    (Description.Refuses greatest_year (steps_shape d))
+IsMissingFieldIn format = λ defaults text result. result ≡ None
 
 -- information is missing
 abbrev pub is_insufficient : Reason → Bool
@@ -218,11 +221,11 @@ is_insufficient (unread insufficient) = true
 is_insufficient reason = false
 
 -- The missing part of a line's timestamp that was rejected for a reason, by the first format.
-abbrev pub IsMissingField : ℕ → Job → List ℕ → Reason → Option MissingField → Type 0
-IsMissingField Y job line reason result =
+abbrev pub IsMissingField : Job → List ℕ → Reason → Option MissingField → Type 0
+IsMissingField job line reason result =
     MatchBool (is_insufficient reason)
     (MatchOption (part_of job.place line) (result ≡ None)
-    (λ p. IsMissingFieldIn Y job.first.now (dated job.defaults) p.text result))
+    (λ p. IsMissingFieldIn job.first.now (dated job.defaults) p.text result))
     (result ≡ None)
 
 -- the printed text of why a timestamp isn't rewritten, with the name of its zone: the reason, or the missing part in
@@ -232,7 +235,7 @@ why_text zone reason None = text_with zone reason
 why_text zone reason (Some missing_field) = missing_field_text missing_field
 
 -- A rejected line has at most one missing part.
-abbrev pub OneMissingField : ℕ → Type 0
-OneMissingField Y =
+abbrev pub OneMissingField : Type 0
+OneMissingField =
     (job : Job) (line : List ℕ) (reason : Reason) (result other : Option MissingField)
-    → IsMissingField Y job line reason result → IsMissingField Y job line reason other → result ≡ other
+    → IsMissingField job line reason result → IsMissingField job line reason other → result ≡ other

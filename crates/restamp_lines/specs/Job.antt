@@ -1,13 +1,14 @@
--- The verdict on a line. `Y` is the greatest year.
+-- The verdict on a line.
+use Rattle.time_values.specs.Calendar.{greatest_year}
 use Rattle.std.specs.Prelude.{◌≡◌, ℕ, ◌+◌, ◌-◌, ◌<◌, ◌≤◌, nat_lt, Bool, true, false, MatchBool, ◌&&◌, not, int_lt, List, [], ◌∷◌, length, take, drop, slice_index, slice_range, if◌then◌else◌, Option, None, Some, is_some, Result, Ok, Err, MatchOption, MatchResult}
 use Rattle.std.specs.Char.{is_ascii_alphanumeric}
 use Rattle.std.specs.Option.{option_map}
-use Rattle.restamp_place.specs.declared.cuts.Place.{Place}
+use Rattle.restamp_place.specs.declared.place.Place.{Place}
 use Rattle.restamp_place.specs.declared.fields.Span.{Span}
 use Rattle.time_values.specs.Moments.{offset_instant}
-use Rattle.time_values.specs.Shown.{Items}
+use Rattle.time_values.specs.DisplayTexts.{Items}
 use Rattle.time_values.specs.declared.offset_date_time.OffsetDateTime.{OffsetDateTime}
-use Rattle.restamp_place.specs.Cuts.{span_of, body_of, is_prefix}
+use Rattle.restamp_place.specs.Places.{span_of, body_of, is_prefix}
 use Rattle.restamp_formats.specs.Form.{IsWritten}
 use Rattle.restamp_formats.specs.Reading.{IsDated, IsReadInTurn}
 use Rattle.restamp_formats.specs.Reason.{Reason, missing, too_far}
@@ -16,13 +17,17 @@ use Rattle.restamp_lines.specs.declared.job.TheConstants.{LIMIT, REACH}
 use Rattle.restamp_lines.specs.declared.part.Part as declared_part
 use Rattle.restamp_lines.specs.declared.job.Refusal.{Refusal}
 use Rattle.restamp_stream.specs.declared.action.LineAction.{LineAction}
-use Rattle.restamp_stream.specs.declared.action.LineAction.TheVariants.{Without, Rewritten, Dropped, Refused}
+use Rattle.restamp_stream.specs.declared.action.LineAction.TheVariants as action
 use Rattle.restamp_formats.specs.declared.reading.Reading.{Reading}
 use Rattle.restamp_formats.specs.declared.reading.Match.{Match}
 
--- The verdict on a line: its action. A line is rejected with a column from 1, and a reason.
-abbrev pub Verdict : Type 0
-Verdict = LineAction (Refusal Reason)
+-- The verdict on a line: its action, with the text that replaces some of its bytes. A line is rejected with a column
+-- from 1, and a reason.
+pub data Verdict : Type 0 where
+  Without : Verdict
+  Rewritten : ℕ → ℕ → Items → Verdict
+  Dropped : Verdict
+  Refused : Refusal Reason → Verdict
 
 -- a text replaces `length` bytes from `start` on
 abbrev pub rewritten : ℕ → ℕ → List ℕ → Verdict
@@ -31,26 +36,29 @@ rewritten start length text = Rewritten start (start + length) (record { items =
 abbrev pub refused : ℕ → Reason → Verdict
 refused column reason = Refused (record { column = column; reason = reason })
 
--- The verdict satisfies a relation. `IsOf` relates the reason of a rejected line to what the caller keeps of it.
-abbrev pub GivesVerdict : {E : Type 0} → (Reason → E → Type 0) → (Verdict → Type 0) → LineAction (Refusal E) → Type 0
-GivesVerdict IsOf P Without = P Without
-GivesVerdict IsOf P (Rewritten begin end text) = P (Rewritten begin end text)
-GivesVerdict IsOf P Dropped = P Dropped
-GivesVerdict IsOf P (Refused r) = (reason : Reason) × IsOf reason r.reason × P (refused r.column reason)
+-- The verdict of an action and a new text satisfies a relation. `IsOf` relates the reason of a rejected line to what
+-- the caller keeps of it.
+abbrev pub SatisfiesWithText : {E : Type 0} → (Reason → E → Type 0) → (Verdict → Type 0)
+    → LineAction (Refusal E) → Items → Type 0
+SatisfiesWithText IsOf P action.Without text = P Without
+SatisfiesWithText IsOf P (action.Rewritten begin end) text = P (Rewritten begin end text)
+SatisfiesWithText IsOf P action.Dropped text = P Dropped
+SatisfiesWithText IsOf P (action.Refused r) text =
+    (reason : Reason) × IsOf reason r.reason × P (refused r.column reason)
 
 -- the replaced bytes are within the first n bytes
 abbrev pub EndsWithin : {R : Type 0} → ℕ → LineAction R → Type 0
-EndsWithin n (Rewritten begin end text) = (begin ≤ end) × (end ≤ n)
-EndsWithin n action = Unit {0}
+EndsWithin n (action.Rewritten begin end) = (begin ≤ end) × (end ≤ n)
+EndsWithin n _ = Unit {0}
 
 -- the moment is before the bound; `otherwise` without a bound
-abbrev pub is_before : ℕ → OffsetDateTime → Option OffsetDateTime → Bool → Bool
-is_before Y v None otherwise = otherwise
-is_before Y v (Some bound) otherwise = int_lt (offset_instant Y v) (offset_instant Y bound)
+abbrev pub is_before : OffsetDateTime → Option OffsetDateTime → Bool → Bool
+is_before v None otherwise = otherwise
+is_before v (Some bound) otherwise = int_lt (offset_instant greatest_year v) (offset_instant greatest_year bound)
 
 -- the moment isn't before `since`, and is before `until`
-abbrev pub is_kept : ℕ → Job → OffsetDateTime → Bool
-is_kept Y job v = not (is_before Y v job.since false) && is_before Y v job.until true
+abbrev pub is_kept : Job → OffsetDateTime → Bool
+is_kept job v = not (is_before v job.since false) && is_before v job.until true
 
 -- the verdict on a line with a match in the part that starts at `start`, by the text that replaces it
 abbrev pub verdict_of : ℕ → Match → Result Items Reason → Verdict
@@ -58,20 +66,20 @@ verdict_of start matched (Ok text) = Rewritten (start + matched.start) (start + 
 verdict_of start matched (Err e) = refused (start + matched.start + 1) e
 
 -- the verdict on a match whose moment is written
-abbrev pub IsWrittenOver : ℕ → Job → ℕ → Match → Verdict → Type 0
-IsWrittenOver Y job start matched verdict =
-    (text : Result Items Reason) × IsWritten Y job.form matched.moment text × (verdict ≡ verdict_of start matched text)
+abbrev pub IsWrittenOver : Job → ℕ → Match → Verdict → Type 0
+IsWrittenOver job start matched verdict =
+    (text : Result Items Reason) × IsWritten job.form matched.moment text × (verdict ≡ verdict_of start matched text)
 
 -- the verdict on a match whose moment is dropped unless it lies within the bounds
-abbrev pub IsPutWithin : ℕ → Job → ℕ → Match → Verdict → Type 0
-IsPutWithin Y job start matched verdict =
-    MatchBool (is_kept Y job matched.moment) (IsWrittenOver Y job start matched verdict) (verdict ≡ Dropped)
+abbrev pub IsPutWithin : Job → ℕ → Match → Verdict → Type 0
+IsPutWithin job start matched verdict =
+    MatchBool (is_kept job matched.moment) (IsWrittenOver job start matched verdict) (verdict ≡ Dropped)
 
 -- The verdict on a match. A match that ends after the first `LIMIT` bytes is rejected, whatever the bounds.
-abbrev pub IsPut : ℕ → Job → ℕ → Match → Verdict → Type 0
-IsPut Y job start matched verdict =
+abbrev pub IsPut : Job → ℕ → Match → Verdict → Type 0
+IsPut job start matched verdict =
     MatchBool (nat_lt LIMIT (start + matched.start + matched.length))
-    (verdict ≡ refused (start + matched.start + 1) too_far) (IsPutWithin Y job start matched verdict)
+    (verdict ≡ refused (start + matched.start + 1) too_far) (IsPutWithin job start matched verdict)
 
 -- the verdict on a line without a timestamp
 abbrev pub missed : Job → Verdict
@@ -84,8 +92,8 @@ pub record Part : Type 0 where
   pub text : List ℕ
 
 -- the part without the address of its text
-abbrev pub seen_part : declared_part.Part → Part
-seen_part p = record { start = p.start; is_prefix = p.is_prefix; text = p.text.now }
+abbrev pub erased_part : declared_part.Part → Part
+erased_part p = record { start = p.start; is_prefix = p.is_prefix; text = p.text.now }
 
 -- the part of a line in that span
 abbrev pub part_in : List ℕ → Bool → Span → Part
@@ -96,14 +104,14 @@ abbrev pub part_of : Option Place → List ℕ → Option Part
 part_of None line = None
 part_of (Some place) line = option_map (part_in line (is_prefix place)) (span_of place line)
 
--- The verdict on a line whose timestamp lies in that part, or which has none: the first format that matches parses the
--- part, and the moment is written if it lies within the bounds.
-abbrev pub IsJudgedIn : ℕ → Job → Option Part → Verdict → Type 0
-IsJudgedIn Y job None verdict = verdict ≡ missed job
-IsJudgedIn Y job (Some p) verdict =
+-- The verdict on a line whose timestamp lies in that part, or which has no such part: the first format that matches
+-- parses the part, and the moment is written if it lies within the bounds.
+abbrev pub IsJudgedIn : Job → Option Part → Verdict → Type 0
+IsJudgedIn job None verdict = verdict ≡ missed job
+IsJudgedIn job (Some p) verdict =
     (read : Result Match Reason)
-    × IsReadInTurn Y job.first.now job.others.now p.is_prefix p.text job.defaults read
-    × MatchResult read (λ matched. IsPut Y job p.start matched verdict) (λ e. verdict ≡ refused (p.start + 1) e)
+    × IsReadInTurn job.first.now job.others.now p.is_prefix p.text job.defaults read
+    × MatchResult read (λ matched. IsPut job p.start matched verdict) (λ e. verdict ≡ refused (p.start + 1) e)
 
 -- The bytes right before and right at a place of a line are both ASCII letters or digits.
 abbrev pub is_inside : List ℕ → ℕ → Bool
@@ -116,42 +124,43 @@ alone line k (Ok s) = if is_inside line (k + s.start + s.length) then None else 
 alone line k (Err e) = None
 
 -- The match of a format from byte k on, in at most `REACH` bytes, unless it ends inside a word or a number.
-abbrev pub MatchesAlone : ℕ → Job → List ℕ → ℕ → Reading → Option Match → Type 0
-MatchesAlone Y job line k format result =
-    (read : Result Match Reason) × IsDated Y format true (take REACH (drop k line)) job.defaults read
+abbrev pub MatchesAlone : Job → List ℕ → ℕ → Reading → Option Match → Type 0
+MatchesAlone job line k format result =
+    (read : Result Match Reason) × IsDated format true (take REACH (drop k line)) job.defaults read
     × (result ≡ alone line k read)
 
 -- the match of the first of these formats that has one
-abbrev pub AreTriedAlone : ℕ → Job → List ℕ → ℕ → List Reading → Option Match → Type 0
-AreTriedAlone Y job line k [] result = result ≡ None
-AreTriedAlone Y job line k (format ∷ formats) result =
-    (first : Option Match) × MatchesAlone Y job line k format first
-    × MatchOption first (AreTriedAlone Y job line k formats result) (λ s. result ≡ Some s)
+abbrev pub AreTriedAlone : Job → List ℕ → ℕ → List Reading → Option Match → Type 0
+AreTriedAlone job line k [] result = result ≡ None
+AreTriedAlone job line k (format ∷ formats) result =
+    (first : Option Match) × MatchesAlone job line k format first
+    × MatchOption first (AreTriedAlone job line k formats result) (λ s. result ≡ Some s)
 
 -- The match from byte k on, which neither starts nor ends inside a word or a number.
-abbrev pub MatchesFrom : ℕ → Job → List ℕ → ℕ → Option Match → Type 0
-MatchesFrom Y job line k result =
+abbrev pub MatchesFrom : Job → List ℕ → ℕ → Option Match → Type 0
+MatchesFrom job line k result =
     MatchBool (is_inside line k) (result ≡ None)
-    (AreTriedAlone Y job line k (job.first.now ∷ job.others.now) result)
+    (AreTriedAlone job line k (job.first.now ∷ job.others.now) result)
 
 -- No format matches from any of the first n bytes of the line on.
-abbrev pub MatchesNoneBefore : ℕ → Job → List ℕ → ℕ → Type 0
-MatchesNoneBefore Y job line n = (k : ℕ) → k < n → MatchesFrom Y job line k None
+abbrev pub MatchesNoneBefore : Job → List ℕ → ℕ → Type 0
+MatchesNoneBefore job line n = (k : ℕ) → k < n → MatchesFrom job line k None
 
 -- The first byte of the line from which on a format matches, with the match; `None` if no format matches anywhere.
-abbrev pub IsFirst : ℕ → Job → List ℕ → Option (ℕ × Match) → Type 0
-IsFirst Y job line None = MatchesNoneBefore Y job line (length line)
-IsFirst Y job line (Some found) =
-    (found.0 < length line) × MatchesFrom Y job line found.0 (Some found.1) × MatchesNoneBefore Y job line found.0
+abbrev pub IsFirst : Job → List ℕ → Option (ℕ × Match) → Type 0
+IsFirst job line None = MatchesNoneBefore job line (length line)
+IsFirst job line (Some found) =
+    (found.0 < length line) × MatchesFrom job line found.0 (Some found.1)
+    × MatchesNoneBefore job line found.0
 
 -- The verdict on a line whose timestamp may be anywhere but in a CR at its end.
-abbrev pub IsJudgedAnywhere : ℕ → Job → List ℕ → Verdict → Type 0
-IsJudgedAnywhere Y job line verdict =
-    (found : Option (ℕ × Match)) × IsFirst Y job (body_of line) found
-    × MatchOption found (verdict ≡ missed job) (λ f. IsPut Y job f.0 f.1 verdict)
+abbrev pub IsJudgedAnywhere : Job → List ℕ → Verdict → Type 0
+IsJudgedAnywhere job line verdict =
+    (found : Option (ℕ × Match)) × IsFirst job (body_of line) found
+    × MatchOption found (verdict ≡ missed job) (λ f. IsPut job f.0 f.1 verdict)
 
 -- the verdict on a line
-abbrev pub IsJudged : ℕ → Job → List ℕ → Verdict → Type 0
-IsJudged Y job line verdict =
-    MatchBool (is_some job.place) (IsJudgedIn Y job (part_of job.place line) verdict)
-    (IsJudgedAnywhere Y job line verdict)
+abbrev pub IsJudged : Job → List ℕ → Verdict → Type 0
+IsJudged job line verdict =
+    MatchBool (is_some job.place) (IsJudgedIn job (part_of job.place line) verdict)
+    (IsJudgedAnywhere job line verdict)

@@ -1,10 +1,11 @@
 -- Laws of verdicts.
+use Rattle.time_values.specs.Calendar.{greatest_year}
 use Rattle.std.specs.Prelude.{◌≡◌, ℕ, ◌+◌, nat_lt, false, MatchBool, List, length, slice_range, Some}
 use Rattle.time_values.specs.declared.offset_date_time.OffsetDateTime.{OffsetDateTime}
-use Rattle.restamp_place.specs.Cuts.{span_of, is_prefix}
-use Rattle.restamp_place.specs.declared.cuts.Place.{Place}
+use Rattle.restamp_place.specs.Places.{span_of, is_prefix}
+use Rattle.restamp_place.specs.declared.place.Place.{Place}
 use Rattle.restamp_place.specs.declared.fields.Span.{Span}
-use Rattle.restamp_stream.specs.declared.action.LineAction.TheVariants.{Dropped}
+use Rattle.restamp_lines.specs.Job.{Dropped}
 use Rattle.restamp_lines.specs.Job.{Verdict, rewritten, refused, is_kept, IsJudged}
 use Rattle.restamp_formats.specs.Reason.{too_far}
 use Rattle.restamp_lines.specs.declared.job.Job.{Job}
@@ -12,21 +13,21 @@ use Rattle.restamp_lines.specs.declared.job.TheConstants.{LIMIT}
 use Rattle.restamp_formats.specs.Laws.{IsReadable, AreEquivalent, AllEquivalent}
 
 -- Each line has at most one verdict.
-abbrev pub OneVerdict : ℕ → Type 0
-OneVerdict Y = (job : Job) (line : List ℕ) (verdict other : Verdict)
-    → IsJudged Y job line verdict → IsJudged Y job line other → verdict ≡ other
+abbrev pub OneVerdict : Type 0
+OneVerdict = (job : Job) (line : List ℕ) (verdict other : Verdict)
+    → IsJudged job line verdict → IsJudged job line other → verdict ≡ other
 
 -- A line with a text of `IsReadable` at its place, by the job's own form and its first format, keeps its bytes: the
 -- text replaces itself. Otherwise the line is dropped, because the moment lies outside the bounds, or it is rejected,
 -- because the text ends too far behind.
-abbrev pub ChangesNothing : ℕ → Type 0
-ChangesNothing Y =
+abbrev pub ChangesNothing : Type 0
+ChangesNothing =
     (job : Job) (place : Place) (line : List ℕ) (span : Span) (v : OffsetDateTime) (bytes : List ℕ) (verdict : Verdict)
     → job.place ≡ Some place → is_prefix place ≡ false → span_of place line ≡ Some span
     → slice_range line span.start span.stop ≡ bytes
-    → IsReadable Y job.first.now job.defaults job.form v bytes → IsJudged Y job line verdict
+    → IsReadable job.first.now job.defaults job.form v bytes → IsJudged job line verdict
     → MatchBool (nat_lt LIMIT (span.start + length bytes)) (verdict ≡ refused (span.start + 1) too_far)
-    (MatchBool (is_kept Y job v) (verdict ≡ rewritten span.start (length bytes) bytes) (verdict ≡ Dropped))
+    (MatchBool (is_kept job v) (verdict ≡ rewritten span.start (length bytes) bytes) (verdict ≡ Dropped))
 
 -- the jobs are equal, except for tables of zones that have the same zones for each name in the line
 pub record DiffersInZones (line : List ℕ) (job other : Job) : Type 0 where
@@ -40,7 +41,7 @@ pub record DiffersInZones (line : List ℕ) (job other : Job) : Type 0 where
   pub requires_timestamp : job.requires_timestamp ≡ other.requires_timestamp
 
 -- the verdict on a line depends only on zones whose names are in it where a timestamp may end
-abbrev pub DependsOnNamedZones : ℕ → Type 0
-DependsOnNamedZones Y =
+abbrev pub DependsOnNamedZones : Type 0
+DependsOnNamedZones =
     (job other : Job) (line : List ℕ) (verdict : Verdict) → DiffersInZones line job other
-    → IsJudged Y job line verdict → IsJudged Y other line verdict
+    → IsJudged job line verdict → IsJudged other line verdict

@@ -2,17 +2,18 @@
 //!
 //! `fast` skips bytes that no timestamp starts with.
 ghost use Rattle.std.specs.Prelude.{◌≡◌, ◌≤◌, ◌<◌, ◌+◌, ◌∷◌, ℕ, length, false, None, IfSome};
-ghost use Rattle.time_values.specs.Calendar.{greatest_year};
 ghost use Rattle.restamp_lines.specs.Begins as begins;
 ghost use Rattle.restamp_lines.specs.Job as spec;
 
 mod fast;
+mod firsts;
 
 use crate::job::{Job, REACH, Refusal};
-use fast::Firsts;
+use firsts::{Firsts, all_firsts};
 use restamp_formats::{Brief, FromReason, Match, Reading, parse_dated};
 use restamp_place::body_of;
 use restamp_stream::LineAction;
+use time_values::text::Text;
 
 // Whether the bytes right before and right at a place of the line are both ASCII letters or digits.
 fn is_inside(line: &[u8], place: usize) -> bool
@@ -28,7 +29,7 @@ impl Job<'_> {
     // Parses a prefix of the line from a byte on by the format; `None` also where it ends inside a word or a number.
     fn match_alone(&self, line: &[u8], start: usize, reading: &Reading) -> Option<Match>
         requires { start ≤ length line.now }
-        ensures matched { spec.MatchesAlone greatest_year self.now line.now start reading.now result }
+        ensures matched { spec.MatchesAlone self.now line.now start reading.now result }
         ensures within { IfSome result (λ matched. start + matched.start + matched.length ≤ length line.now) }
     {
         let rest = &line[start..];
@@ -46,7 +47,7 @@ impl Job<'_> {
     #[inline(always)]
     fn try_alone(&self, line: &[u8], start: usize, reading: &Reading) -> Option<Match>
         requires { start ≤ length line.now }
-        ensures matched { spec.MatchesAlone greatest_year self.now line.now start reading.now result }
+        ensures matched { spec.MatchesAlone self.now line.now start reading.now result }
         ensures within { IfSome result (λ matched. start + matched.start + matched.length ≤ length line.now) }
     {
         match fast::matches_nothing(self, line, start, reading) {
@@ -58,7 +59,7 @@ impl Job<'_> {
     // Parses a prefix of the line from a byte on by the first of the other formats that matches.
     fn read_others(&self, line: &[u8], start: usize) -> Option<Match>
         requires { start ≤ length line.now }
-        ensures matched { spec.AreTriedAlone greatest_year self.now line.now start self.now.others.now result }
+        ensures matched { spec.AreTriedAlone self.now line.now start self.now.others.now result }
         ensures within { IfSome result (λ matched. start + matched.start + matched.length ≤ length line.now) }
     {
         for reading in self.others {
@@ -72,7 +73,7 @@ impl Job<'_> {
     // Parses a prefix of the line from a byte on that isn't inside a word or a number.
     fn match_from(&self, line: &[u8], start: usize) -> Option<Match>
         requires { start ≤ length line.now }
-        ensures matched { spec.MatchesFrom greatest_year self.now line.now start result }
+        ensures matched { spec.MatchesFrom self.now line.now start result }
         ensures within { IfSome result (λ matched. start + matched.start + matched.length ≤ length line.now) }
     {
         if is_inside(line, start) {
@@ -85,18 +86,15 @@ impl Job<'_> {
     }
 
     // The next place, from that one on, with a byte that a timestamp can start with; that place itself if unknown.
-    fn next_start(&self, firsts: Option<Firsts>, line: &[u8], from: usize) -> usize
+    fn next_start(&self, firsts: Firsts, line: &[u8], from: usize) -> usize
         requires some { 0 < from }
         requires within { from ≤ length line.now }
-        requires firsts { IfSome firsts (λ firsts. (x : ℕ) → begins.is_in firsts x ≡ false
-            → begins.IsInNone x (self.now.first.now ∷ self.now.others.now)) }
+        requires firsts { (x : ℕ) → begins.is_in firsts x ≡ false
+            → begins.IsInNone x (self.now.first.now ∷ self.now.others.now) }
         ensures low { from ≤ result }
         ensures high { result ≤ length line.now }
-        ensures passed { (k : ℕ) → from ≤ k → k < result → spec.MatchesFrom greatest_year self.now line.now k None }
+        ensures passed { (k : ℕ) → from ≤ k → k < result → spec.MatchesFrom self.now line.now k None }
     {
-        let Some(firsts) = firsts else {
-            return from;
-        };
         match fast::next_start(firsts, line, from) {
             Some(next) => next,
             None => from,
@@ -105,10 +103,10 @@ impl Job<'_> {
 
     // The first place of the line from which on it has a timestamp, and the match.
     pub(crate) fn find_first(&self, line: &[u8]) -> Option<(usize, Match)>
-        ensures first { spec.IsFirst greatest_year self.now line.now result }
+        ensures first { spec.IsFirst self.now line.now result }
         ensures within { IfSome result (λ found. found.0 + found.1.start + found.1.length ≤ length line.now) }
     {
-        let firsts = fast::all_firsts(self.first, self.others);
+        let firsts = all_firsts(self.first, self.others);
         let mut start = 0;
         while start < line.len() {
             if let Some(matched) = self.match_from(line, start) {
@@ -121,12 +119,16 @@ impl Job<'_> {
 
     // The verdict on a line whose timestamp may be anywhere but in a CR at its end.
     #[inline(never)]
-    pub(crate) fn judge_anywhere<E: FromReason>(&self, line: &[u8]) -> LineAction<Refusal<E>>
-        ensures verdict { spec.GivesVerdict E.is_of (spec.IsJudgedAnywhere greatest_year self.now line.now) result }
+    pub(crate) fn judge_anywhere<E: FromReason>(
+        &self,
+        line: &[u8],
+        text: &mut Text,
+    ) -> LineAction<Refusal<E>>
+        ensures verdict { spec.SatisfiesWithText E.is_of (spec.IsJudgedAnywhere self.now line.now) result text.new }
         ensures within { spec.EndsWithin (length line.now) result }
     {
         match self.find_first(body_of(line)) {
-            Some((start, matched)) => self.put(start, matched),
+            Some((start, matched)) => self.put(start, matched, text),
             None => self.miss(),
         }
     }

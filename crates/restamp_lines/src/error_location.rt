@@ -1,19 +1,18 @@
 //! Locates the error in a rejected timestamp.
 ghost use Rattle.std.specs.Prelude.{◌≡◌};
 ghost use Rattle.std.specs.Option.{option_map};
-ghost use Rattle.time_values.specs.Calendar.{greatest_year};
 ghost use Rattle.time_values.specs.Refusal.{refusal_of};
 ghost use Rattle.time_record.specs.Record.{empty};
 ghost use Rattle.time_locating.specs.Located as located;
 ghost use Rattle.restamp_formats.specs.Reason.{seen};
 ghost use Rattle.restamp_lines.specs.ErrorLocation as spec;
-ghost use Rattle.restamp_lines.specs.Job.{seen_part};
+ghost use Rattle.restamp_lines.specs.Job.{erased_part};
 
 use crate::job::Job;
 use crate::part::Part;
 use restamp_formats::{Reading, Reason, read_front_3339};
 use time_locating::{Expected, Locate};
-use time_parsing::{Iso8601, Parsable, Rfc2822, Rfc3339};
+use time_parsing::{Iso8601, Parsable, Rfc2822, Rfc3339Strict};
 use time_record::Parsed;
 use time_values::error::{Parse, ParseFromDescription, TryFromParsed};
 use time_zones::read_suffix;
@@ -60,7 +59,7 @@ fn index_of_value<F: Locate>(format: &F, text: &[u8], error: Parse) -> Option<us
 
 // Locates a rejected value in a part of a line.
 fn find_value<'f, F: Locate>(format: &F, part: Part<'_>, error: Parse) -> ErrorLocation<'f>
-    ensures { spec.IsValueLocation (F.marks format.now) (seen_part part.entry) (refusal_of error) (spec.erased_location result) }
+    ensures { spec.IsValueLocation (F.marks format.now) (erased_part part.entry) (refusal_of error) (spec.erased_location result) }
 {
     let index = index_of_value(format, part.text, error).unwrap_or(0);
     ErrorLocation {
@@ -71,7 +70,7 @@ fn find_value<'f, F: Locate>(format: &F, part: Part<'_>, error: Parse) -> ErrorL
 
 // Locates the error in a part of a line that the format rejects.
 fn find_by<'f, F: Locate>(format: &'f F, part: Part<'_>, error: Parse) -> ErrorLocation<'f>
-    ensures { spec.IsLocationBy (F.reads format.now) (F.locates format.now) (F.marks format.now) (seen_part part.entry)
+    ensures { spec.IsLocationBy (F.reads format.now) (F.locates format.now) (F.marks format.now) (erased_part part.entry)
         (refusal_of error) (spec.erased_location result) }
 {
     if part.is_prefix && reads_front(format, part.text) {
@@ -98,20 +97,20 @@ fn is_trailing(error: Parse) -> bool
 
 // Locates the bytes that follow a suffix but aren't allowed, in a part of a line.
 fn find_tail<'f>(part: Part<'_>, error: Parse) -> ErrorLocation<'f>
-    ensures { spec.IsTailLocation greatest_year (seen_part part.entry) (refusal_of error) (spec.erased_location result) }
+    ensures { spec.IsTailLocation (erased_part part.entry) (refusal_of error) (spec.erased_location result) }
 {
     match read_front_3339(part.text) {
         Ok(front) => ErrorLocation {
             column: part.start + front.length + read_suffix(&part.text[front.length..]).len + 1,
             expected: Some(Expected::End),
         },
-        Err(_) => find_by(&Rfc3339, part, error),
+        Err(_) => find_by(&Rfc3339Strict, part, error),
     }
 }
 
 // Locates the error in a part of a line that may have a suffix.
 fn find_zoned<'f>(part: Part<'_>, error: Parse) -> ErrorLocation<'f>
-    ensures { spec.IsZonedLocation greatest_year (seen_part part.entry) (refusal_of error) (spec.erased_location result) }
+    ensures { spec.IsZonedLocation (erased_part part.entry) (refusal_of error) (spec.erased_location result) }
 {
     let part = Part {
         start: part.start,
@@ -121,15 +120,15 @@ fn find_zoned<'f>(part: Part<'_>, error: Parse) -> ErrorLocation<'f>
     if is_trailing(error) {
         return find_tail(part, error);
     }
-    find_by(&Rfc3339, part, error)
+    find_by(&Rfc3339Strict, part, error)
 }
 
 // Locates the error in a part of a line that the format rejects, whichever it is.
 fn find_in_part<'a>(reading: &'a Reading, part: Part<'_>, error: Parse) -> ErrorLocation<'a>
-    ensures { spec.IsPartLocation greatest_year reading.now (seen_part part.entry) (refusal_of error) (spec.erased_location result) }
+    ensures { spec.IsPartLocation reading.now (erased_part part.entry) (refusal_of error) (spec.erased_location result) }
 {
     match reading {
-        Reading::Rfc3339 => find_by(&Rfc3339, part, error),
+        Reading::Rfc3339 => find_by(&Rfc3339Strict, part, error),
         Reading::Zoned(_) => find_zoned(part, error),
         Reading::Rfc2822 => find_by(&Rfc2822, part, error),
         Reading::Iso8601 => find_by(&Iso8601, part, error),
@@ -141,7 +140,7 @@ fn find_in_part<'a>(reading: &'a Reading, part: Part<'_>, error: Parse) -> Error
 
 // The start of the suffix that rejects the moment; `otherwise` if no timestamp precedes a suffix.
 fn find_suffix<'a>(part: Part<'_>, otherwise: ErrorLocation<'a>) -> ErrorLocation<'a>
-    ensures { spec.IsSuffixLocation greatest_year (seen_part part.entry) (spec.erased_location otherwise.entry) (spec.erased_location result) }
+    ensures { spec.IsSuffixLocation (erased_part part.entry) (spec.erased_location otherwise.entry) (spec.erased_location result) }
 {
     match read_front_3339(part.text) {
         Ok(front) => ErrorLocation {
@@ -161,7 +160,7 @@ impl<'a> Job<'a> {
     /// Defaults have no effect: they only supply what a timestamp omits.
     #[inline(never)]
     pub fn find_location(&self, line: &[u8], column: usize, reason: Reason) -> ErrorLocation<'a>
-        ensures { spec.IsErrorLocation greatest_year self.now line.now column (seen reason) (spec.erased_location result) }
+        ensures { spec.IsErrorLocation self.now line.now column (seen reason) (spec.erased_location result) }
     {
         let otherwise = ErrorLocation {
             column,
@@ -181,5 +180,5 @@ impl<'a> Job<'a> {
 /// The error in a rejected line has one location, and one report of what was expected there, which may be `None`.
 #[tactic(auto, using(crate::proofs::OneErrorLocation::one_error_location))]
 pub fn law_one_error_location()
-    ensures { spec.OneErrorLocation greatest_year }
+    ensures { spec.OneErrorLocation }
 {}

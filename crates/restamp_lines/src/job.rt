@@ -3,7 +3,7 @@
 //! `fast` parses a timestamp without the reason of an error.
 ghost use Rattle.std.specs.Prelude.{◌≡◌, ◌≤◌, ◌<◌, ◌+◌, ◌^◌, ℕ, length, IfSome, Some};
 ghost use Rattle.std.specs.Option.{option_map};
-ghost use Rattle.time_values.specs.Calendar.{greatest_year};
+ghost use Rattle.time_values.specs.DisplayTexts.{Items};
 ghost use Rattle.restamp_lines.specs.Job as spec;
 
 mod fast;
@@ -57,7 +57,7 @@ pub struct Refusal<E> {
 // Whether the moment is before the bound; `otherwise` if there is none.
 #[inline(always)]
 fn is_before(moment: OffsetDateTime, bound: Option<OffsetDateTime>, otherwise: bool) -> bool
-    ensures { result ≡ spec.is_before greatest_year moment bound otherwise }
+    ensures { result ≡ spec.is_before moment bound otherwise }
 {
     match bound {
         None => otherwise,
@@ -69,16 +69,21 @@ impl Job<'_> {
     // Whether the moment lies within the bounds.
     #[inline(always)]
     pub(crate) fn keeps(&self, moment: OffsetDateTime) -> bool
-        ensures { result ≡ spec.is_kept greatest_year self.now moment }
+        ensures { result ≡ spec.is_kept self.now moment }
     {
         !is_before(moment, self.since, false) && is_before(moment, self.until, true)
     }
 
     // Writes the moment of a match over its bytes, in the part of a line that starts at `start`.
     #[inline(always)]
-    pub(crate) fn put<E: FromReason>(&self, start: usize, matched: Match) -> LineAction<Refusal<E>>
+    pub(crate) fn put<E: FromReason>(
+        &self,
+        start: usize,
+        matched: Match,
+        text: &mut Text,
+    ) -> LineAction<Refusal<E>>
         requires { start + matched.start + matched.length + 1 < 2 ^ 64 }
-        ensures put { spec.GivesVerdict E.is_of (spec.IsPut greatest_year self.now start matched) result }
+        ensures put { spec.SatisfiesWithText E.is_of (spec.IsPut self.now start matched) result text.new }
         ensures within { spec.EndsWithin (start + matched.start + matched.length) result }
     {
         let begin = start + matched.start;
@@ -92,9 +97,8 @@ impl Job<'_> {
         if !self.keeps(matched.moment) {
             return LineAction::Dropped;
         }
-        let mut text = Text::new();
-        match write_to(matched.moment, &self.form, &mut text) {
-            Ok(()) => LineAction::Rewritten { begin, end, text },
+        match write_to(matched.moment, &self.form, text) {
+            Ok(()) => LineAction::Rewritten { begin, end },
             Err(reason) => LineAction::Refused(Refusal {
                 column: begin + 1,
                 reason,
@@ -105,7 +109,7 @@ impl Job<'_> {
     // The verdict on a line without a timestamp.
     #[inline(always)]
     pub(crate) fn miss<E: FromReason>(&self) -> LineAction<Refusal<E>>
-        ensures verdict { spec.GivesVerdict E.is_of (λ verdict. verdict ≡ spec.missed self.now) result }
+        ensures verdict { (text : Items) → spec.SatisfiesWithText E.is_of (λ verdict. verdict ≡ spec.missed self.now) result text }
         ensures within { (n : ℕ) → spec.EndsWithin n result }
     {
         if !self.requires_timestamp {
@@ -120,13 +124,17 @@ impl Job<'_> {
     // The verdict on a line whose timestamp lies in that part, by the first of the formats that matches.
     // Not inlined, so that it needs no stack beside lines that the fast path matches.
     #[inline(never)]
-    fn judge_in_turn<E: FromReason>(&self, part: Part<'_>) -> LineAction<Refusal<E>>
-        ensures verdict { spec.GivesVerdict E.is_of (spec.IsJudgedIn greatest_year self.now (Some (spec.seen_part part.entry))) result }
+    fn judge_in_turn<E: FromReason>(
+        &self,
+        part: Part<'_>,
+        text: &mut Text,
+    ) -> LineAction<Refusal<E>>
+        ensures verdict { spec.SatisfiesWithText E.is_of (spec.IsJudgedIn self.now (Some (spec.erased_part part.entry))) result text.new }
         ensures within { spec.EndsWithin (part.entry.start + length part.entry.text.now) result }
     {
-        let (is_prefix, text) = (part.is_prefix, part.text);
-        match parse_in_turn(self.first, self.others, is_prefix, text, &self.defaults) {
-            Ok(matched) => self.put(part.start, matched),
+        let (is_prefix, bytes) = (part.is_prefix, part.text);
+        match parse_in_turn(self.first, self.others, is_prefix, bytes, &self.defaults) {
+            Ok(matched) => self.put(part.start, matched, text),
             Err(reason) => LineAction::Refused(Refusal {
                 column: part.start + 1,
                 reason,
@@ -136,20 +144,20 @@ impl Job<'_> {
 
     // The verdict on a line whose timestamp lies in that part.
     #[inline(always)]
-    fn judge_part<E: FromReason>(&self, part: Part<'_>) -> LineAction<Refusal<E>>
-        ensures verdict { spec.GivesVerdict E.is_of (spec.IsJudgedIn greatest_year self.now (Some (spec.seen_part part.entry))) result }
+    fn judge_part<E: FromReason>(&self, part: Part<'_>, text: &mut Text) -> LineAction<Refusal<E>>
+        ensures verdict { spec.SatisfiesWithText E.is_of (spec.IsJudgedIn self.now (Some (spec.erased_part part.entry))) result text.new }
         ensures within { spec.EndsWithin (part.entry.start + length part.entry.text.now) result }
     {
         match fast::parse(self.first, part.is_prefix, part.text, &self.defaults) {
-            Some(matched) => self.put(part.start, matched),
-            None => self.judge_in_turn(part),
+            Some(matched) => self.put(part.start, matched, text),
+            None => self.judge_in_turn(part, text),
         }
     }
 
     // The part of the line in which its timestamp lies; `None` if it may be anywhere, or the line has no such part.
     #[inline(always)]
     pub(crate) fn find_part<'l>(&self, line: &'l [u8]) -> Option<Part<'l>>
-        ensures part { option_map spec.seen_part result ≡ spec.part_of self.now.place line.now }
+        ensures part { option_map spec.erased_part result ≡ spec.part_of self.now.place line.now }
         ensures within { IfSome result (λ part. part.start + length part.text.now ≤ length line.now) }
     {
         let place = self.place?;
@@ -170,17 +178,18 @@ impl Job<'_> {
     /// before it is none, and if its last byte is one, the byte after it is none. A line without such a text has no
     /// timestamp. White space around a mail date stays unless the place ends the timestamp.
     ///
-    /// The type `E` decides how much of the reason of a rejection the caller gets: [`Reason`] is all of it.
+    /// If the line is rewritten, `text` is its new text, whatever it was before. The type `E` decides how much of the
+    /// reason of a rejection the caller gets: [`Reason`] is all of it.
     #[inline(always)]
-    pub fn judge<E: FromReason>(&self, line: &[u8]) -> LineAction<Refusal<E>>
-        ensures verdict { spec.GivesVerdict E.is_of (spec.IsJudged greatest_year self.now line.now) result }
+    pub fn judge<E: FromReason>(&self, line: &[u8], text: &mut Text) -> LineAction<Refusal<E>>
+        ensures verdict { spec.SatisfiesWithText E.is_of (spec.IsJudged self.now line.now) result text.new }
         ensures within { spec.EndsWithin (length line.now) result }
     {
         if self.place.is_none() {
-            return self.judge_anywhere(line);
+            return self.judge_anywhere(line, text);
         }
         match self.find_part(line) {
-            Some(part) => self.judge_part(part),
+            Some(part) => self.judge_part(part, text),
             None => self.miss(),
         }
     }

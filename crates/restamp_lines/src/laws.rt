@@ -6,7 +6,7 @@ ghost use Rattle.restamp_lines.specs.Laws.{OneVerdict, ChangesNothing, DependsOn
 /// Each line has at most one verdict, whatever the job.
 #[tactic(auto, using(crate::proofs::OneVerdict::one_verdict))]
 pub fn law_one_verdict()
-    ensures { OneVerdict greatest_year }
+    ensures { OneVerdict }
 {}
 
 /// A second run changes nothing. If a text of
@@ -15,13 +15,13 @@ pub fn law_one_verdict()
 /// rewritten to itself, dropped because the moment lies outside the bounds, or rejected because the text ends too far
 /// from the start of the line.
 pub fn law_second_run()
-    ensures text { WritesSameText greatest_year }
-    ensures line { ChangesNothing greatest_year }
+    ensures text { WritesSameText }
+    ensures line { ChangesNothing }
 {}
 
 /// The verdict depends only on zones whose names are in the line, in brackets where a timestamp may end: jobs that
 /// differ only in other zones have the same verdict.
 #[tactic(auto, using(crate::proofs::NamedZonesLemmas::needs_named_zones))]
 pub fn law_named_zones()
-    ensures { DependsOnNamedZones greatest_year }
+    ensures { DependsOnNamedZones }
 {}

@@ -1,6 +1,5 @@
 //! Finds the part that is missing from a rejected timestamp.
 ghost use Rattle.std.specs.Prelude.{◌≡◌, Some};
-ghost use Rattle.time_values.specs.Calendar.{greatest_year};
 ghost use Rattle.restamp_lines.specs.ErrorLocation as spec;
 ghost use Rattle.restamp_formats.specs.Reason.{seen};
 
@@ -108,7 +107,7 @@ fn missing_field_by<F: Parsable>(
     defaults: &Defaults<'_>,
     text: &[u8],
 ) -> Option<MissingField>
-    ensures { spec.IsMissingFieldBy greatest_year (F.reads format.now) (F.refuses format.now) defaults.now text.now result }
+    ensures { spec.IsMissingFieldBy (F.reads format.now) (F.refuses format.now) defaults.now text.now result }
 {
     let mut parsed = Parsed::new();
     match format.parse_into(text, &mut parsed) {
@@ -152,7 +151,7 @@ fn missing_field_in_text(
     defaults: &Defaults<'_>,
     text: &[u8],
 ) -> Option<MissingField>
-    ensures { spec.IsMissingFieldIn greatest_year reading.now defaults.now text.now result }
+    ensures { spec.IsMissingFieldIn reading.now defaults.now text.now result }
 {
     match reading {
         Reading::Iso8601 => missing_field_by(&Iso8601, defaults, text),
@@ -169,7 +168,7 @@ impl Job<'_> {
     /// defaults nor the record of the first format have.
     #[inline(never)]
     pub fn find_missing_field(&self, line: &[u8], reason: Reason) -> Option<MissingField>
-        ensures { spec.IsMissingField greatest_year self.now line.now (seen reason) result }
+        ensures { spec.IsMissingField self.now line.now (seen reason) result }
     {
         if !is_insufficient(reason) {
             return None;
@@ -210,5 +209,5 @@ impl fmt::Display for Why<'_> {
 /// A rejected line has at most one missing part.
 #[tactic(auto, using(crate::proofs::OneErrorLocation::one_missing_field))]
 pub fn law_one_missing_field()
-    ensures { spec.OneMissingField greatest_year }
+    ensures { spec.OneMissingField }
 {}

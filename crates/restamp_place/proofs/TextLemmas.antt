@@ -12,7 +12,7 @@ use Rattle.std.proofs.lemmas.Bool.Decides.{nat_tests}
 use Rattle.memchr.specs.Find.{Nowhere, IsFirst, Passes, IsFirstByte, is_byte, OccursAt, occurs_at, FindsNeedle}
 use Rattle.memchr.proofs.lemmas.MatchLemmas.{occurs_at-true, OccursAt-true}
 use Rattle.memchr.proofs.lemmas.FindLemmas.{Nowhere-wider, Nowhere-then}
-use Rattle.restamp_place.specs.Cuts.{place_of}
+use Rattle.restamp_place.specs.Places.{place_of}
 use Rattle.restamp_place.proofs.WordLemmas.{tail_range}
 
 -- no byte passes a test

@@ -40,16 +40,6 @@ nth-short kind (suc n) line f some e short = rw e (grind (arith, nat_tests))
 pub nth-none : (kind : Fields) (n : ℕ) (line : List ℕ) → first_field kind line ≡ None → nth_field kind n line ≡ None
 nth-none kind n line e = grind arith
 
--- three parts of a line, one after the other, are the line
-pub parts_whole : (xs : List ℕ) (s e : ℕ) → s ≤ e → take s xs ++ take (e - s) (drop s xs) ++ drop e xs ≡ xs
-parts_whole xs s e h =
-    let whole : s + (e - s) ≡ e = omega arith in
-    let last : drop e xs ≡ drop (e - s) (drop s xs) = rw (drop-drop, whole) in
-    rw (last, append_assoc, take-append-drop (e - s) (drop s xs), take-append-drop s xs)
-
--- the three parts of a cut
-pub ruleset parts = (parts_whole, tail_range)
-
 -- where the first word ends
 abbrev edge_of : List ℕ → Option ℕ
 edge_of line = option_map (λ f. f.edge) (first_word line)

@@ -1,3 +1,3 @@
 pub mod Fields
 pub mod Words
-pub mod Cuts
+pub mod Places

@@ -1,9 +1,9 @@
 //! Finds the timestamp of a line by its place.
 #![tactic(auto)]
 
-mod cuts;
 mod fields;
+mod place;
 mod texts;
 
-pub use cuts::{Cut, Place, body_of, find_span, find_time};
 pub use fields::{Fields, Span};
+pub use place::{Place, body_of, find_span};

@@ -4,7 +4,7 @@ ghost use Rattle.std.specs.List.{prefix_len, position_or_len};
 ghost use Rattle.std.specs.Simd.Lanes.{chunk};
 ghost use Rattle.memchr.specs.Find.{FindsNeedle, IsFirst, Nowhere, OccursAt, occurs_at};
 ghost use Rattle.restamp_place.specs.Fields as fields;
-ghost use Rattle.restamp_place.specs.Cuts as texts;
+ghost use Rattle.restamp_place.specs.Places as texts;
 
 use memchr::{memchr, memmem};
 use std::simd::prelude::*;

@@ -83,7 +83,7 @@ StoppedBy-then c stop p q = StoppedBy-map stop (Stops-then p) q
 -- the buffered bytes are written
 RefusedAt-settled : {job : Job} {a b c : State} {front : List ℕ} → Flushes b c → RefusedAt job a b front → RefusedAt job a c front
 RefusedAt-settled {job} {c = c} {front} s p =
-    let reports : IsReport job c.tally front (Refused tt) p.report = rw s.tally p.reports in
+    let reports : IsReport job c.tally front Refused p.report = rw s.tally p.reports in
     search (p, reports, Keeps-trans _ _ _ p.kept s.out, Appends-kept _ _ _ _ p.reported s.log, s.tally ∙ p.tallied)
 
 Stopped-settled : {job : Job} {a b c : State} {all : List Line} → Flushes b c → Stopped job a b all → Stopped job a c all

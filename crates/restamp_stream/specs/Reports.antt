@@ -3,8 +3,9 @@ use Rattle.std.specs.Char.{is_ascii_control}
 use Rattle.std.specs.Prelude.{ℕ, ◌+◌, ◌/◌, ◌%◌, Bool, false, ◌&&◌, ◌||◌, List, [], ◌∷◌, flat_map, if◌then◌else◌, nat_lt, nat_le, ◌≡◌, ⊤, ◌-◌, ◌^◌, ◌≤◌, min, ◌++◌, codes, length, take, drop, Option, ◌==◌}
 use Rattle.std.specs.Fmt.{decimal}
 use Rattle.std.specs.Io.KnownBytes.{Appends}
+use Rattle.time_values.specs.DisplayTexts.{Items}
 pub use Rattle.restamp_stream.specs.declared.action.LineAction.{LineAction}
-pub use Rattle.restamp_stream.specs.declared.action.LineAction.TheVariants.{Without, Rewritten, Dropped, Refused}
+use Rattle.restamp_stream.specs.declared.action.LineAction.TheVariants as line_action
 pub use Rattle.restamp_stream.specs.declared.settings.Output.{Output}
 pub use Rattle.restamp_stream.specs.declared.settings.Output.TheVariants.{AllLines, RewrittenLines, Times}
 pub use Rattle.restamp_stream.specs.declared.action.TailAction.{TailAction}
@@ -40,15 +41,19 @@ displayed_name name = displayed_as false name
 
 -- ---- How a line is processed by its front, and how it is counted
 
--- the action of a line, without the content of a refusal
-abbrev pub Action : Type 0
-Action = LineAction (Unit {0})
+-- the action of a line: with the replaced bytes and the text, and without the reason of a rejection
+pub data Action : Type 0 where
+  Without : Action
+  Rewritten : ℕ → ℕ → Items → Action
+  Dropped : Action
+  Refused : Action
 
-abbrev pub action_of : {R : Type 0} → LineAction R → Action
-action_of Without = Without
-action_of (Rewritten begin end text) = Rewritten begin end text
-action_of Dropped = Dropped
-action_of (Refused refusal) = Refused tt
+-- the action of a line whose new text is `text` if it is rewritten
+abbrev pub action_of : {R : Type 0} → LineAction R → Items → Action
+action_of line_action.Without text = Without
+action_of (line_action.Rewritten begin end) text = Rewritten begin end text
+action_of line_action.Dropped text = Dropped
+action_of (line_action.Refused refusal) text = Refused
 
 -- the replaced bytes are in the front
 abbrev pub IsWithin : Action → List ℕ → Type 0
@@ -57,10 +62,11 @@ IsWithin _ front = ⊤
 
 -- The line isn't rejected, or the work continues after a rejected line.
 abbrev pub IsAllowed : Bool → Action → Type 0
-IsAllowed strict (Refused _) = strict ≡ false
+IsAllowed strict Refused = strict ≡ false
 IsAllowed strict _ = ⊤
 
--- the front, with the new text and its suffix in place of the replaced bytes
+-- The front of a line after the action: with the new text and its suffix in place of the replaced bytes, empty if the
+-- line is dropped, and otherwise unchanged.
 abbrev pub changed : List ℕ → List ℕ → Action → List ℕ
 changed suffix front (Rewritten begin end text) = take begin front ++ (text.items ++ (suffix ++ drop end front))
 changed suffix front Dropped = []
@@ -124,7 +130,7 @@ count_action t Without = record t { line = one_more t.line; lines = one_more t.l
 count_action t (Rewritten begin end text) =
     record t { line = one_more t.line; lines = one_more t.lines; rewritten = one_more t.rewritten }
 count_action t Dropped = record t { line = one_more t.line; lines = one_more t.lines; dropped = one_more t.dropped }
-count_action t (Refused _) =
+count_action t Refused =
     record t {
       line = one_more t.line;
       refused_here = one_more t.refused_here;
@@ -147,7 +153,7 @@ count_unread t = record t { unread = one_more t.unread }
 
 -- the log names the line that the tally counted last, if it has that action
 abbrev pub is_named : Reports → Tally → Action → Bool
-is_named (First most) t (Refused _) = nat_le t.refused_here most
+is_named (First most) t Refused = nat_le t.refused_here most
 is_named _ t _ = false
 
 -- how many rejected lines of the file the log doesn't name; 0 if it doesn't report their number

@@ -149,11 +149,11 @@ pub record Served (job : Job) (old new : Option (List ℕ)) (before after : Stat
 pub record RefusedAt (job : Job) (before after : State) (front : List ℕ) : Type 0 where
   pub report : List ℕ
   pub strict : IsTrue job.settings.strict
-  pub refused : job.is_action front (Refused tt)
-  pub reports : IsReport job after.tally front (Refused tt) report
+  pub refused : job.is_action front Refused
+  pub reports : IsReport job after.tally front Refused report
   pub kept : Keeps before.out after.out
   pub reported : Appends before.log after.log report
-  pub tallied : after.tally ≡ count_action before.tally (Refused tt)
+  pub tallied : after.tally ≡ count_action before.tally Refused
 
 -- Between the two states the lines before a rejected one were processed, and then that one was rejected.
 pub record Stopped (job : Job) (before after : State) (all : List Line) : Type 0 where

@@ -1,21 +1,17 @@
 //! The action of a line, and of the bytes after its front.
 ghost use Rattle.std.specs.Prelude.{◌≡◌, IsTrue, false};
+ghost use Rattle.time_values.specs.DisplayTexts.{Items};
 ghost use Rattle.restamp_stream.specs.Reports.{action_of, tail_action_of, HasFront};
 
 use crate::settings::Output;
-use time_values::text::Text;
 
 /// The action of a line: unchanged, rewritten, dropped or rejected.
 #[derive(Drop)]
 pub enum LineAction<R> {
     /// It has no place for a time, and is unchanged.
     Without,
-    /// The text replaces the bytes of its front from `begin` to before `end`.
-    Rewritten {
-        begin: usize,
-        end: usize,
-        text: Text,
-    },
+    /// A text replaces the bytes of its front from `begin` to before `end`.
+    Rewritten { begin: usize, end: usize },
     /// It is dropped from the output.
     Dropped,
     /// It is rejected: it is unchanged, and reported.
@@ -36,7 +32,7 @@ pub enum TailAction {
 impl TailAction {
     /// Whether the bytes after a front with that action are copied or dropped.
     pub fn of<R>(output: Output, action: &LineAction<R>) -> TailAction
-        ensures { result ≡ tail_action_of output (action_of action.now) }
+        ensures { (text : Items) → result ≡ tail_action_of output (action_of action.now text) }
     {
         match (output, action) {
             (Output::Times, _) | (Output::AllLines, LineAction::Dropped) => TailAction::Dropping,

@@ -5,14 +5,14 @@ ghost use Rattle.restamp_stream.specs.Reports.{action_of, IsWithin, WritesReason
 
 use crate::action::LineAction;
 use byte_streams::{Sink, Unwritten};
+use time_values::text::Text;
 
 /// Chooses the action of a line by its front: the first [`LIMIT`](crate::LIMIT) bytes of the line, or all of a shorter
 /// one, without its LF.
 pub trait Rewriting {
-    ghost use Rattle.restamp_stream.specs.Reports.{Action};
-    ghost use Rattle.restamp_stream.specs.declared.action.LineAction.TheVariants.{Refused};
+    ghost use Rattle.restamp_stream.specs.Reports.{Action, Refused};
 
-    /// Why a line is rejected, as far as its action says it. A stream doesn't read it.
+    /// What is kept of the reason why a line is rejected. A stream doesn't read it.
     type Refusal: Drop;
 
     // A line with that front has that action.
@@ -21,15 +21,15 @@ pub trait Rewriting {
     // A front is rejected at that column, from 1, and for that reason.
     ghost is_reason: { Self → List ℕ → ℕ → List ℕ → Type 0 };
 
-    /// The action of a line with that front.
-    fn action(&self, front: &[u8]) -> LineAction<Self::Refusal>
-        ensures action { is_action self.now front.now (action_of result) }
-        ensures within { IsWithin (action_of result) front.now };
+    /// The action of a line with that front. If it is rewritten, `text` is its new text, whatever it was before.
+    fn action(&self, front: &[u8], text: &mut Text) -> LineAction<Self::Refusal>
+        ensures action { is_action self.now front.now (action_of result text.new) }
+        ensures within { IsWithin (action_of result text.new) front.now };
 
     /// Writes the column at which a front is rejected, a colon, a space and the reason, with no LF. It is called only
     /// if the log names the line.
     fn write_reason<L: Sink>(&self, front: &[u8], log: &mut L) -> Result<(), Unwritten>
-        requires { is_action self.now front.now (Refused tt) }
+        requires { is_action self.now front.now Refused }
         ensures reported { OnOk result (WritesReason (is_reason self.now front.now) (L.contents log.old) (L.contents log.new)) }
         ensures cause { HasCause result (L.faults log.old) (L.faults log.new) };
 

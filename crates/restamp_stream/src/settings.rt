@@ -1,6 +1,7 @@
 //! How the lines of a file are processed.
 ghost use Rattle.std.specs.Prelude.{◌≡◌, IsTrue, false};
-ghost use Rattle.restamp_stream.specs.Reports.{action_of, IsAllowed, is_named, unnamed};
+ghost use Rattle.time_values.specs.DisplayTexts.{Items};
+ghost use Rattle.restamp_stream.specs.Reports.{action_of, Refused, IsAllowed, is_named, unnamed};
 
 use crate::action::LineAction;
 use crate::tally::Tally;
@@ -28,8 +29,8 @@ pub enum Reports {
 impl Reports {
     /// Whether the log names the line that was counted last, if it has that action.
     pub fn names<R>(self, tally: &Tally, action: &LineAction<R>) -> bool
-        ensures names { result ≡ is_named self tally.now (action_of action.now) }
-        ensures refused { IsTrue result → action_of action.now ≡ LineAction.Refused tt }
+        ensures names { (text : Items) → result ≡ is_named self tally.now (action_of action.now text) }
+        ensures refused { (text : Items) → IsTrue result → action_of action.now text ≡ Refused }
     {
         match (self, action) {
             (Reports::First(most), LineAction::Refused(_)) => tally.refused_here <= most,
@@ -64,8 +65,8 @@ pub struct Settings<'a> {
 impl Settings<'_> {
     /// Whether the work stops at a line with that action.
     pub fn stops_at<R>(&self, action: &LineAction<R>) -> bool
-        ensures stops { IsTrue result → IsTrue self.now.strict × (action_of action.now ≡ LineAction.Refused tt) }
-        ensures goes_on { result ≡ false → IsAllowed self.now.strict (action_of action.now) }
+        ensures stops { (text : Items) → IsTrue result → IsTrue self.now.strict × (action_of action.now text ≡ Refused) }
+        ensures goes_on { (text : Items) → result ≡ false → IsAllowed self.now.strict (action_of action.now text) }
     {
         self.strict && matches!(action, LineAction::Refused(_))
     }

@@ -5,7 +5,7 @@ ghost use Rattle.byte_streams.specs.Faults.{HasCause};
 ghost use Rattle.byte_streams.specs.Lines.{unended};
 ghost use Rattle.restamp_stream.specs.Streams.{Processed, IsNaming, IsReport, Closes, RefusedAt, Fails, state_of};
 ghost use Rattle.restamp_stream.specs.Causes.{faults_of, HasWriteCause, IsCounted};
-ghost use Rattle.restamp_stream.specs.Reports.{Action, action_of, IsWithin, front_text, passed, tail_action_of, nothing_counted, more_text, unread_text};
+ghost use Rattle.restamp_stream.specs.Reports.{Action, Refused, action_of, IsWithin, front_text, passed, tail_action_of, nothing_counted, more_text, unread_text};
 ghost use Rattle.restamp_stream.specs.Buffered.{buffered_out, buffered_state, job_at, Flushes, Puts, StoppedBy, FailedBy};
 ghost use Rattle.restamp_stream.specs.declared.block.TheConstants.{LIMIT};
 
@@ -17,6 +17,7 @@ use crate::settings::{File, Output, Settings};
 use crate::tally::Tally;
 use byte_streams::{BufferedSink, Sink, Unwritten};
 use std::io;
+use time_values::text::Text;
 
 /// The outputs of a stream: the processed lines in `out`, the reports in `log`, and the counts of lines in `tally`.
 ///
@@ -188,15 +189,16 @@ impl<W: Sink, L: Sink> Stream<W, L> {
         settings: &Settings<'_>,
         front: &[u8],
         action: &LineAction<R>,
+        text: &Text,
     ) -> Result<(), Unwritten>
-        requires { IsWithin (action_of action.now) front.now }
-        ensures { Puts W.contents W.faults self.old self.new result (front_text settings.now.output settings.now.suffix.now front.now (action_of action.now)) }
+        requires { IsWithin (action_of action.now text.now) front.now }
+        ensures { Puts W.contents W.faults self.old self.new result (front_text settings.now.output settings.now.suffix.now front.now (action_of action.now text.now)) }
     {
         match (action, settings.output) {
-            (LineAction::Rewritten { text, .. }, Output::Times) => {
+            (LineAction::Rewritten { .. }, Output::Times) => {
                 self.put_changed(settings.suffix, b"\n", 0, 0, text.as_bytes())
             }
-            (LineAction::Rewritten { begin, end, text }, _) => {
+            (LineAction::Rewritten { begin, end }, _) => {
                 self.put_changed(settings.suffix, front, *begin, *end, text.as_bytes())
             }
             (LineAction::Without | LineAction::Refused(_), Output::AllLines) => self.put(front),
@@ -211,7 +213,7 @@ impl<W: Sink, L: Sink> Stream<W, L> {
         file: &File<'_, T>,
         front: &[u8],
     ) -> Result<(), Unwritten>
-        requires { T.is_action file.now.rewriting.now front.now (LineAction.Refused tt) }
+        requires { T.is_action file.now.rewriting.now front.now Refused }
         ensures reported { OnOk result ((report : List ℕ) × IsNaming (job_at T.is_action T.is_reason file.now) self.old.tally front.now report
             × Appends (L.contents self.old.log) (L.contents self.new.log) report) }
         ensures out { self.new.out ≡ self.old.out }
@@ -232,10 +234,11 @@ impl<W: Sink, L: Sink> Stream<W, L> {
         file: &File<'_, T>,
         front: &[u8],
         action: &LineAction<T::Refusal>,
+        text: &Text,
     ) -> Result<(), Unwritten>
-        requires { T.is_action file.now.rewriting.now front.now (action_of action.now) }
+        requires { T.is_action file.now.rewriting.now front.now (action_of action.now text.now) }
         ensures reported { OnOk result ((report : List ℕ)
-            × IsReport (job_at T.is_action T.is_reason file.now) self.old.tally front.now (action_of action.now) report
+            × IsReport (job_at T.is_action T.is_reason file.now) self.old.tally front.now (action_of action.now text.now) report
             × Appends (L.contents self.old.log) (L.contents self.new.log) report) }
         ensures out { self.new.out ≡ self.old.out }
         ensures tally { self.new.tally ≡ self.old.tally }
@@ -262,13 +265,14 @@ impl<W: Sink, L: Sink> Stream<W, L> {
             (buffered_state W.contents L.contents self.old) (buffered_state W.contents L.contents self.new) front.now)) }
         ensures cause { HasWriteCause result (faults_of W.faults L.faults self.old) (faults_of W.faults L.faults self.new) }
     {
-        let action = file.rewriting.action(front);
+        let mut text = Text::new();
+        let action = file.rewriting.action(front, &mut text);
         self.tally.count(&action);
-        self.report(file, front, &action)?;
+        self.report(file, front, &action, &text)?;
         if file.settings.stops_at(&action) {
             return Err(Stop::Refused);
         }
-        self.put_front(&file.settings, front, &action)?;
+        self.put_front(&file.settings, front, &action, &text)?;
         Ok(TailAction::of(file.settings.output, &action))
     }
 }

@@ -1,5 +1,6 @@
 //! Counts lines by action.
 ghost use Rattle.std.specs.Prelude.{◌≡◌};
+ghost use Rattle.time_values.specs.DisplayTexts.{Items};
 ghost use Rattle.restamp_stream.specs.Reports.{action_of, nothing_counted, count_action, at_first_line, count_unread};
 
 use crate::action::LineAction;
@@ -44,7 +45,7 @@ impl Tally {
 
     /// Counts a line with that action.
     pub fn count<R>(&mut self, action: &LineAction<R>)
-        ensures { self.new ≡ count_action self.old (action_of action.now) }
+        ensures { (text : Items) → self.new ≡ count_action self.old (action_of action.now text) }
     {
         self.line = self.line.saturating_add(1);
         self.lines = self.lines.saturating_add(1);

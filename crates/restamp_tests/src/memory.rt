@@ -41,7 +41,7 @@ pub struct Faults {
 pub struct Memory {
     alloc: Global,
     // The events, the last first.
-    done: Vec<Event>,
+    events: Vec<Event>,
     // How many calls were made.
     calls: Cell<u64>,
     faults: Faults,
@@ -50,21 +50,21 @@ pub struct Memory {
 impl Memory {
     /// An empty folder.
     pub fn new(alloc: Global, faults: Faults) -> Memory
-        ensures { result.done.items ≡ [] }
+        ensures { result.events.items ≡ [] }
     {
         Memory {
             alloc,
-            done: Vec::new(alloc),
+            events: Vec::new(alloc),
             calls: Cell::new(0),
             faults,
         }
     }
 
     /// The events so far, the last first.
-    pub fn done(&self) -> &[Event]
-        ensures { result.now ≡ self.now.done.items }
+    pub fn events(&self) -> &[Event]
+        ensures { result.now ≡ self.now.events.items }
     {
-        self.done.as_slice()
+        self.events.as_slice()
     }
 
     /// How many calls were made so far.
@@ -92,11 +92,11 @@ impl Memory {
 
     /// Records an event. It is an error if memory is short, or after the event if `is_late`.
     pub fn note(&mut self, event: Event, is_late: bool) -> io::Result<()>
-        ensures noted { Tries (Some (events_of self.old.done.items)) (Some (events_of self.new.done.items)) result
+        ensures noted { Tries (Some (events_of self.old.events.items)) (Some (events_of self.new.events.items)) result
             (λ _ more. more ≡ event_of event ∷ []) }
-        ensures kept { IfErr result (λ e. error_kind e ≡ ErrorKind.AlreadyExists → self.new.done.items ≡ self.old.done.items) }
+        ensures kept { IfErr result (λ e. error_kind e ≡ ErrorKind.AlreadyExists → self.new.events.items ≡ self.old.events.items) }
     {
-        self.done.insert(0, event)?;
+        self.events.insert(0, event)?;
         end(is_late)
     }
 
@@ -109,12 +109,12 @@ impl Memory {
 
     // Records both events, or neither. It is an error if memory is short, or after the events if `is_late`.
     fn note_both(&mut self, first: Event, last: Event, is_late: bool) -> io::Result<()>
-        ensures { Tries (Some (events_of self.old.done.items)) (Some (events_of self.new.done.items)) result
+        ensures { Tries (Some (events_of self.old.events.items)) (Some (events_of self.new.events.items)) result
             (λ _ more. more ≡ event_of last ∷ event_of first ∷ []) }
     {
-        self.done.reserve(2)?;
-        self.done.insert(0, first)?;
-        self.done.insert(0, last)?;
+        self.events.reserve(2)?;
+        self.events.insert(0, first)?;
+        self.events.insert(0, last)?;
         end(is_late)
     }
 }
@@ -157,14 +157,14 @@ impl Folder for Memory {
 
     type New = Counted<Page>;
 
-    ghost events = { λ memory. Some (events_of memory.done.items) };
+    ghost events = { λ memory. Some (events_of memory.events.items) };
 
     fn open(&self, name: &str) -> io::Result<(Self::Old, Original)> {
         let is_late = self.begin()?;
-        let Some(number) = leads(self.done.as_slice(), name) else {
+        let Some(number) = leads(self.events.as_slice(), name) else {
             return Err(not_found());
         };
-        let Some(bytes) = stored(self.done.as_slice(), number) else {
+        let Some(bytes) = stored(self.events.as_slice(), number) else {
             return Err(not_found());
         };
         let copy = Vec::from_slice(self.alloc, bytes)?;
@@ -175,7 +175,7 @@ impl Folder for Memory {
 
     fn is_at(&self, name: &str, original: &Original) -> io::Result<bool> {
         end(self.begin()?)?;
-        match leads(self.done.as_slice(), name) {
+        match leads(self.events.as_slice(), name) {
             Some(number) => Ok(number == original.number && !self.faults.is_changed),
             None => Ok(false),
         }
@@ -183,11 +183,11 @@ impl Folder for Memory {
 
     fn create(&mut self, name: &str) -> io::Result<Self::New> {
         let is_late = self.begin()?;
-        if leads(self.done.as_slice(), name).is_some() {
+        if leads(self.events.as_slice(), name).is_some() {
             return Err(io::Error::from(ErrorKind::AlreadyExists));
         }
-        let number = self.done.len() as u64;
-        if !is_unused(self.done.as_slice(), number) {
+        let number = self.events.len() as u64;
+        if !is_unused(self.events.as_slice(), number) {
             return Err(io::Error::from(ErrorKind::Other));
         }
         let name = self.copy(name)?;
@@ -198,7 +198,7 @@ impl Folder for Memory {
 
     fn store(&mut self, name: &str, new: Self::New, _original: &Original) -> io::Result<()> {
         let is_late = self.begin()?;
-        let Some(number) = leads(self.done.as_slice(), name) else {
+        let Some(number) = leads(self.events.as_slice(), name) else {
             return Err(not_found());
         };
         let (page, _) = new.into_parts();
@@ -207,10 +207,10 @@ impl Folder for Memory {
 
     fn link(&mut self, name: &str, second: &str) -> io::Result<()> {
         let is_late = self.begin()?;
-        let Some(number) = leads(self.done.as_slice(), name) else {
+        let Some(number) = leads(self.events.as_slice(), name) else {
             return Err(not_found());
         };
-        if leads(self.done.as_slice(), second).is_some() {
+        if leads(self.events.as_slice(), second).is_some() {
             return Err(io::Error::from(ErrorKind::AlreadyExists));
         }
         let second = self.copy(second)?;
@@ -219,7 +219,7 @@ impl Folder for Memory {
 
     fn rename(&mut self, name: &str, onto: &str) -> io::Result<()> {
         let is_late = self.begin()?;
-        let Some(number) = leads(self.done.as_slice(), name) else {
+        let Some(number) = leads(self.events.as_slice(), name) else {
             return Err(not_found());
         };
         let onto = self.copy(onto)?;

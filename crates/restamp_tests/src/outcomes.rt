@@ -7,6 +7,7 @@ use restamp_place::Place;
 use restamp_stream::LineAction;
 use std::test::Fail;
 use time_formatting::FractionDigits;
+use time_values::text::Text;
 use time_values::{OffsetDateTime, UtcOffset};
 
 // The place of a timestamp, the format to parse it, the format to write it, and a line with such a timestamp.
@@ -97,16 +98,19 @@ fn job_of<'a>(
 
 // Whether both verdicts on a line are equal, and their texts too.
 fn is_one(job: &Job<'_>, line: &[u8]) -> bool {
-    match (job.judge::<Reason>(line), job.judge::<Brief>(line)) {
+    let (mut text, mut other) = (Text::new(), Text::new());
+    match (
+        job.judge::<Reason>(line, &mut text),
+        job.judge::<Brief>(line, &mut other),
+    ) {
         (LineAction::Without, LineAction::Without) => true,
         (LineAction::Dropped, LineAction::Dropped) => true,
         (LineAction::Refused(full), LineAction::Refused(brief)) => full.column == brief.column,
         (
-            LineAction::Rewritten { begin, end, text },
+            LineAction::Rewritten { begin, end },
             LineAction::Rewritten {
                 begin: start,
                 end: stop,
-                text: other,
             },
         ) => begin == start && end == stop && text.as_bytes() == other.as_bytes(),
         _ => false,

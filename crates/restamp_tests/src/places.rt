@@ -1,5 +1,5 @@
 //! The places of timestamps, and timestamps anywhere in a line or before a text.
-use restamp_place::{Fields, Place, Span, body_of, find_span, find_time};
+use restamp_place::{Fields, Place, Span, body_of, find_span};
 
 // A place, a line, and the parts of the line before, at and after the place.
 type Row = (
@@ -122,10 +122,12 @@ static FOUND: [Row; 28] = [
 
 // Whether the place splits the line into those parts.
 fn is_cut(place: Place<'_>, line: &[u8], before: &[u8], time: &[u8], after: &[u8]) -> bool {
-    match find_time(place, line) {
-        Some(cut) => cut.before == before && cut.time == time && cut.after == after,
-        None => false,
-    }
+    let Some(span) = find_span(place, line) else {
+        return false;
+    };
+    line.get(..span.start) == Some(before)
+        && line.get(span.start..span.stop) == Some(time)
+        && line.get(span.stop..) == Some(after)
 }
 
 #[test]
@@ -252,18 +254,19 @@ mod anywhere {
     use restamp_stream::LineAction;
     use std::test::Fail;
     use time_formatting::FractionDigits;
+    use time_values::text::Text;
 
     const DAY: &[u8] =
         b"[day padding:none] [month repr:long] [year] [hour]:[minute] [offset_hour sign:mandatory]";
 
     const ANYWHERE: Option<Place<'static>> = None;
 
-    // The verdict on a line whose timestamp may be anywhere.
+    // The verdict on a line whose timestamp may be anywhere, and its new text.
     fn verdict_on<'a>(
         line: &[u8],
         first: &'a Reading,
         writing: &'a Writing,
-    ) -> LineAction<Refusal<Reason>> {
+    ) -> (LineAction<Refusal<Reason>>, Text) {
         let job = Job {
             place: ANYWHERE,
             first,
@@ -283,7 +286,9 @@ mod anywhere {
             until: None,
             requires_timestamp: false,
         };
-        job.judge(line)
+        let mut text = Text::new();
+        let action = job.judge(line, &mut text);
+        (action, text)
     }
 
     // Whether the first timestamp of a line, by a format, starts at `start` and has `many` bytes, and `seconds` is the
@@ -295,8 +300,9 @@ mod anywhere {
         let Ok(writing) = find_writing(b"unix") else {
             return false;
         };
-        match verdict_on(line, &first, &writing) {
-            LineAction::Rewritten { begin, end, text } => {
+        let (action, text) = verdict_on(line, &first, &writing);
+        match action {
+            LineAction::Rewritten { begin, end } => {
                 begin == start && end.checked_sub(begin) == Some(many) && text.as_bytes() == seconds
             }
             LineAction::Without => many == 0,
@@ -391,8 +397,8 @@ mod anywhere {
 
     // Whether the verdict has the timestamp that `plain_first` finds.
     fn is_plain(line: &[u8], format: &Reading, writing: &Writing) -> bool {
-        match verdict_on(line, format, writing) {
-            LineAction::Rewritten { begin, end, .. } => {
+        match verdict_on(line, format, writing).0 {
+            LineAction::Rewritten { begin, end } => {
                 plain_first(line, format) == Some((begin, end))
             }
             LineAction::Without => plain_first(line, format).is_none(),
@@ -447,7 +453,7 @@ mod fronts {
     };
 
     // The moment that the bytes parse as, and how many of them match: all, or a prefix if `is_prefix`.
-    fn said_by(is_prefix: bool, text: &[u8]) -> Option<(OffsetDateTime, usize)> {
+    fn parse_by(is_prefix: bool, text: &[u8]) -> Option<(OffsetDateTime, usize)> {
         match read(&Reading::Rfc3339, is_prefix, text, &NOTHING_GIVEN) {
             Ok(said) => Some((said.moment, said.start + said.length)),
             Err(_) => None,
@@ -457,11 +463,11 @@ mod fronts {
     // The moment of the shortest prefix that is a timestamp by itself, and the length of that prefix.
     fn plain_front(text: &[u8]) -> Option<(OffsetDateTime, usize)> {
         for many in 0..text.len() {
-            if let Some(said) = said_by(false, &text[..many]) {
+            if let Some(said) = parse_by(false, &text[..many]) {
                 return Some(said);
             }
         }
-        said_by(false, text)
+        parse_by(false, text)
     }
 
     // Changes each byte of a text to each other byte.
@@ -475,7 +481,7 @@ mod fronts {
                     text[..many].copy_from_slice(&sample[..many]);
                     text[at] = byte;
                     let text = &text[..many];
-                    assert!(rt; said_by(true, text) == plain_front(text), "{at} {byte}");
+                    assert!(rt; parse_by(true, text) == plain_front(text), "{at} {byte}");
                 }
             }
         }

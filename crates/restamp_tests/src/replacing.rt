@@ -128,11 +128,11 @@ mod ends {
 
     // Another file has the first name for a new file. It is kept, and the new file uses the second name.
     #[test]
-    fn a_name_is_taken(rt: HostRuntime) -> Result<(), Fail> {
+    fn first_name_exists(rt: HostRuntime) -> Result<(), Fail> {
         let mut folder = folder_of(rt.alloc(), OLD, NO_FAULTS)?;
         add(rt.alloc(), &mut folder, 2, TEMPORARY, OTHER)?;
         let ended = replace(rt.alloc(), &mut folder, None);
-        let events = folder.done();
+        let events = folder.events();
         assert!(rt; matches!(&ended, Ok(Made::Changed)) && has(events, NAME, NEW));
         assert!(rt; leads(events, TEMPORARY) == Some(2) && has(events, TEMPORARY, OTHER));
         assert!(rt; leads(events, ".f.restamp-1").is_none());
@@ -141,11 +141,11 @@ mod ends {
 
     // Another file has the backup's name. Both files are kept.
     #[test]
-    fn the_backups_name_is_taken(rt: HostRuntime) -> Result<(), Fail> {
+    fn backup_exists(rt: HostRuntime) -> Result<(), Fail> {
         let mut folder = folder_of(rt.alloc(), OLD, NO_FAULTS)?;
         add(rt.alloc(), &mut folder, 2, BACKUP, OTHER)?;
         let ended = replace(rt.alloc(), &mut folder, Some(BACKUP));
-        let events = folder.done();
+        let events = folder.events();
         assert!(rt; is_failed(&ended, Step::BackUp, ErrorKind::AlreadyExists));
         assert!(rt; is_untouched(events, OLD));
         assert!(rt; leads(events, BACKUP) == Some(2) && has(events, BACKUP, OTHER));
@@ -154,7 +154,7 @@ mod ends {
 
     // Each name for a new file is in use. 1000 names are tried.
     #[test]
-    fn all_names_are_taken(rt: HostRuntime) -> Result<(), Fail> {
+    fn all_names_exist(rt: HostRuntime) -> Result<(), Fail> {
         let faults = Faults {
             first: 1,
             count: u64::MAX,
@@ -164,7 +164,7 @@ mod ends {
         let mut folder = folder_of(rt.alloc(), OLD, faults)?;
         let ended = replace(rt.alloc(), &mut folder, None);
         assert!(rt; is_failed(&ended, Step::Create, ErrorKind::AlreadyExists));
-        assert!(rt; is_untouched(folder.done(), OLD) && folder.calls() == 1001);
+        assert!(rt; is_untouched(folder.events(), OLD) && folder.calls() == 1001);
         Ok(())
     }
 
@@ -172,7 +172,9 @@ mod ends {
     fn the_file_is_missing(rt: HostRuntime) -> Result<(), Fail> {
         let mut folder = Memory::new(rt.alloc(), NO_FAULTS);
         let ended = replace(rt.alloc(), &mut folder, None);
-        assert!(rt; is_failed(&ended, Step::Open, ErrorKind::NotFound) && folder.done().is_empty());
+        assert!(rt;
+            is_failed(&ended, Step::Open, ErrorKind::NotFound) && folder.events().is_empty()
+        );
         Ok(())
     }
 
@@ -186,7 +188,7 @@ mod ends {
     ) -> io::Result<Option<Ended>> {
         let mut folder = folder_of(alloc, bytes, faults)?;
         let ended = replace_by(alloc, &mut folder, settings, Some(BACKUP));
-        let events = folder.done();
+        let events = folder.events();
         let stays = is_untouched(events, bytes) && leads(events, BACKUP).is_none();
         Ok(stays.then_some(ended))
     }
@@ -246,7 +248,7 @@ mod ends {
         let mut folder = folder_of(rt.alloc(), b"a\n", faults)?;
         let ended = replace(rt.alloc(), &mut folder, None);
         assert!(rt; is_failed(&ended, Step::Remove, ErrorKind::PermissionDenied));
-        assert!(rt; has(folder.done(), NAME, b"a\n") && folder.calls() == 3);
+        assert!(rt; has(folder.events(), NAME, b"a\n") && folder.calls() == 3);
         Ok(())
     }
 }
@@ -370,7 +372,7 @@ mod failures {
     ) -> io::Result<bool> {
         let mut folder = folder_of(alloc, OLD, faults)?;
         let ended = replace(alloc, &mut folder, backup);
-        let events = folder.done();
+        let events = folder.events();
         let is_late = faults.is_late;
         let is_put = step == Step::Sync || is_late && step == Step::Rename;
         let may_be_left = is_late && step == Step::Create || !is_late && faults.count > 1;
@@ -429,7 +431,7 @@ mod failures {
         for (backup, steps) in &RUNS {
             let mut folder = folder_of(rt.alloc(), OLD, NO_FAULTS)?;
             let ended = replace(rt.alloc(), &mut folder, *backup);
-            let events = folder.done();
+            let events = folder.events();
             assert!(rt;
                 matches!(&ended, Ok(Made::Changed)) && folder.calls() == steps.len() as u64
             );

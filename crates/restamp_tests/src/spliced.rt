@@ -21,11 +21,11 @@ impl Rewriting for At {
 
     ghost use Rattle.std.specs.Prelude.{◌≡◌, ◌+◌, codes, length, nat_lt, if◌then◌else◌};
     ghost use Rattle.std.proofs.Common.{sym, ◌∙◌};
-    ghost use Rattle.restamp_stream.specs.declared.action.LineAction.TheVariants.{Without, Rewritten, Refused};
+    ghost use Rattle.restamp_stream.specs.Reports.{Without, Rewritten, Refused};
 
     ghost is_action = { λ at front action. action ≡ (
         if nat_lt at.place (length front) then
-        if nat_lt (length at.text.now) 36 then Rewritten at.place (at.place + 1) (record { items = at.text.now }) else Refused tt
+        if nat_lt (length at.text.now) 36 then Rewritten at.place (at.place + 1) (record { items = at.text.now }) else Refused
         else Without) };
 
     ghost is_reason = { λ at front column reason. (column ≡ 1) × (reason ≡ codes "bad") };
@@ -34,19 +34,18 @@ impl Rewriting for At {
 
     ghost one_reason = { λ x front column other reason why p q. (p.0 ∙ sym q.0, p.1 ∙ sym q.1) };
 
-    fn action(&self, front: &[u8]) -> LineAction<()> {
+    fn action(&self, front: &[u8], text: &mut Text) -> LineAction<()> {
         if front.len() <= self.place {
             return LineAction::Without;
         }
         if 35 < self.text.len() {
             return LineAction::Refused(());
         }
-        let mut text = Text::new();
+        *text = Text::new();
         text.append(self.text);
         LineAction::Rewritten {
             begin: self.place,
             end: self.place + 1,
-            text,
         }
     }
 

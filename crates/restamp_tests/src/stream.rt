@@ -17,14 +17,14 @@ impl Rewriting for Marks {
 
     ghost use Rattle.std.specs.Prelude.{◌≡◌, length, slice_index, codes, if◌then◌else◌, ◌==◌};
     ghost use Rattle.std.proofs.Common.{sym, ◌∙◌};
-    ghost use Rattle.restamp_stream.specs.declared.action.LineAction.TheVariants.{Without, Rewritten, Dropped, Refused};
+    ghost use Rattle.restamp_stream.specs.Reports.{Without, Rewritten, Dropped, Refused};
 
     ghost is_action = { λ marks front action. action ≡ (
         let b = slice_index front 0 in
         if b == 64 then Rewritten 0 1 (record { items = codes "now" }) else
         if b == 61 then Rewritten (length front) (length front) (record { items = codes "now" }) else
         if b == 35 then Dropped else
-        if b == 33 then Refused tt else Without) };
+        if b == 33 then Refused else Without) };
 
     ghost is_reason = { λ marks front column reason. (column ≡ 1) × (reason ≡ codes "bad") };
 
@@ -32,23 +32,18 @@ impl Rewriting for Marks {
 
     ghost one_reason = { λ x front column other reason why p q. (p.0 ∙ sym q.0, p.1 ∙ sym q.1) };
 
-    fn action(&self, front: &[u8]) -> LineAction<()> {
+    fn action(&self, front: &[u8], text: &mut Text) -> LineAction<()> {
         if front.is_empty() {
             return LineAction::Without;
         }
-        let mut text = Text::new();
+        *text = Text::new();
         text.append(b"now");
         let length = front.len();
         match front[0] {
-            b'@' => LineAction::Rewritten {
-                begin: 0,
-                end: 1,
-                text,
-            },
+            b'@' => LineAction::Rewritten { begin: 0, end: 1 },
             b'=' => LineAction::Rewritten {
                 begin: length,
                 end: length,
-                text,
             },
             b'#' => LineAction::Dropped,
             b'!' => LineAction::Refused(()),
@@ -578,7 +573,7 @@ mod names {
     use std::alloc::Global;
 
     // A name, how the log displays it, and how it is displayed in ASCII.
-    static SHOWN: [(&[u8], &[u8], &[u8]); 9] = [
+    static DISPLAYED: [(&[u8], &[u8], &[u8]); 9] = [
         (b"app.log", b"app.log", b"app.log"),
         (b"", b"", b""),
         (b"\x1b[2Ja", b"\\x1b[2Ja", b"\\x1b[2Ja"),
@@ -598,28 +593,28 @@ mod names {
     ];
 
     // Whether those bytes were written, without an error.
-    fn holds(text: Counted<Vec<u8>>, expected: &[u8]) -> bool {
+    fn is_written(text: Counted<Vec<u8>>, expected: &[u8]) -> bool {
         let (text, error) = text.into_parts();
         error.is_none() && text.as_slice() == expected
     }
 
     // Whether the name is displayed as `shown`, and in ASCII as `ascii`.
-    fn is_shown(alloc: Global, name: &[u8], shown: &[u8], ascii: &[u8]) -> bool {
+    fn is_displayed(alloc: Global, name: &[u8], shown: &[u8], ascii: &[u8]) -> bool {
         let mut all = Counted::new(Vec::new(alloc));
         let mut text = Counted::new(Vec::new(alloc));
         let mut plain = Counted::new(Vec::new(alloc));
         write_name(name, &mut all).is_ok()
             && write_escaped(false, name, &mut text).is_ok()
             && write_escaped(true, name, &mut plain).is_ok()
-            && holds(all, shown)
-            && holds(text, shown)
-            && holds(plain, ascii)
+            && is_written(all, shown)
+            && is_written(text, shown)
+            && is_written(plain, ascii)
     }
 
     #[test]
-    fn shown(rt: HostRuntime) {
-        for (name, shown, ascii) in &SHOWN {
-            assert!(rt; is_shown(rt.alloc(), name, shown, ascii), "{name:?}");
+    fn displayed_names(rt: HostRuntime) {
+        for (name, shown, ascii) in &DISPLAYED {
+            assert!(rt; is_displayed(rt.alloc(), name, shown, ascii), "{name:?}");
         }
     }
 

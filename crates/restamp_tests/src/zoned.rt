@@ -28,7 +28,7 @@ fn zoned(alloc: Global) -> Option<Reading> {
 // The result of parsing: the seconds since 1970 and how many bytes match, or why the timestamp is rejected.
 #[derive(Clone, Copy, Debug, PartialEq, Eq)]
 enum Answer {
-    Says(i64, usize),
+    Parses(i64, usize),
     Left,
     Refused(SuffixFault),
     Otherwise,
@@ -36,7 +36,7 @@ enum Answer {
 
 fn answer_of(reading: &Reading, is_prefix: bool, text: &[u8]) -> Answer {
     match read(reading, is_prefix, text, &NOTHING_GIVEN) {
-        Ok(said) => Answer::Says(said.moment.unix_timestamp(), said.start + said.length),
+        Ok(said) => Answer::Parses(said.moment.unix_timestamp(), said.start + said.length),
         Err(Reason::Suffix(fault)) => Answer::Refused(fault),
         Err(
             Reason::Unread(
@@ -60,38 +60,38 @@ static ROWS: [Row; 18] = [
     (
         false,
         b"2026-11-27T15:00:00+01:00[Europe/Berlin]",
-        Answer::Says(TWO, 40),
+        Answer::Parses(TWO, 40),
     ),
     (
         false,
         b"2026-07-27T15:00:00+02:00[!Europe/Berlin]",
-        Answer::Says(SUMMER, 41),
+        Answer::Parses(SUMMER, 41),
     ),
     (
         false,
         b"2026-11-27T15:00:00+01:00[Europe/Berlin][u-ca=gregory]",
-        Answer::Says(TWO, 54),
+        Answer::Parses(TWO, 54),
     ),
-    (false, b"2026-11-27T15:00:00+01:00", Answer::Says(TWO, 25)),
+    (false, b"2026-11-27T15:00:00+01:00", Answer::Parses(TWO, 25)),
     (
         false,
         b"2026-11-27T15:00:00+01:00[+01:00]",
-        Answer::Says(TWO, 33),
+        Answer::Parses(TWO, 33),
     ),
     (
         false,
         b"2026-11-27T15:00:00Z[Europe/Berlin]",
-        Answer::Says(THREE, 35),
+        Answer::Parses(THREE, 35),
     ),
     (
         false,
         b"2026-11-27T15:00:00.5z[Europe/Berlin]",
-        Answer::Says(THREE, 37),
+        Answer::Parses(THREE, 37),
     ),
     (
         false,
         b"2026-11-27T15:00:00-00:00[Europe/Berlin]",
-        Answer::Says(THREE, 40),
+        Answer::Parses(THREE, 40),
     ),
     (
         false,
@@ -131,12 +131,12 @@ static ROWS: [Row; 18] = [
     (
         true,
         b"2026-11-27T15:00:00+01:00[Europe/Berlin] x",
-        Answer::Says(TWO, 40),
+        Answer::Parses(TWO, 40),
     ),
     (
         true,
         b"2026-11-27T15:00:00+01:00[Europe/Berlin",
-        Answer::Says(TWO, 25),
+        Answer::Parses(TWO, 25),
     ),
     (false, b"2026-11-27 [Europe/Berlin]", Answer::Otherwise),
 ];
@@ -156,7 +156,7 @@ fn suffixes(rt: HostRuntime) {
 }
 
 // The column of the error in a line that should be a timestamp as a whole; 0 without an error.
-fn wrong_in<'a>(reading: &'a Reading, writing: &'a Writing, line: &[u8]) -> usize {
+fn error_column<'a>(reading: &'a Reading, writing: &'a Writing, line: &[u8]) -> usize {
     let job = Job {
         place: Some(Place::Whole),
         first: reading,
@@ -171,7 +171,7 @@ fn wrong_in<'a>(reading: &'a Reading, writing: &'a Writing, line: &[u8]) -> usiz
         until: None,
         requires_timestamp: false,
     };
-    match job.judge::<Reason>(line) {
+    match job.judge::<Reason>(line, &mut Text::new()) {
         LineAction::Refused(Refusal { column, reason }) => {
             job.find_location(line, column, reason).column
         }
@@ -196,7 +196,10 @@ fn columns(rt: HostRuntime) -> Result<(), Fail> {
         return Err("no format".into());
     };
     for (line, column) in &COLUMNS {
-        assert!(rt; wrong_in(&reading, &writing, line) == *column, "{line:?}");
+        assert!(rt;
+            error_column(&reading, &writing, line) == *column,
+            "{line:?}"
+        );
     }
     Ok(())
 }

@@ -2,10 +2,11 @@
 pub use Rattle.time_components.specs.Tree.{Tree, borrowed_shape, owned_shape, v3_shape, steps_shape}
 pub use Rattle.time_descriptions.specs.Description.{shape, version_of, IsRefused}
 unfoldable pub use Rattle.time_descriptions.specs.Grammar.{Describes}
-pub use Rattle.time_descriptions.specs.Grammar.{TakesAtMost, TakesMore}
+pub use Rattle.time_descriptions.specs.Grammar.{StartsAtMost, StartsMoreThan}
 pub use Rattle.time_descriptions.specs.Strftime.{DescribesStrftime, IsRefusedStrftime}
 pub use Rattle.time_locating.specs.Located.{IsLocated, IsMarked, IsErrorAt}
-pub use Rattle.time_parsing.specs.Outcome.{Reading, Refusing, Path, direct, over_record, begun, seen, seen_front}
+pub use Rattle.time_parsing.specs.Outcome.{Reading, Refusing, Path, direct}
+pub use Rattle.time_parsing.specs.Outcome.{over_record, begun, seen, erased_prefix_result}
 pub use Rattle.time_parsing.specs.Outcome.{ParsesInto, IsWhole, IsOutcome, IsFront, IsMomentOutcome, OneOutcome}
 pub use Rattle.time_parsing.specs.Outcome.{OneFront, OneMomentOutcome}
 pub use Rattle.time_readers.specs.Direct.{RefusesRfc3339, RefusesRfc2822}
@@ -19,5 +20,6 @@ pub use Rattle.time_values.specs.Moments.{plain_date, plain_time, offset_date, o
 pub use Rattle.time_values.specs.Moments.{utc_time, plain_instant, offset_instant, utc_instant, nanoseconds}
 pub use Rattle.time_values.specs.Refusal.{Refusal, refusal_of, refusal_of_range, refusal_of_description}
 pub use Rattle.time_values.specs.Refusal.{refusal_of_parsed, trailing}
-pub use Rattle.time_formatting.specs.WellKnown.{count_of, moment_text, basic_text, mail_text, IsMailText, unwritable_3339}
-pub use Rattle.time_formatting.specs.WellKnown.{unwritable_2822, Writes, WritesSuch}
+pub use Rattle.time_formatting.specs.WellKnown.{count_of, moment_text, basic_text}
+pub use Rattle.time_formatting.specs.WellKnown.{mail_text, IsMailText, unwritable_3339}
+pub use Rattle.time_formatting.specs.WellKnown.{unwritable_2822, Writes, WritesTextWith}

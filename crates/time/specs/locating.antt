@@ -6,4 +6,5 @@ pub use Rattle.time_locating.specs.Marks
 pub use Rattle.time_locating.specs.Misses
 pub use Rattle.time_locating.specs.Rfc2822
 pub use Rattle.time_locating.specs.Rfc3339
+pub use Rattle.time_locating.specs.Rfc3339Strict
 pub use Rattle.time_locating.specs.exact

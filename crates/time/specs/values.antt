@@ -5,6 +5,6 @@ pub use Rattle.time_values.specs.Moments
 pub use Rattle.time_values.specs.Names
 pub use Rattle.time_values.specs.Offsets
 pub use Rattle.time_values.specs.Refusal
-pub use Rattle.time_values.specs.Shown
+pub use Rattle.time_values.specs.DisplayTexts
 pub use Rattle.time_values.specs.Sign
 pub use Rattle.time_values.specs.Times

@@ -58,7 +58,7 @@ pub mod error {
 pub mod format_description {
     pub use time_components::{
         BorrowedFormatItem, Component, FormatDescriptionV3, FormatDescriptionV3Inner, Group,
-        Inspect, Node, OwnedFormatItem, Period, Step, steps_after,
+        Inspect, Node, OwnedFormatItem, Period, Step, item_len, steps_after,
     };
     pub use time_descriptions::{Description, parse_borrowed, parse_owned, parse_strftime};
 
@@ -80,7 +80,7 @@ pub mod format_description {
 
     /// The formats of standards.
     pub mod well_known {
-        pub use time_parsing::{Iso8601, Rfc2822, Rfc3339, iso8601};
+        pub use time_parsing::{Iso8601, Rfc2822, Rfc3339, Rfc3339Strict, iso8601};
     }
 }
 
@@ -101,7 +101,9 @@ pub mod formatting {
 pub mod parsing {
     pub use time_components::component;
     pub use time_digits::{Integer, Padding, ParsedItem, Sign};
-    pub use time_parsing::{Items, Parsable, Target, begin, value_before};
+    pub use time_parsing::{
+        Items, Parsable, Target, begin, has_separator, strict_text, value_before,
+    };
     pub use time_record::{AnyFormatItem, Parsed, Tries, fault};
 
     /// Parsers of digits, signs and single bytes.

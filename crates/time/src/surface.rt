@@ -141,11 +141,13 @@ fn formats(
         here::format_description::well_known::Iso8601,
         here::format_description::well_known::Rfc2822,
         here::format_description::well_known::Rfc3339,
+        here::format_description::well_known::Rfc3339Strict,
     ),
 ) -> (
     time_parsing::Iso8601,
     time_parsing::Rfc2822,
     time_parsing::Rfc3339,
+    time_parsing::Rfc3339Strict,
 ) {
     its
 }
@@ -295,6 +297,10 @@ mod functions {
             time_descriptions::parse_owned::<2>,
         );
         are_one(
+            here::format_description::item_len,
+            time_components::item_len,
+        );
+        are_one(
             here::format_description::steps_after,
             time_components::steps_after,
         );
@@ -326,6 +332,8 @@ mod functions {
     #[test]
     fn parsers() {
         are_one(here::parsing::begin, time_parsing::begin);
+        are_one(here::parsing::has_separator, time_parsing::has_separator);
+        are_one(here::parsing::strict_text, time_parsing::strict_text);
         are_one(here::parsing::fault, time_record::fault);
         are_one(
             here::parsing::component::parse_day,
@@ -400,8 +408,8 @@ mod functions {
             time_values::laws::law_first_date,
         );
         are_one(
-            here::laws::formatting::law_one_shown,
-            time_formatting::laws::law_one_shown,
+            here::laws::formatting::law_injective_display,
+            time_formatting::laws::law_injective_display,
         );
         are_one(
             here::laws::zones::law_one_answer,

@@ -13,7 +13,7 @@ use Rattle.time_digits.specs.Digits.{Cut, IsDigit, AllDigits, digits_value, NoDi
 use Rattle.time_digits.proofs.WordBytes.{first_byte, IsUnique}
 use Rattle.time_digits.proofs.Fractions.{nanoseconds_below}
 use Rattle.time_digits.proofs.Runs.{AllDigits-push, digits_value-push, digits_value-below}
-use Rattle.time_components.specs.Spelling.{IsNamed, Says, number, IsFractionRun, Value, IsNameOf, IsShortOf, month, weekday}
+use Rattle.time_components.specs.Spelling.{IsNamed, HasMappedValue, number, IsFractionRun, Value, IsNameOf, IsShortOf, month, weekday}
 use Rattle.time_components.specs.ShortNames.{is_title_case, IsTitleCase, letters_of, IsEnding}
 use Rattle.time_components.proofs.NumberLemmas.{each_month, each_weekday, months, weekdays}
 
@@ -125,7 +125,7 @@ begun_below s rest unit nanoseconds begun =
 
 -- some digits, with no digit after them
 pub begun_cut : (s rest : List ℕ) (unit nanoseconds : ℕ) → IsBegun s rest unit nanoseconds → unit ≢ 1000000000 → NoDigitFirst rest
-    → Cut (Says number (IsFractionRun 1 32)) s rest (number nanoseconds)
+    → Cut (HasMappedValue number (IsFractionRun 1 32)) s rest (number nanoseconds)
 begun_cut s rest unit nanoseconds begun some ends =
     let text = begun.text in
     let enough : 1 ≤ length text = elim (cases_lt 0 (length text)) [
@@ -258,14 +258,14 @@ title_is_short says name_of titled false text rest v p = sym p.1
 
 -- no short name without three letters
 pub no_letters : {A : Type 0} (says : A → Value) (name_of : A → List ℕ) → Titled says name_of → (case_sensitive : Bool) (input : List ℕ)
-    → NoCut (IsTitleCase case_sensitive) input → NoCut (Says says (IsShortOf case_sensitive name_of)) input
+    → NoCut (IsTitleCase case_sensitive) input → NoCut (HasMappedValue says (IsShortOf case_sensitive name_of)) input
 no_letters says name_of titled case_sensitive input none = λ text rest v e s.
     none text rest (letters_of name_of s.0) e (short_is_title says name_of titled case_sensitive text rest s.0 s.2)
 
 -- three letters that begin no name
 pub no_short : {A : Type 0} (says : A → Value) (name_of : A → List ℕ) → Titled says name_of → (case_sensitive : Bool)
     (input rest letters : List ℕ) → Cut (IsTitleCase case_sensitive) input rest letters → ((v : A) → letters ≢ letters_of name_of v)
-    → NoCut (Says says (IsShortOf case_sensitive name_of)) input
+    → NoCut (HasMappedValue says (IsShortOf case_sensitive name_of)) input
 no_short says name_of titled case_sensitive input rest letters cut none = λ text rest' v e s.
     let t = short_is_title says name_of titled case_sensitive text rest' s.0 s.2 in
     let same = same_front cut.0 text rest rest' (cut.2.0 ∙ sym t.0) (sym cut.1 ∙ e) in
@@ -274,7 +274,7 @@ no_short says name_of titled case_sensitive input rest letters cut none = λ tex
 -- three letters that begin a name
 pub is_short : {A : Type 0} (says : A → Value) (name_of : A → List ℕ) → Titled says name_of → (case_sensitive : Bool)
     (input rest letters : List ℕ) (v : A) → Cut (IsTitleCase case_sensitive) input rest letters → letters ≡ letters_of name_of v
-    → Cut (Says says (IsShortOf case_sensitive name_of)) input rest (says v)
+    → Cut (HasMappedValue says (IsShortOf case_sensitive name_of)) input rest (says v)
 is_short says name_of titled case_sensitive input rest letters v cut e =
     let title = subst (IsTitleCase case_sensitive cut.0 rest) e cut.2 in
     (cut.0, cut.1, (v, refl, title_is_short says name_of titled case_sensitive cut.0 rest v title))
@@ -282,14 +282,14 @@ is_short says name_of titled case_sensitive input rest letters v cut e =
 -- the first three letters of a name, in exactly its case
 pub is_titled : {A : Type 0} (says : A → Value) (name_of : A → List ℕ) → Titled says name_of → (case_sensitive : Bool)
     (input rest letters : List ℕ) (v : A) → input ≡ letters ++ rest → letters ≡ take 3 (name_of v)
-    → Cut (Says says (IsShortOf case_sensitive name_of)) input rest (says v)
+    → Cut (HasMappedValue says (IsShortOf case_sensitive name_of)) input rest (says v)
 is_titled says name_of titled case_sensitive input rest letters v cut e =
     is_short says name_of titled case_sensitive input rest (letters_of name_of v) v
     (letters, cut, (ap length e ∙ titled.told.length_is v, ap str_to_ascii_lowercase (sym e), λ t. ap is_title_case e ∙ titled.title v)) refl
 
 -- a text's spelling, recovered from its value
 pub spelled : {A : Type 0} (says : A → Value) (S : Form A) → ((v w : A) → says v ≡ says w → v ≡ w) → (input rest : List ℕ) (v : A)
-    → Cut (Says says S) input rest (says v) → Cut S input rest v
+    → Cut (HasMappedValue says S) input rest (says v) → Cut S input rest v
 spelled says S one input rest v (text, e, s) = (text, e, subst (S text rest) (sym (one v s.0 s.1)) s.2)
 
 -- a whole name, split after its first three letters
@@ -301,15 +301,15 @@ name_parts name_of case_sensitive text v p =
 
 -- no whole name without a short name
 pub no_long : {A : Type 0} (says : A → Value) (name_of : A → List ℕ) (case_sensitive : Bool) (input : List ℕ)
-    → NoCut (Says says (IsShortOf case_sensitive name_of)) input → NoCut (Says says (IsNameOf case_sensitive name_of)) input
+    → NoCut (HasMappedValue says (IsShortOf case_sensitive name_of)) input → NoCut (HasMappedValue says (IsNameOf case_sensitive name_of)) input
 no_long says name_of case_sensitive input none = λ text rest v e s.
     let p = name_parts name_of case_sensitive text s.0 s.2 in
     none p.front (p.back ++ rest) (says s.0) (e ∙ ap (λ t. t ++ rest) p.cut ∙ append_assoc p.front p.back rest) (s.0, refl, p.first)
 
 -- a short name that isn't followed by the rest of the name
 pub no_ending : {A : Type 0} (says : A → Value) (name_of : A → List ℕ) → Titled says name_of → (case_sensitive : Bool)
-    (input rest ending : List ℕ) (v : A) → ending ≡ drop 3 (name_of v) → Cut (Says says (IsShortOf case_sensitive name_of)) input rest (says v)
-    → NoCut (IsEnding ending case_sensitive) rest → NoCut (Says says (IsNameOf case_sensitive name_of)) input
+    (input rest ending : List ℕ) (v : A) → ending ≡ drop 3 (name_of v) → Cut (HasMappedValue says (IsShortOf case_sensitive name_of)) input rest (says v)
+    → NoCut (IsEnding ending case_sensitive) rest → NoCut (HasMappedValue says (IsNameOf case_sensitive name_of)) input
 no_ending says name_of titled case_sensitive input rest ending v is found none = λ text left w e s.
     let cut = spelled says (IsShortOf case_sensitive name_of) titled.one input rest v found in
     let p = name_parts name_of case_sensitive text s.0 s.2 in
@@ -320,8 +320,8 @@ no_ending says name_of titled case_sensitive input rest ending v is found none =
 
 -- a short name that is followed by the rest of the name
 pub is_long : {A : Type 0} (says : A → Value) (name_of : A → List ℕ) → Titled says name_of → (case_sensitive : Bool)
-    (input rest left ending : List ℕ) (v : A) → ending ≡ drop 3 (name_of v) → Cut (Says says (IsShortOf case_sensitive name_of)) input rest (says v)
-    → Cut (IsEnding ending case_sensitive) rest left tt → Cut (Says says (IsNameOf case_sensitive name_of)) input left (says v)
+    (input rest left ending : List ℕ) (v : A) → ending ≡ drop 3 (name_of v) → Cut (HasMappedValue says (IsShortOf case_sensitive name_of)) input rest (says v)
+    → Cut (IsEnding ending case_sensitive) rest left tt → Cut (HasMappedValue says (IsNameOf case_sensitive name_of)) input left (says v)
 is_long says name_of titled case_sensitive input rest left ending v is found last =
     let cut = spelled says (IsShortOf case_sensitive name_of) titled.one input rest v found in
     let second = subst (λ n. IsNamed case_sensitive n last.0) is last.2 in

@@ -15,7 +15,7 @@ use Rattle.time_digits.specs.declared.Sign.{Sign}
 use Rattle.time_digits.proofs.Runs.{IsPaddedRun-unique, IsDigitRun-unique}
 use Rattle.time_digits.proofs.WordBytes.{IsUnique, IsUnique-cut}
 use Rattle.time_components.specs.ShortNames.{IsLetters, folded}
-use Rattle.time_components.specs.Spelling.{IsNamed, period_name, Value, Says, number, period, IsNameOf, IsPositiveRun, IsNumberOf, SaysYear, SaysCentury, SaysTimestamp, IsSigned, Spells, IsShortOf, IsDigitOf, IsFractionRun, least_digits, most_digits, first_digit, days_from_sunday, month as spelling_month, weekday, positive, signed_value, flagged_value, scaled_value}
+use Rattle.time_components.specs.Spelling.{IsNamed, period_name, Value, HasMappedValue, number, period, IsNameOf, IsPositiveRun, IsNumberOf, SpellsYear, SpellsCentury, SpellsTimestamp, IsSigned, Spells, IsShortOf, IsDigitOf, IsFractionRun, least_digits, most_digits, first_digit, days_from_sunday, month as spelling_month, weekday, positive, signed_value, flagged_value, scaled_value}
 use Rattle.time_components.specs.declared.format_description.Period.{Period}
 use Rattle.time_components.specs.declared.format_description.Period.TheVariants.{Am, Pm}
 use Rattle.time_components.specs.declared.format_description.Component.{Component}
@@ -33,7 +33,7 @@ other_run padding least most input rest text rest' n m cut e run =
 
 -- a run of 0
 pub no_positive : (padding : Padding) (places : ℕ) (input rest : List ℕ) (n : ℕ) → n ≡ 0
-    → Cut (IsPaddedRun padding places places) input rest n → NoCut (Says number (IsPositiveRun padding places)) input
+    → Cut (IsPaddedRun padding places places) input rest n → NoCut (HasMappedValue number (IsPositiveRun padding places)) input
 no_positive padding places input rest n none cut = λ text rest' v e s.
     let same = other_run padding places places input rest text rest' n s.0 cut e s.2.0 in
     let positive = s.2.1 in
@@ -41,7 +41,7 @@ no_positive padding places input rest n none cut = λ text rest' v e s.
 
 -- a run whose value is no value's number
 pub no_number : {A : Type 0} (says : A → Value) (number_of : A → ℕ) (padding : Padding) (input rest : List ℕ) (n : ℕ)
-    → ((a : A) → number_of a ≢ n) → Cut (IsPaddedRun padding 2 2) input rest n → NoCut (Says says (IsNumberOf padding number_of)) input
+    → ((a : A) → number_of a ≢ n) → Cut (IsPaddedRun padding 2 2) input rest n → NoCut (HasMappedValue says (IsNumberOf padding number_of)) input
 no_number says number_of padding input rest n none cut =
     λ text rest' v e s. none s.0 (other_run padding 2 2 input rest text rest' n (number_of s.0) cut e s.2)
 
@@ -89,7 +89,7 @@ period_name-length false Pm = refl
 
 -- fewer than two bytes
 pub no_letters : (upper case_sensitive : Bool) (input : List ℕ) → NoCut (IsLetters case_sensitive) input
-    → NoCut (Says period (IsNameOf case_sensitive (period_name upper))) input
+    → NoCut (HasMappedValue period (IsNameOf case_sensitive (period_name upper))) input
 no_letters upper case_sensitive input none =
     λ text rest v e s. none text rest (folded case_sensitive text) e
     (IsNamed-length case_sensitive (period_name upper s.0) text s.2 ∙ period_name-length upper s.0, refl)
@@ -97,14 +97,14 @@ no_letters upper case_sensitive input none =
 -- two letters that don't name a half of the day
 pub no_period : (upper case_sensitive : Bool) (input rest letters : List ℕ) → Cut (IsLetters case_sensitive) input rest letters
     → ((period : Period) → letters ≢ period_name (upper && case_sensitive) period)
-    → NoCut (Says period (IsNameOf case_sensitive (period_name upper))) input
+    → NoCut (HasMappedValue period (IsNameOf case_sensitive (period_name upper))) input
 no_period upper case_sensitive input rest letters cut none = λ text rest' v e s.
     let two : length text ≡ 2 = IsNamed-length case_sensitive (period_name upper s.0) text s.2 ∙ period_name-length upper s.0 in
     let same = same_front text cut.0 rest' rest (two ∙ sym cut.2.0) (sym e ∙ cut.1) in
     none s.0 (cut.2.1 ∙ ap (folded case_sensitive) (sym same.0) ∙ period_letters upper case_sensitive s.0 text s.2)
 
-Says-unique : {A : Type 0} (says : A → Value) (S : Form A) → IsUnique S → IsUnique (Says says S)
-Says-unique says S unique a b x y v w p q e =
+HasMappedValue-unique : {A : Type 0} (says : A → Value) (S : Form A) → IsUnique S → IsUnique (HasMappedValue says S)
+HasMappedValue-unique says S unique a b x y v w p q e =
     let is = unique a b x y p.0 q.0 p.2 q.2 e in
     (is.0, p.1 ∙ ap says is.1 ∙ sym q.1)
 
@@ -129,19 +129,19 @@ IsSigned-unique mandatory behind padding least most h unique a b x y v w (inr (f
     (same.0, same_signed v w (plus ∙ sym plus') same.1)
 
 signed_run-unique : (says : Sign × ℕ → Value) (mandatory : Bool) (p q : Padding) (least most least' most' : ℕ) → 1 ≤ least'
-    → IsUnique (Says says (IsSigned mandatory (IsPaddedRun p least most) (IsPaddedRun q least' most')))
+    → IsUnique (HasMappedValue says (IsSigned mandatory (IsPaddedRun p least most) (IsPaddedRun q least' most')))
 signed_run-unique says mandatory p q least most least' most' h =
-    Says-unique says (IsSigned mandatory (IsPaddedRun p least most) (IsPaddedRun q least' most'))
+    HasMappedValue-unique says (IsSigned mandatory (IsPaddedRun p least most) (IsPaddedRun q least' most'))
     (IsSigned-unique mandatory (IsPaddedRun p least most) q least' most' h (IsPaddedRun-unique p least most))
 
-SaysYear-unique : (mandatory : Bool) (padding : Padding) (most : ℕ) → IsUnique (SaysYear mandatory padding most)
-SaysYear-unique mandatory padding most = signed_run-unique signed_value mandatory padding padding 4 most 4 4 (omega arith)
+SpellsYear-unique : (mandatory : Bool) (padding : Padding) (most : ℕ) → IsUnique (SpellsYear mandatory padding most)
+SpellsYear-unique mandatory padding most = signed_run-unique signed_value mandatory padding padding 4 most 4 4 (omega arith)
 
-SaysCentury-unique : (mandatory : Bool) (padding : Padding) (most : ℕ) → IsUnique (SaysCentury mandatory padding most)
-SaysCentury-unique mandatory padding most = signed_run-unique flagged_value mandatory padding Zero 2 most 1 2 (omega arith)
+SpellsCentury-unique : (mandatory : Bool) (padding : Padding) (most : ℕ) → IsUnique (SpellsCentury mandatory padding most)
+SpellsCentury-unique mandatory padding most = signed_run-unique flagged_value mandatory padding Zero 2 most 1 2 (omega arith)
 
-SaysTimestamp-unique : (unit : ℕ) (mandatory : Bool) (most : ℕ) → IsUnique (SaysTimestamp unit mandatory most)
-SaysTimestamp-unique unit mandatory most = signed_run-unique (scaled_value unit) mandatory Zero Zero 1 most 1 most (omega arith)
+SpellsTimestamp-unique : (unit : ℕ) (mandatory : Bool) (most : ℕ) → IsUnique (SpellsTimestamp unit mandatory most)
+SpellsTimestamp-unique unit mandatory most = signed_run-unique (scaled_value unit) mandatory Zero Zero 1 most 1 most (omega arith)
 
 IsPositiveRun-unique : (padding : Padding) (places : ℕ) → IsUnique (IsPositiveRun padding places)
 IsPositiveRun-unique padding places a b x y v w p q = IsPaddedRun-unique padding places places a b x y v w p.0 q.0
@@ -212,59 +212,59 @@ days_from_sunday-one =
     let of : ℕ → Option Weekday = λ n. find (λ d. days_from_sunday d == n) weekdays in
     told_apart days_from_sunday of (each_weekday (λ d. of (days_from_sunday d) ≡ Some d) (refl, refl, refl, refl, refl, refl, refl))
 
-two_places-unique : (says : ℕ → Value) (padding : Padding) → IsUnique (Says says (IsPaddedRun padding 2 2))
-two_places-unique says padding = Says-unique says (IsPaddedRun padding 2 2) (IsPaddedRun-unique padding 2 2)
+two_places-unique : (says : ℕ → Value) (padding : Padding) → IsUnique (HasMappedValue says (IsPaddedRun padding 2 2))
+two_places-unique says padding = HasMappedValue-unique says (IsPaddedRun padding 2 2) (IsPaddedRun-unique padding 2 2)
 
 -- two spellings at the start of one input leave one rest and have one value
 pub Spells-unique : (whole : Bool) (c : Component) → IsUnique (Spells whole c)
-Spells-unique whole (component.Day m) = Says-unique number (IsPositiveRun m.padding 2) (IsPositiveRun-unique m.padding 2)
+Spells-unique whole (component.Day m) = HasMappedValue-unique number (IsPositiveRun m.padding 2) (IsPositiveRun-unique m.padding 2)
 Spells-unique whole (component.MonthShort m) =
-    Says-unique spelling_month (IsShortOf m.case_sensitive month_name) (same_name m.case_sensitive (λ v. take 3 (month_name v)) 3 months_told)
+    HasMappedValue-unique spelling_month (IsShortOf m.case_sensitive month_name) (same_name m.case_sensitive (λ v. take 3 (month_name v)) 3 months_told)
 Spells-unique whole (component.MonthLong m) =
-    Says-unique spelling_month (IsNameOf m.case_sensitive month_name) (IsNameOf-unique m.case_sensitive month_name months_told)
+    HasMappedValue-unique spelling_month (IsNameOf m.case_sensitive month_name) (IsNameOf-unique m.case_sensitive month_name months_told)
 Spells-unique whole (component.MonthNumerical m) =
-    Says-unique spelling_month (IsNumberOf m.padding month_number) (IsNumberOf-unique m.padding month_number month_number-one)
-Spells-unique whole (component.Ordinal m) = Says-unique number (IsPositiveRun m.padding 3) (IsPositiveRun-unique m.padding 3)
+    HasMappedValue-unique spelling_month (IsNumberOf m.padding month_number) (IsNumberOf-unique m.padding month_number month_number-one)
+Spells-unique whole (component.Ordinal m) = HasMappedValue-unique number (IsPositiveRun m.padding 3) (IsPositiveRun-unique m.padding 3)
 Spells-unique whole (component.WeekdayShort m) =
-    Says-unique weekday (IsShortOf m.case_sensitive weekday_name)
+    HasMappedValue-unique weekday (IsShortOf m.case_sensitive weekday_name)
     (same_name m.case_sensitive (λ v. take 3 (weekday_name v)) 3 weekdays_told)
 Spells-unique whole (component.WeekdayLong m) =
-    Says-unique weekday (IsNameOf m.case_sensitive weekday_name) (IsNameOf-unique m.case_sensitive weekday_name weekdays_told)
+    HasMappedValue-unique weekday (IsNameOf m.case_sensitive weekday_name) (IsNameOf-unique m.case_sensitive weekday_name weekdays_told)
 Spells-unique whole (component.WeekdaySunday m) =
-    Says-unique weekday (IsDigitOf m.one_indexed days_from_sunday) (IsDigitOf-unique m.one_indexed days_from_sunday days_from_sunday-one)
+    HasMappedValue-unique weekday (IsDigitOf m.one_indexed days_from_sunday) (IsDigitOf-unique m.one_indexed days_from_sunday days_from_sunday-one)
 Spells-unique whole (component.WeekdayMonday m) =
-    Says-unique weekday (IsDigitOf m.one_indexed days_from_monday) (IsDigitOf-unique m.one_indexed days_from_monday days_from_monday-one)
+    HasMappedValue-unique weekday (IsDigitOf m.one_indexed days_from_monday) (IsDigitOf-unique m.one_indexed days_from_monday days_from_monday-one)
 Spells-unique whole (component.WeekNumberIso m) = two_places-unique number m.padding
 Spells-unique whole (component.WeekNumberSunday m) = two_places-unique number m.padding
 Spells-unique whole (component.WeekNumberMonday m) = two_places-unique number m.padding
-Spells-unique whole (component.CalendarYearFullExtendedRange m) = SaysYear-unique m.sign_is_mandatory m.padding 6
-Spells-unique whole (component.CalendarYearFullStandardRange m) = SaysYear-unique m.sign_is_mandatory m.padding 4
-Spells-unique whole (component.IsoYearFullExtendedRange m) = SaysYear-unique m.sign_is_mandatory m.padding 6
-Spells-unique whole (component.IsoYearFullStandardRange m) = SaysYear-unique m.sign_is_mandatory m.padding 4
-Spells-unique whole (component.CalendarYearCenturyExtendedRange m) = SaysCentury-unique m.sign_is_mandatory m.padding 4
-Spells-unique whole (component.CalendarYearCenturyStandardRange m) = SaysCentury-unique m.sign_is_mandatory m.padding 2
-Spells-unique whole (component.IsoYearCenturyExtendedRange m) = SaysCentury-unique m.sign_is_mandatory m.padding 4
-Spells-unique whole (component.IsoYearCenturyStandardRange m) = SaysCentury-unique m.sign_is_mandatory m.padding 2
+Spells-unique whole (component.CalendarYearFullExtendedRange m) = SpellsYear-unique m.sign_is_mandatory m.padding 6
+Spells-unique whole (component.CalendarYearFullStandardRange m) = SpellsYear-unique m.sign_is_mandatory m.padding 4
+Spells-unique whole (component.IsoYearFullExtendedRange m) = SpellsYear-unique m.sign_is_mandatory m.padding 6
+Spells-unique whole (component.IsoYearFullStandardRange m) = SpellsYear-unique m.sign_is_mandatory m.padding 4
+Spells-unique whole (component.CalendarYearCenturyExtendedRange m) = SpellsCentury-unique m.sign_is_mandatory m.padding 4
+Spells-unique whole (component.CalendarYearCenturyStandardRange m) = SpellsCentury-unique m.sign_is_mandatory m.padding 2
+Spells-unique whole (component.IsoYearCenturyExtendedRange m) = SpellsCentury-unique m.sign_is_mandatory m.padding 4
+Spells-unique whole (component.IsoYearCenturyStandardRange m) = SpellsCentury-unique m.sign_is_mandatory m.padding 2
 Spells-unique whole (component.CalendarYearLastTwo m) = two_places-unique number m.padding
 Spells-unique whole (component.IsoYearLastTwo m) = two_places-unique number m.padding
 Spells-unique whole (component.Hour12 m) = two_places-unique number m.padding
 Spells-unique whole (component.Hour24 m) = two_places-unique number m.padding
 Spells-unique whole (component.Minute m) = two_places-unique number m.padding
 Spells-unique whole (component.Period m) =
-    Says-unique period (IsNameOf m.case_sensitive (period_name m.is_uppercase))
+    HasMappedValue-unique period (IsNameOf m.case_sensitive (period_name m.is_uppercase))
     (same_name m.case_sensitive (period_name m.is_uppercase) 2 (periods_told m.is_uppercase))
 Spells-unique whole (component.Second m) = two_places-unique number m.padding
 Spells-unique whole (component.Subsecond m) =
-    Says-unique number (IsFractionRun (least_digits m.digits) (most_digits m.digits))
+    HasMappedValue-unique number (IsFractionRun (least_digits m.digits) (most_digits m.digits))
     (IsFractionRun-unique (least_digits m.digits) (most_digits m.digits))
 Spells-unique whole (component.OffsetHour m) = signed_run-unique flagged_value m.sign_is_mandatory m.padding m.padding 2 2 2 2 (omega arith)
 Spells-unique whole (component.OffsetMinute m) = two_places-unique positive m.padding
 Spells-unique whole (component.OffsetSecond m) = two_places-unique positive m.padding
 Spells-unique whole (component.Ignore m) = λ a b x y v w p q e. ((same_front a b x y (p.1 ∙ sym q.1) e).1, p.0 ∙ sym q.0)
-Spells-unique whole (component.UnixTimestampSecond m) = SaysTimestamp-unique 1000000000 m.sign_is_mandatory 14
-Spells-unique whole (component.UnixTimestampMillisecond m) = SaysTimestamp-unique 1000000 m.sign_is_mandatory 17
-Spells-unique whole (component.UnixTimestampMicrosecond m) = SaysTimestamp-unique 1000 m.sign_is_mandatory 20
-Spells-unique whole (component.UnixTimestampNanosecond m) = SaysTimestamp-unique 1 m.sign_is_mandatory 23
+Spells-unique whole (component.UnixTimestampSecond m) = SpellsTimestamp-unique 1000000000 m.sign_is_mandatory 14
+Spells-unique whole (component.UnixTimestampMillisecond m) = SpellsTimestamp-unique 1000000 m.sign_is_mandatory 17
+Spells-unique whole (component.UnixTimestampMicrosecond m) = SpellsTimestamp-unique 1000 m.sign_is_mandatory 20
+Spells-unique whole (component.UnixTimestampNanosecond m) = SpellsTimestamp-unique 1 m.sign_is_mandatory 23
 Spells-unique whole (component.End m) = λ a b x y v w p q e. (p.1 ∙ sym q.1, p.0 ∙ sym q.0)
 
 pub one_spelling : (whole : Bool) (c : Component) → AtMostOneCut (Spells whole c)

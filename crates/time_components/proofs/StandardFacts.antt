@@ -7,7 +7,7 @@ use Rattle.time_digits.specs.declared.Padding.TheVariants as padding
 use Rattle.time_digits.specs.declared.Sign.TheVariants.{Negative, Positive}
 use Rattle.time_digits.specs.Digits.{Form, NoCut, IsSign, IsPaddedRun}
 use Rattle.time_digits.proofs.StandardFacts.{no_digit_first, too_few_digits}
-use Rattle.time_components.specs.Spelling.{Value, number, signed, flagged, month, weekday, period, nothing, Says, IsNamed, IsIgnored, BeginsCharacter, period_name, signed_value, flagged_value, days_from_sunday, Spells}
+use Rattle.time_components.specs.Spelling.{Value, number, signed, flagged, month, weekday, period, nothing, HasMappedValue, IsNamed, IsIgnored, BeginsCharacter, period_name, signed_value, flagged_value, days_from_sunday, Spells}
 use Rattle.time_components.specs.Tree.{Tree, literal, sequence, optional, first_of, none, more, trees, component as component_tree, borrowed_shape, borrowed_step, owned_shape, owned_step, v3_shape, v3_step, steps_shape, trees_in}
 use Rattle.time_components.specs.declared.format_description.Component.{Component}
 use Rattle.time_components.specs.declared.format_description.Component.TheVariants as component
@@ -164,7 +164,7 @@ minus_of_0_is_kept s =
     cc
 
 -- bytes that don't begin with a text of the form spell no value
-nothing_says : {A : Type 0} (says : A → Value) (S : Form A) (input : List ℕ) → NoCut S input → NoCut (Says says S) input
+nothing_says : {A : Type 0} (says : A → Value) (S : Form A) (input : List ℕ) → NoCut S input → NoCut (HasMappedValue says S) input
 nothing_says says S input missing text rest v e s = missing text rest s.0 e s.2
 
 pub one_digit_behind_a_sign : NoCut (Spells false century) (codes "+5x")

@@ -60,8 +60,8 @@ abbrev pub positive : ℕ → Value
 positive n = signed (pos n)
 
 -- The text spells something in the form, and the value is what the function maps it to.
-abbrev pub Says : {A : Type 0} → (A → Value) → Form A → Form Value
-Says {A} says S text rest value = (a : A) × (value ≡ says a) × S text rest a
+abbrev pub HasMappedValue : {A : Type 0} → (A → Value) → Form A → Form Value
+HasMappedValue {A} says S text rest value = (a : A) × (value ≡ says a) × S text rest a
 
 -- The text is a sign and a text of the form `behind`, or, unless a sign is mandatory, a text of the form `alone`.
 abbrev pub IsSigned : Bool → Form ℕ → Form ℕ → Form (Sign × ℕ)
@@ -70,24 +70,24 @@ IsSigned mandatory behind alone text rest v =
     ⊎ ((mandatory ≡ false) × (v.0 ≡ Positive) × alone text rest v.1)
 
 -- four digits, or a sign and four to `most` digits, with the padding
-abbrev pub SaysYear : Bool → Padding → ℕ → Form Value
-SaysYear mandatory padding most =
-    Says signed_value (IsSigned mandatory (IsPaddedRun padding 4 most) (IsPaddedRun padding 4 4))
+abbrev pub SpellsYear : Bool → Padding → ℕ → Form Value
+SpellsYear mandatory padding most =
+    HasMappedValue signed_value (IsSigned mandatory (IsPaddedRun padding 4 most) (IsPaddedRun padding 4 4))
 
 -- one or two digits, or a sign and two to `most` digits with the padding
-abbrev pub SaysCentury : Bool → Padding → ℕ → Form Value
-SaysCentury mandatory padding most =
-    Says flagged_value (IsSigned mandatory (IsPaddedRun padding 2 most) (IsDigitRun 1 2))
+abbrev pub SpellsCentury : Bool → Padding → ℕ → Form Value
+SpellsCentury mandatory padding most =
+    HasMappedValue flagged_value (IsSigned mandatory (IsPaddedRun padding 2 most) (IsDigitRun 1 2))
 
 -- two digits with the padding, with or without a sign
-abbrev pub SaysOffsetHour : Bool → Padding → Form Value
-SaysOffsetHour mandatory padding =
-    Says flagged_value (IsSigned mandatory (IsPaddedRun padding 2 2) (IsPaddedRun padding 2 2))
+abbrev pub SpellsOffsetHour : Bool → Padding → Form Value
+SpellsOffsetHour mandatory padding =
+    HasMappedValue flagged_value (IsSigned mandatory (IsPaddedRun padding 2 2) (IsPaddedRun padding 2 2))
 
 -- up to `most` digits, with or without a sign, in units of `unit` nanoseconds
-abbrev pub SaysTimestamp : ℕ → Bool → ℕ → Form Value
-SaysTimestamp unit mandatory most =
-    Says (scaled_value unit) (IsSigned mandatory (IsDigitRun 1 most) (IsDigitRun 1 most))
+abbrev pub SpellsTimestamp : ℕ → Bool → ℕ → Form Value
+SpellsTimestamp unit mandatory most =
+    HasMappedValue (scaled_value unit) (IsSigned mandatory (IsDigitRun 1 most) (IsDigitRun 1 most))
 
 -- a run of exactly `places` places with the padding, whose value isn't 0
 abbrev pub IsPositiveRun : Padding → ℕ → Form ℕ
@@ -175,42 +175,42 @@ IsIgnored whole count text rest value =
 
 -- The text, followed by that rest, spells the value. If `whole` is true, an `Ignore` ends between characters.
 abbrev pub Spells : Bool → Component → Form Value
-Spells whole (component.Day m) = Says number (IsPositiveRun m.padding 2)
-Spells whole (component.MonthShort m) = Says month (IsShortOf m.case_sensitive month_name)
-Spells whole (component.MonthLong m) = Says month (IsNameOf m.case_sensitive month_name)
-Spells whole (component.MonthNumerical m) = Says month (IsNumberOf m.padding month_number)
-Spells whole (component.Ordinal m) = Says number (IsPositiveRun m.padding 3)
-Spells whole (component.WeekdayShort m) = Says weekday (IsShortOf m.case_sensitive weekday_name)
-Spells whole (component.WeekdayLong m) = Says weekday (IsNameOf m.case_sensitive weekday_name)
-Spells whole (component.WeekdaySunday m) = Says weekday (IsDigitOf m.one_indexed days_from_sunday)
-Spells whole (component.WeekdayMonday m) = Says weekday (IsDigitOf m.one_indexed days_from_monday)
-Spells whole (component.WeekNumberIso m) = Says number (IsPaddedRun m.padding 2 2)
-Spells whole (component.WeekNumberSunday m) = Says number (IsPaddedRun m.padding 2 2)
-Spells whole (component.WeekNumberMonday m) = Says number (IsPaddedRun m.padding 2 2)
-Spells whole (component.CalendarYearFullExtendedRange m) = SaysYear m.sign_is_mandatory m.padding 6
-Spells whole (component.CalendarYearFullStandardRange m) = SaysYear m.sign_is_mandatory m.padding 4
-Spells whole (component.IsoYearFullExtendedRange m) = SaysYear m.sign_is_mandatory m.padding 6
-Spells whole (component.IsoYearFullStandardRange m) = SaysYear m.sign_is_mandatory m.padding 4
-Spells whole (component.CalendarYearCenturyExtendedRange m) = SaysCentury m.sign_is_mandatory m.padding 4
-Spells whole (component.CalendarYearCenturyStandardRange m) = SaysCentury m.sign_is_mandatory m.padding 2
-Spells whole (component.IsoYearCenturyExtendedRange m) = SaysCentury m.sign_is_mandatory m.padding 4
-Spells whole (component.IsoYearCenturyStandardRange m) = SaysCentury m.sign_is_mandatory m.padding 2
-Spells whole (component.CalendarYearLastTwo m) = Says number (IsPaddedRun m.padding 2 2)
-Spells whole (component.IsoYearLastTwo m) = Says number (IsPaddedRun m.padding 2 2)
-Spells whole (component.Hour12 m) = Says number (IsPaddedRun m.padding 2 2)
-Spells whole (component.Hour24 m) = Says number (IsPaddedRun m.padding 2 2)
-Spells whole (component.Minute m) = Says number (IsPaddedRun m.padding 2 2)
-Spells whole (component.Period m) = Says period (IsNameOf m.case_sensitive (period_name m.is_uppercase))
-Spells whole (component.Second m) = Says number (IsPaddedRun m.padding 2 2)
-Spells whole (component.Subsecond m) = Says number (IsFractionRun (least_digits m.digits) (most_digits m.digits))
-Spells whole (component.OffsetHour m) = SaysOffsetHour m.sign_is_mandatory m.padding
-Spells whole (component.OffsetMinute m) = Says positive (IsPaddedRun m.padding 2 2)
-Spells whole (component.OffsetSecond m) = Says positive (IsPaddedRun m.padding 2 2)
+Spells whole (component.Day m) = HasMappedValue number (IsPositiveRun m.padding 2)
+Spells whole (component.MonthShort m) = HasMappedValue month (IsShortOf m.case_sensitive month_name)
+Spells whole (component.MonthLong m) = HasMappedValue month (IsNameOf m.case_sensitive month_name)
+Spells whole (component.MonthNumerical m) = HasMappedValue month (IsNumberOf m.padding month_number)
+Spells whole (component.Ordinal m) = HasMappedValue number (IsPositiveRun m.padding 3)
+Spells whole (component.WeekdayShort m) = HasMappedValue weekday (IsShortOf m.case_sensitive weekday_name)
+Spells whole (component.WeekdayLong m) = HasMappedValue weekday (IsNameOf m.case_sensitive weekday_name)
+Spells whole (component.WeekdaySunday m) = HasMappedValue weekday (IsDigitOf m.one_indexed days_from_sunday)
+Spells whole (component.WeekdayMonday m) = HasMappedValue weekday (IsDigitOf m.one_indexed days_from_monday)
+Spells whole (component.WeekNumberIso m) = HasMappedValue number (IsPaddedRun m.padding 2 2)
+Spells whole (component.WeekNumberSunday m) = HasMappedValue number (IsPaddedRun m.padding 2 2)
+Spells whole (component.WeekNumberMonday m) = HasMappedValue number (IsPaddedRun m.padding 2 2)
+Spells whole (component.CalendarYearFullExtendedRange m) = SpellsYear m.sign_is_mandatory m.padding 6
+Spells whole (component.CalendarYearFullStandardRange m) = SpellsYear m.sign_is_mandatory m.padding 4
+Spells whole (component.IsoYearFullExtendedRange m) = SpellsYear m.sign_is_mandatory m.padding 6
+Spells whole (component.IsoYearFullStandardRange m) = SpellsYear m.sign_is_mandatory m.padding 4
+Spells whole (component.CalendarYearCenturyExtendedRange m) = SpellsCentury m.sign_is_mandatory m.padding 4
+Spells whole (component.CalendarYearCenturyStandardRange m) = SpellsCentury m.sign_is_mandatory m.padding 2
+Spells whole (component.IsoYearCenturyExtendedRange m) = SpellsCentury m.sign_is_mandatory m.padding 4
+Spells whole (component.IsoYearCenturyStandardRange m) = SpellsCentury m.sign_is_mandatory m.padding 2
+Spells whole (component.CalendarYearLastTwo m) = HasMappedValue number (IsPaddedRun m.padding 2 2)
+Spells whole (component.IsoYearLastTwo m) = HasMappedValue number (IsPaddedRun m.padding 2 2)
+Spells whole (component.Hour12 m) = HasMappedValue number (IsPaddedRun m.padding 2 2)
+Spells whole (component.Hour24 m) = HasMappedValue number (IsPaddedRun m.padding 2 2)
+Spells whole (component.Minute m) = HasMappedValue number (IsPaddedRun m.padding 2 2)
+Spells whole (component.Period m) = HasMappedValue period (IsNameOf m.case_sensitive (period_name m.is_uppercase))
+Spells whole (component.Second m) = HasMappedValue number (IsPaddedRun m.padding 2 2)
+Spells whole (component.Subsecond m) = HasMappedValue number (IsFractionRun (least_digits m.digits) (most_digits m.digits))
+Spells whole (component.OffsetHour m) = SpellsOffsetHour m.sign_is_mandatory m.padding
+Spells whole (component.OffsetMinute m) = HasMappedValue positive (IsPaddedRun m.padding 2 2)
+Spells whole (component.OffsetSecond m) = HasMappedValue positive (IsPaddedRun m.padding 2 2)
 Spells whole (component.Ignore m) = IsIgnored whole m.count.value
-Spells whole (component.UnixTimestampSecond m) = SaysTimestamp 1000000000 m.sign_is_mandatory 14
-Spells whole (component.UnixTimestampMillisecond m) = SaysTimestamp 1000000 m.sign_is_mandatory 17
-Spells whole (component.UnixTimestampMicrosecond m) = SaysTimestamp 1000 m.sign_is_mandatory 20
-Spells whole (component.UnixTimestampNanosecond m) = SaysTimestamp 1 m.sign_is_mandatory 23
+Spells whole (component.UnixTimestampSecond m) = SpellsTimestamp 1000000000 m.sign_is_mandatory 14
+Spells whole (component.UnixTimestampMillisecond m) = SpellsTimestamp 1000000 m.sign_is_mandatory 17
+Spells whole (component.UnixTimestampMicrosecond m) = SpellsTimestamp 1000 m.sign_is_mandatory 20
+Spells whole (component.UnixTimestampNanosecond m) = SpellsTimestamp 1 m.sign_is_mandatory 23
 Spells whole (component.End m) = IsEnd m.trailing_input
 
 -- ---- Laws of the definitions, each the contract of a function of module `laws`, which proves it

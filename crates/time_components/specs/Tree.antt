@@ -1,5 +1,5 @@
 -- The tree of a description, whatever its type.
-use Rattle.std.specs.Prelude.{ℕ, List, [], ◌∷◌, Bool, true, false, map, string_bytes, zero, suc, length, take, drop}
+use Rattle.std.specs.Prelude.{ℕ, List, [], ◌∷◌, Bool, true, false, map, string_bytes, zero, suc, length, min, take, drop}
 use Rattle.time_components.specs.declared.format_description.Component.{Component}
 use Rattle.time_components.specs.declared.inspect.Node.{Node}
 use Rattle.time_components.specs.declared.inspect.Node.TheVariants as node
@@ -110,6 +110,13 @@ tree_at trees (step.Literal b) steps = literal (b ∷ further steps)
 tree_at trees (step.More b) steps = literal (b ∷ further steps)
 tree_at trees (step.Component c) steps = component false c
 tree_at trees (step.Group g len) steps = group_tree g (trees (take len steps))
+
+-- how many of the steps behind a step belong to it
+abbrev pub item_length : Step → List Step → ℕ
+item_length (step.Literal b) behind = length (further behind)
+item_length (step.More b) behind = length (further behind)
+item_length (step.Component c) behind = 0
+item_length (step.Group g len) behind = min len (length behind)
 
 -- the steps after a step and those that belong to it
 abbrev pub steps_after : Step → List Step → List Step

@@ -4,7 +4,7 @@
 //! of digits is as long as its greatest length allows, and no parser backtracks.
 ghost use Rattle.std.specs.Prelude.{◌≤◌, false};
 ghost use Rattle.time_digits.specs.Digits.{Finds};
-ghost use Rattle.time_components.specs.Spelling.{SaysOffsetHour, SaysYear, Spells, number, signed, flagged, month, weekday, period, nothing};
+ghost use Rattle.time_components.specs.Spelling.{SpellsOffsetHour, SpellsYear, Spells, number, signed, flagged, month, weekday, period, nothing};
 ghost use Rattle.time_components.specs.declared.format_description.Component.TheVariants as component;
 
 pub mod fast;
@@ -28,7 +28,7 @@ fn full_year<const MOST: u8>(
 ) -> Option<ParsedItem<'_, i32>>
     requires least { 4 ≤ MOST }
     requires most { MOST ≤ 6 }
-    ensures { Finds (SaysYear sign_is_mandatory padding MOST) signed input.now result }
+    ensures { Finds (SpellsYear sign_is_mandatory padding MOST) signed input.now result }
 {
     match fast::year::<MOST>(input, padding, sign_is_mandatory) {
         Some(year) => Some(year),
@@ -43,7 +43,7 @@ fn offset_hour(
     padding: Padding,
     sign_is_mandatory: bool,
 ) -> Option<ParsedItem<'_, (i8, bool)>>
-    ensures { Finds (SaysOffsetHour sign_is_mandatory padding) (λ v. flagged v.0 v.1) input.now result }
+    ensures { Finds (SpellsOffsetHour sign_is_mandatory padding) (λ v. flagged v.0 v.1) input.now result }
 {
     match fast::offset_hour(input, padding, sign_is_mandatory) {
         Some(hour) => Some(hour),

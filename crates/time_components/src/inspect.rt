@@ -1,5 +1,5 @@
 //! A uniform view of the items of any description, and the steps that a parsed description is stored as.
-ghost use Rattle.std.specs.Prelude.{◌≡◌, ◌≤◌, drop, length};
+ghost use Rattle.std.specs.Prelude.{◌≡◌, ◌≤◌, length};
 ghost use Rattle.time_components.specs.Tree as spec;
 ghost use Rattle.time_components.specs.Tree.{borrowed_shape, further, owned_shape, v3_shape, Tree, node_tree};
 
@@ -116,31 +116,38 @@ impl Default for Step {
     }
 }
 
-/// The steps after those that belong to a step: the further bytes of a literal, or the steps of a group.
+/// How many of the steps behind a step belong to it: the further bytes of a literal, or the steps of a group.
+#[inline(always)]
+pub fn item_len(step: &Step, behind: &[Step]) -> usize
+    ensures len { result ≡ spec.item_length step.now behind.now }
+    ensures within { result ≤ length behind.now }
+{
+    match *step {
+        Step::Literal(_) | Step::More(_) => further_len(behind),
+        Step::Component(_) => 0,
+        Step::Group(_, len) => len.min(behind.len()),
+    }
+}
+
+/// The steps after those that belong to a step.
 #[inline(always)]
 pub fn steps_after<'s>(step: &Step, behind: &'s [Step]) -> &'s [Step]
     ensures after { result.now ≡ spec.steps_after step.now behind.now }
     ensures fewer { length result.now ≤ length behind.now }
 {
-    match *step {
-        Step::Literal(_) | Step::More(_) => after_further(behind),
-        Step::Component(_) => behind,
-        Step::Group(_, len) => {
-            let (_, after) = behind.split_at(len.min(behind.len()));
-            after
-        }
-    }
+    let (_, after) = behind.split_at(item_len(step, behind));
+    after
 }
 
-// The steps after the further bytes of a literal. Not inlined, so that a loop over leaves needs fewer registers.
+// How many further bytes of a literal are at the front. Not inlined, so that a loop over leaves needs fewer registers.
 #[inline(never)]
-fn after_further(steps: &[Step]) -> &[Step]
-    ensures after { result.now ≡ drop (length (further steps.now)) steps.now }
-    ensures fewer { length result.now ≤ length steps.now }
+fn further_len(steps: &[Step]) -> usize
+    ensures len { result ≡ length (further steps.now) }
+    ensures within { result ≤ length steps.now }
 {
     let mut left = steps;
     while let [Step::More(_), behind @ ..] = left {
         left = behind;
     }
-    left
+    steps.len() - left.len()
 }

@@ -13,6 +13,6 @@ pub use format_description::{
     BorrowedFormatItem, Component, FormatDescriptionV3, FormatDescriptionV3Inner, OwnedFormatItem,
     Period,
 };
-pub use inspect::{Group, Inspect, Node, Step, steps_after};
+pub use inspect::{Group, Inspect, Node, Step, item_len, steps_after};
 pub use modifier::{SubsecondDigits, TrailingInput};
 pub use time_digits::{Integer, Padding, ParsedItem, Sign, combinator};

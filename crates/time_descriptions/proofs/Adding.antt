@@ -11,8 +11,8 @@ use Rattle.time_descriptions.specs.declared.error.Fault.{Fault}
 use Rattle.time_descriptions.specs.declared.error.Fault.TheVariants as fault
 use Rattle.time_descriptions.specs.declared.error.Unsupported.TheVariants as unsupported
 use Rattle.time_descriptions.specs.declared.leaf.Version.{Version}
-use Rattle.time_descriptions.specs.Components.{Read, Gives, Adds}
-use Rattle.time_descriptions.specs.Grammar.{after_byte, before, closed, ends, group_by, group_word, inside_by, item, items_by, leaf, list_by, lists_by, next_list, opened, group_begun, inside_begun, item_begun, items_begun, leaf_begun, list_begun, lists_begun}
+use Rattle.time_descriptions.specs.Components.{Read, Returns, Adds}
+use Rattle.time_descriptions.specs.Grammar.{after_byte, before, closed, ends, group_by, group_word, inside_by, item, items_by, leaf, list_by, lists_by, next_list, opened, group_step_count, inside_step_count, item_step_count, items_step_count, leaf_step_count, list_step_count, lists_step_count}
 use Rattle.time_descriptions.specs.Items.{Item, group, items_of, flat, steps_of}
 
 pub flat-append : (is js : List Item) → flat (is ++ js) ≡ flat is ++ flat js
@@ -159,7 +159,7 @@ module _ (read : List ℕ → Read Item) (opening : ℕ) (g : Group) (text : Lis
 
     pub group_ends : (n begun : ℕ) (rest : List ℕ) (is : List Item) (old mid new : List Step) (r : Result (Bor (List ℕ)) Fault)
         → inside_by (list_by read opening) g inside ≡ Ok (is, rest)
-        → Gives (λ x. x.now) r (closed opening rest) → IfOk r (λ x. length x.now < length rest)
+        → Returns (λ x. x.now) r (closed opening rest) → IfOk r (λ x. length x.now < length rest)
         → mid ≡ (old ++ step.Group g 0 ∷ []) ++ flat is
         → length mid + length rest ≤ length (old ++ step.Group g 0 ∷ []) + (length inside + 1)
         → length inside + 2 ≤ length text
@@ -180,7 +180,7 @@ module _ (read : List ℕ → Read Item) (opening : ℕ) (g : Group) (text : Lis
 
 pub list_ends : (n begun : ℕ) (read : List ℕ → Read Item) (opening : ℕ) (text rest : List ℕ) (is : List Item) (old new : List Step)
     (r : Result (Bor (List ℕ)) Fault) → items_by read (length text) true text ≡ Ok (is, rest)
-    → Gives (λ x. x.now) r (after_byte 93 (fault.UnclosedOpeningBracket opening) rest) → IfOk r (λ x. length x.now < length rest)
+    → Returns (λ x. x.now) r (after_byte 93 (fault.UnclosedOpeningBracket opening) rest) → IfOk r (λ x. length x.now < length rest)
     → new ≡ old ++ flat is → length new + length rest ≤ length old + length text → begun ≡ length (flat is) → begun ≤ n - length old
     → Adds flat n (list_by read opening text) begun (length text) old r new
 list_ends n begun read opening text rest is old new (Ok x) i q h s b d l = (is, rw (i, q) refl, s, omega (arith, h, b), d, l)
@@ -220,74 +220,74 @@ not_ended nested (b ∷ rest) e = omega arith
 
 module _ (read : List ℕ → Read Item) (begun : List ℕ → ℕ) where
   module _ (nested : Bool) (rest : List ℕ) where
-    pub none_at_end : (m : ℕ) → ends nested rest ≡ true → items_begun read begun m nested rest ≡ 0
-    unfolding items_begun
+    pub none_at_end : (m : ℕ) → ends nested rest ≡ true → items_step_count read begun m nested rest ≡ 0
+    unfolding items_step_count
     none_at_end zero e = refl
     none_at_end (suc m) e = rw e refl
 
     pub some_at_fault : (m : ℕ) (e : Fault) → 0 < m → ends nested rest ≡ false → read rest ≡ Err e
-        → items_begun read begun m nested rest ≡ begun rest
-    unfolding items_begun
+        → items_step_count read begun m nested rest ≡ begun rest
+    unfolding items_step_count
     some_at_fault zero e h n r = absurd (omega (arith, h))
     some_at_fault (suc m) e h n r = rw (n, r) (omega arith)
 
     pub some_at_item : (m k : ℕ) (i : Item) (unread : List ℕ) → m ≡ suc k → ends nested rest ≡ false → read rest ≡ Ok (i, unread)
-        → items_begun read begun m nested rest ≡ begun rest + items_begun read begun k nested unread
-    unfolding items_begun
+        → items_step_count read begun m nested rest ≡ begun rest + items_step_count read begun k nested unread
+    unfolding items_step_count
     some_at_item m k i unread h n r = rw (h, n, r) refl
 
-    pub some_at_least : (m : ℕ) → 0 < m → ends nested rest ≡ false → begun rest ≤ items_begun read begun m nested rest
-    unfolding items_begun
+    pub some_at_least : (m : ℕ) → 0 < m → ends nested rest ≡ false → begun rest ≤ items_step_count read begun m nested rest
+    unfolding items_step_count
     some_at_least zero h n = absurd (omega (arith, h))
     some_at_least (suc m) h n = rw n (omega arith)
 
   module _ (opening : ℕ) (inside : List ℕ) where
     pub lists_at_fault : (m : ℕ) (e : Fault) → 0 < m → list_by read opening inside ≡ Err e
-        → lists_begun read begun opening m inside ≡ 1 + list_begun read begun inside
-    unfolding lists_begun
+        → lists_step_count read begun opening m inside ≡ 1 + list_step_count read begun inside
+    unfolding lists_step_count
     lists_at_fault zero e h r = absurd (omega (arith, h))
     lists_at_fault (suc m) e h r = rw r (omega arith)
 
     pub lists_at_last : (m : ℕ) (is : List Item) (rest : List ℕ) → 0 < m → list_by read opening inside ≡ Ok (is, rest)
-        → next_list rest ≡ None → lists_begun read begun opening m inside ≡ 1 + list_begun read begun inside
-    unfolding lists_begun
+        → next_list rest ≡ None → lists_step_count read begun opening m inside ≡ 1 + list_step_count read begun inside
+    unfolding lists_step_count
     lists_at_last zero is rest h r n = absurd (omega (arith, h))
     lists_at_last (suc m) is rest h r n = rw (r, n) (omega arith)
 
     pub lists_at_next : (m k : ℕ) (is : List Item) (rest further : List ℕ) → m ≡ suc k → list_by read opening inside ≡ Ok (is, rest)
         → next_list rest ≡ Some further
-        → lists_begun read begun opening m inside ≡ 1 + list_begun read begun inside + lists_begun read begun opening k further
-    unfolding lists_begun
+        → lists_step_count read begun opening m inside ≡ 1 + list_step_count read begun inside + lists_step_count read begun opening k further
+    unfolding lists_step_count
     lists_at_next m k is rest further h r n = rw (h, r, n) refl
 
-    pub lists_at_least : (m : ℕ) → 0 < m → 1 + list_begun read begun inside ≤ lists_begun read begun opening m inside
-    unfolding lists_begun
+    pub lists_at_least : (m : ℕ) → 0 < m → 1 + list_step_count read begun inside ≤ lists_step_count read begun opening m inside
+    unfolding lists_step_count
     lists_at_least zero h = absurd (omega (arith, h))
     lists_at_least (suc m) h = omega arith
 
   module _ (opening : ℕ) (g : Group) (text : List ℕ) where
-    pub group_not_opened : (e : Fault) → opened g text ≡ Err e → group_begun read begun opening (g, text) ≡ 0
-    unfolding group_begun
+    pub group_not_opened : (e : Fault) → opened g text ≡ Err e → group_step_count read begun opening (g, text) ≡ 0
+    unfolding group_step_count
     group_not_opened e o = rw o refl
 
     pub group_opened : (inside : List ℕ) → opened g text ≡ Ok inside
-        → group_begun read begun opening (g, text) ≡ 1 + inside_begun read begun opening g inside
-    unfolding group_begun
+        → group_step_count read begun opening (g, text) ≡ 1 + inside_step_count read begun opening g inside
+    unfolding group_step_count
     group_opened inside o = rw o refl
 
 pub plain_begun : (version : Version) (depth : ℕ) (nested : Bool) (text : List ℕ) → group_word text ≡ None
-    → item_begun version depth nested text ≡ leaf_begun version nested text
-unfolding item_begun
+    → item_step_count version depth nested text ≡ leaf_step_count version nested text
+unfolding item_step_count
 plain_begun version zero nested text e = rw e refl
 plain_begun version (suc depth) nested text e = rw e refl
 
 pub deep_begun : (version : Version) (depth : ℕ) (nested : Bool) (text : List ℕ) (found : Group × List ℕ) → depth ≡ 0
-    → group_word text ≡ Some found → item_begun version depth nested text ≡ 0
-unfolding item_begun
+    → group_word text ≡ Some found → item_step_count version depth nested text ≡ 0
+unfolding item_step_count
 deep_begun version depth nested text found h e = rw (h, e) refl
 
 pub deeper_begun : (version : Version) (depth k : ℕ) (nested : Bool) (text : List ℕ) (found : Group × List ℕ) → depth ≡ suc k
     → group_word text ≡ Some found
-    → item_begun version depth nested text ≡ group_begun (item version k true) (item_begun version k true) (length text) found
-unfolding item_begun
+    → item_step_count version depth nested text ≡ group_step_count (item version k true) (item_step_count version k true) (length text) found
+unfolding item_step_count
 deeper_begun version depth k nested text found h e = rw (h, e) refl

@@ -28,7 +28,7 @@ use Rattle.time_descriptions.specs.Components.{Read, ◌>>=◌, or_fault, after_
 use Rattle.time_descriptions.specs.Modifiers as chosen
 use Rattle.time_descriptions.specs.Values.{component_names, modifier_keys, bases, bools, cases, digits, modifier_value, paddings, precisions, ranges, representations, signs, trailing_inputs, count_on, ignore_count, ignored, is_of_word, is_space, look_up}
 use Rattle.time_descriptions.specs.declared.leaf.Version.{Version}
-use Rattle.time_descriptions.specs.Grammar.{counted, group_begun, inside_begun, item_begun, items_begun, leaf_begun, list_begun, lists_begun, steps_begun, after_byte, before, by_option, closed, description, ends, group_by, group_word, inside_by, item, items_by, leaf, list_by, lists_by, next_list, opened}
+use Rattle.time_descriptions.specs.Grammar.{counted, group_step_count, inside_step_count, item_step_count, items_step_count, leaf_step_count, list_step_count, lists_step_count, steps_count, after_byte, before, by_option, closed, description, ends, group_by, group_word, inside_by, item, items_by, leaf, list_by, lists_by, next_list, opened}
 use Rattle.time_descriptions.specs.Items.{Item, flat, group, items_of, steps_of}
 use Rattle.time_descriptions.proofs.WrittenComponents.{Fits}
 
@@ -271,34 +271,34 @@ opened_group g opening read count h (Ok text) = shut_group g opening (count text
 opened_group g opening read count h (Err e) = tt
 
 module _ (read : List ℕ → Read Item) (begun : List ℕ → ℕ) (has : (text : List ℕ) → Has steps_of (read text) (begun text)) where
-  items_have : (n : ℕ) (nested : Bool) (text : List ℕ) → Has flat (items_by read n nested text) (items_begun read begun n nested text)
-  unfolding items_by items_begun
+  items_have : (n : ℕ) (nested : Bool) (text : List ℕ) → Has flat (items_by read n nested text) (items_step_count read begun n nested text)
+  unfolding items_by items_step_count
   items_have zero nested text = refl
   items_have (suc n) nested text =
       at_end_or (ends nested text) text (read text >>= λ x. before (x.0 ∷ []) (items_by read n nested x.1))
-      (begun text + counted (λ x. items_begun read begun n nested x.1) (read text))
-      (then_items (λ x. items_begun read begun n nested x.1) (λ x. items_by read n nested x.1) (λ x. items_have n nested x.1) (begun text) (read text)
+      (begun text + counted (λ x. items_step_count read begun n nested x.1) (read text))
+      (then_items (λ x. items_step_count read begun n nested x.1) (λ x. items_by read n nested x.1) (λ x. items_have n nested x.1) (begun text) (read text)
       (has text))
 
-  list_has : (opening : ℕ) (text : List ℕ) → Has flat (list_by read opening text) (list_begun read begun text)
-  list_has opening text = shut_list opening (list_begun read begun text) (items_by read (length text) true text) (items_have (length text) true text)
+  list_has : (opening : ℕ) (text : List ℕ) → Has flat (list_by read opening text) (list_step_count read begun text)
+  list_has opening text = shut_list opening (list_step_count read begun text) (items_by read (length text) true text) (items_have (length text) true text)
 
-  lists_have : (opening n : ℕ) (text : List ℕ) → Has flat (lists_by (list_by read opening) n text) (lists_begun read begun opening n text)
-  unfolding lists_by lists_begun
+  lists_have : (opening n : ℕ) (text : List ℕ) → Has flat (lists_by (list_by read opening) n text) (lists_step_count read begun opening n text)
+  unfolding lists_by lists_step_count
   lists_have opening zero text = refl
   lists_have opening (suc n) text =
-      then_lists (lists_by (list_by read opening) n) (lists_begun read begun opening n) (lists_have opening n) (list_begun read begun text)
+      then_lists (lists_by (list_by read opening) n) (lists_step_count read begun opening n) (lists_have opening n) (list_step_count read begun text)
       (list_by read opening text) (list_has opening text)
 
-  inside_has : (opening : ℕ) (g : Group) (text : List ℕ) → Has flat (inside_by (list_by read opening) g text) (inside_begun read begun opening g text)
+  inside_has : (opening : ℕ) (g : Group) (text : List ℕ) → Has flat (inside_by (list_by read opening) g text) (inside_step_count read begun opening g text)
   inside_has opening groups.Optional text = list_has opening text
   inside_has opening groups.First text = lists_have opening (suc (length text)) text
   inside_has opening groups.List text = lists_have opening (suc (length text)) text
 
-  group_has : (opening : ℕ) (found : Group × List ℕ) → Has steps_of (group_by read opening found) (group_begun read begun opening found)
-  unfolding group_by group_begun
+  group_has : (opening : ℕ) (found : Group × List ℕ) → Has steps_of (group_by read opening found) (group_step_count read begun opening found)
+  unfolding group_by group_step_count
   group_has opening found =
-      opened_group found.0 opening (inside_by (list_by read opening) found.0) (inside_begun read begun opening found.0) (inside_has opening found.0)
+      opened_group found.0 opening (inside_by (list_by read opening) found.0) (inside_step_count read begun opening found.0) (inside_has opening found.0)
       (opened found.0 found.1)
 
 leaf_has : (r : Read Item) → Has steps_of r (counted (λ x. length (steps_of x.0)) r)
@@ -311,17 +311,17 @@ word_has m n f k h t None = h
 word_has m n f k h t (Some x) = t x
 
 item_has : (version : Version) (depth : ℕ) (nested : Bool) (text : List ℕ)
-    → Has steps_of (item version depth nested text) (item_begun version depth nested text)
-unfolding item item_begun
+    → Has steps_of (item version depth nested text) (item_step_count version depth nested text)
+unfolding item item_step_count
 item_has version zero nested text =
-    word_has (leaf version nested text) (leaf_begun version nested text) _ (λ found. 0) (leaf_has (leaf version nested text)) (λ x. tt) (group_word text)
+    word_has (leaf version nested text) (leaf_step_count version nested text) _ (λ found. 0) (leaf_has (leaf version nested text)) (λ x. tt) (group_word text)
 item_has version (suc depth) nested text =
-    word_has (leaf version nested text) (leaf_begun version nested text) (group_by (item version depth true) (length text))
-    (group_begun (item version depth true) (item_begun version depth true) (length text)) (leaf_has (leaf version nested text))
-    (group_has (item version depth true) (item_begun version depth true) (item_has version depth true) (length text)) (group_word text)
+    word_has (leaf version nested text) (leaf_step_count version nested text) (group_by (item version depth true) (length text))
+    (group_step_count (item version depth true) (item_step_count version depth true) (length text)) (leaf_has (leaf version nested text))
+    (group_has (item version depth true) (item_step_count version depth true) (item_has version depth true) (length text)) (group_word text)
 
 pub steps_of_read : (version : Version) (text : List ℕ) (is : List Item) → description version text ≡ Ok (is, [])
-    → steps_begun version text ≡ length (flat is)
+    → steps_count version text ≡ length (flat is)
 steps_of_read version text is e =
-    subst (λ (r : Read (List Item)). Has flat r (steps_begun version text)) e
-    (items_have (item version 8 false) (item_begun version 8 false) (item_has version 8 false) (length text) false text)
+    subst (λ (r : Read (List Item)). Has flat r (steps_count version text)) e
+    (items_have (item version 8 false) (item_step_count version 8 false) (item_has version 8 false) (length text) false text)

@@ -13,7 +13,7 @@ use Rattle.time_descriptions.specs.declared.error.Fault.{Fault}
 use Rattle.time_descriptions.specs.declared.error.Fault.TheVariants as fault
 use Rattle.time_descriptions.specs.declared.leaf.Version.{Version}
 use Rattle.time_descriptions.specs.Description.{IsRefused}
-use Rattle.time_descriptions.specs.Grammar.{steps_begun, description, ends, Describes, after_byte, closed, group_by, inside_by, items_by, list_by, lists_by, opened, Fails, Owns, SaysItem, SaysItems}
+use Rattle.time_descriptions.specs.Grammar.{steps_count, description, ends, Describes, after_byte, closed, group_by, inside_by, items_by, list_by, lists_by, opened, Fails, Owns, MatchesItem, MatchesItems}
 use Rattle.time_descriptions.specs.Items.{Item, Items, literal, component, group, none, more, items_of, flat, steps_of, all_steps_of, tree_of, trees_of}
 use Rattle.time_descriptions.specs.Refusal.{Refusal, refusal_at}
 use Rattle.time_descriptions.specs.declared.owned.Unread.{Unread}
@@ -90,8 +90,8 @@ described version text rest is old steps read e o s =
 
 -- a fault is reported with its index
 pub refused : (n : ℕ) (version : Version) (text : List ℕ) (e : Fault) (refusal : Refusal) (old : List Step)
-    → ((e ≡ fault.NoRoom) × (n < length old + length text) × (n - length old < steps_begun version text))
-    ⊎ ((description version text ≡ Err e) × (steps_begun version text ≤ n - length old))
+    → ((e ≡ fault.NoRoom) × (n < length old + length text) × (n - length old < steps_count version text))
+    ⊎ ((description version text ≡ Err e) × (steps_count version text ≤ n - length old))
     → old ≡ [] → refusal ≡ refusal_at text e → IsRefused n version text refusal
 refused n version text e refusal old (inl x) o r =
     inl (r ∙ ap (refusal_at text) x.0, omega (arith, x.1, ap length o), omega (arith, x.2, ap length o))
@@ -129,8 +129,8 @@ trees-map [] = refl
 trees-map (i ∷ is) = ap (λ ts. Rattle.time_components.specs.Tree.more (tree_of i) ts) (trees-map is)
 
 -- a group of items with the trees of those that were read
-pub group_said : (g : Group) (items : List OwnedFormatItem) (is : List Item) (item : OwnedFormatItem) → SaysItems items is
-    → owned_shape item ≡ group_tree g (trees (map owned_shape items)) → SaysItem item (group g (items_of is))
+pub group_said : (g : Group) (items : List OwnedFormatItem) (is : List Item) (item : OwnedFormatItem) → MatchesItems items is
+    → owned_shape item ≡ group_tree g (trees (map owned_shape items)) → MatchesItem item (group g (items_of is))
 group_said g items is item s e =
     e ∙ ap (λ (ts : List Tree). group_tree g (trees ts)) s ∙ ap (group_tree g) (trees-map is)
 
@@ -139,8 +139,8 @@ map-one f [] x = refl
 map-one f (y ∷ xs) x = ap (λ ys. f y ∷ ys) (map-one f xs x)
 
 -- one more item
-pub one_more : (items : List OwnedFormatItem) (is : List Item) (item : OwnedFormatItem) (i : Item) → SaysItems items is → SaysItem item i
-    → SaysItems (items ++ item ∷ []) (is ++ i ∷ [])
+pub one_more : (items : List OwnedFormatItem) (is : List Item) (item : OwnedFormatItem) (i : Item) → MatchesItems items is → MatchesItem item i
+    → MatchesItems (items ++ item ∷ []) (is ++ i ∷ [])
 one_more items is item i s t =
     map-one owned_shape items item ∙ ap (λ (ts : List Tree). ts ++ owned_shape item ∷ []) s
     ∙ ap (λ (t : Tree). map tree_of is ++ t ∷ []) t ∙ sym (map-one tree_of is i)
@@ -170,7 +170,7 @@ module _ (read : List ℕ → Read Item) (opening : ℕ) where
 
 -- the list of the items that are read has the tree that the text describes
 pub owned_description : (version : Version) (text rest : List ℕ) (is : List Item) (items : List OwnedFormatItem) (item : OwnedFormatItem)
-    → description version text ≡ Ok (is, rest) → ends false rest ≡ true → SaysItems items is
+    → description version text ≡ Ok (is, rest) → ends false rest ≡ true → MatchesItems items is
     → owned_shape item ≡ sequence (trees (map owned_shape items)) → Describes version text (owned_shape item)
 unfolding Describes
 owned_description version text rest is items item read e s o = (

@@ -28,9 +28,9 @@ or_fault e (Some x) = Ok x
 or_fault e None = Err e
 
 -- The result of a function, mapped by view, is the result of reading.
-abbrev pub Gives : {X Y : Type 0} → (X → Y) → Result X Fault → Result Y Fault → Type 0
-Gives view (Ok x) read = read ≡ Ok (view x)
-Gives view (Err e) read = read ≡ Err e
+abbrev pub Returns : {X Y : Type 0} → (X → Y) → Result X Fault → Result Y Fault → Type 0
+Returns view (Ok x) read = read ≡ Ok (view x)
+Returns view (Err e) read = read ≡ Err e
 
 -- the number of bytes before the first colon, or of all bytes without a colon
 abbrev pub colon : List ℕ → ℕ

@@ -7,10 +7,10 @@ use Rattle.time_descriptions.specs.declared.description.Description.{Description
 use Rattle.time_descriptions.specs.declared.error.Fault.{Fault}
 use Rattle.time_descriptions.specs.declared.leaf.Version.{Version}
 use Rattle.time_descriptions.specs.declared.leaf.Version.TheVariants as versions
-use Rattle.time_descriptions.specs.Grammar.{description, TakesMore, TakesAtMost, steps_begun, Describes, begins_with}
+use Rattle.time_descriptions.specs.Grammar.{description, StartsMoreThan, StartsAtMost, steps_count, Describes, begins_with}
 use Rattle.time_descriptions.specs.Refusal.{Refusal, refusal_at, too_long}
-use Rattle.time_descriptions.specs.Items.{Item, literal, component, items_of, trees_of, flat}
-use Rattle.time_descriptions.specs.Strftime.{meaning, flag_padding, padded, DescribesStrftime, Fits, IsRefusedStrftime}
+use Rattle.time_descriptions.specs.Items.{Item, literal, items_of, trees_of, flat}
+use Rattle.time_descriptions.specs.Strftime.{meaning, flags, flagged_meaning, row_of, DescribesStrftime, Fits, IsRefusedStrftime}
 use Rattle.time_descriptions.specs.Writing.{tree_text}
 
 -- the tree of a description
@@ -25,8 +25,8 @@ version_of number = if number == 1 then versions.One else versions.Two
 -- it also has more than n bytes.
 abbrev pub IsRefused : ℕ → Version → List ℕ → Refusal → Type 0
 IsRefused n version text refusal =
-    ((refusal ≡ too_long) × (n < length text) × TakesMore n version text)
-    ⊎ ((e : Fault) × (description version text ≡ Err e) × (refusal ≡ refusal_at text e) × TakesAtMost n version text)
+    ((refusal ≡ too_long) × (n < length text) × StartsMoreThan n version text)
+    ⊎ ((e : Fault) × (description version text ≡ Err e) × (refusal ≡ refusal_at text e) × StartsAtMost n version text)
 
 -- ---- A description in strftime's syntax, piece by piece
 
@@ -47,8 +47,7 @@ piece_text (flagged flag letter) = 37 ∷ flag ∷ letter ∷ []
 abbrev pub piece_items : Piece → Option (List Item)
 piece_items (byte b) = if b == 37 then None else Some (literal b [] ∷ [])
 piece_items (conversion letter) = meaning letter
-piece_items (flagged flag letter) =
-    option_and_then (λ p. option_map (λ c. component c ∷ []) (padded p letter)) (flag_padding flag)
+piece_items (flagged flag letter) = option_and_then (λ f. flagged_meaning f letter) (row_of flags flag)
 
 -- the items of pieces in order, if each piece has a meaning
 abbrev pub all_items : List Piece → Option (List Item)
@@ -99,12 +98,12 @@ OneStrftimeOutcome = (n : ℕ) (text : List ℕ) (r : Refusal) → IsRefusedStrf
 abbrev pub OneOutcome : Type 0
 OneOutcome = (n : ℕ) (version : Version) (text : List ℕ) (r : Refusal) → IsRefused n version text r
     → ((s : Refusal) → IsRefused n version text s → r ≡ s)
-    × ((tree : Tree) → Describes version text tree → TakesAtMost n version text → ⊥)
+    × ((tree : Tree) → Describes version text tree → StartsAtMost n version text → ⊥)
 
 -- A text that is parsed starts exactly the steps of its items.
 abbrev pub StepsOfRead : Type 0
 StepsOfRead = (version : Version) (text : List ℕ) (is : List Item) → description version text ≡ Ok (is, [])
-    → steps_begun version text ≡ length (flat is)
+    → steps_count version text ≡ length (flat is)
 
 -- A text of strftime describes the tree of its pieces, whose items the tables define, and no other tree.
 abbrev pub StrftimePieces : Type 0

@@ -190,56 +190,56 @@ counted count (Ok x) = count x
 counted count (Err e) = 0
 
 -- of items, given a parser of an item and the steps that an item starts
-unfoldable pub items_begun : (List ℕ → Read Item) → (List ℕ → ℕ) → ℕ → Bool → List ℕ → ℕ
-items_begun item begun zero nested text = 0
-items_begun item begun (suc n) nested text =
+unfoldable pub items_step_count : (List ℕ → Read Item) → (List ℕ → ℕ) → ℕ → Bool → List ℕ → ℕ
+items_step_count item begun zero nested text = 0
+items_step_count item begun (suc n) nested text =
     if ends nested text then 0
-    else begun text + counted (λ x. items_begun item begun n nested x.1) (item text)
+    else begun text + counted (λ x. items_step_count item begun n nested x.1) (item text)
 
 -- of a list that is open
-abbrev pub list_begun : (List ℕ → Read Item) → (List ℕ → ℕ) → List ℕ → ℕ
-list_begun item begun text = items_begun item begun (length text) true text
+abbrev pub list_step_count : (List ℕ → Read Item) → (List ℕ → ℕ) → List ℕ → ℕ
+list_step_count item begun text = items_step_count item begun (length text) true text
 
 -- of lists, with one step for each list itself
-unfoldable pub lists_begun : (List ℕ → Read Item) → (List ℕ → ℕ) → ℕ → ℕ → List ℕ → ℕ
-lists_begun item begun opening zero text = 0
-lists_begun item begun opening (suc n) text =
-    1 + list_begun item begun text
-    + counted (λ x. by_option 0 (lists_begun item begun opening n) (next_list x.1)) (list_by item opening text)
+unfoldable pub lists_step_count : (List ℕ → Read Item) → (List ℕ → ℕ) → ℕ → ℕ → List ℕ → ℕ
+lists_step_count item begun opening zero text = 0
+lists_step_count item begun opening (suc n) text =
+    1 + list_step_count item begun text
+    + counted (λ x. by_option 0 (lists_step_count item begun opening n) (next_list x.1)) (list_by item opening text)
 
 -- of the contents of a group
-abbrev pub inside_begun : (List ℕ → Read Item) → (List ℕ → ℕ) → ℕ → Group → List ℕ → ℕ
-inside_begun item begun opening groups.Optional text = list_begun item begun text
-inside_begun item begun opening _ text = lists_begun item begun opening (suc (length text)) text
+abbrev pub inside_step_count : (List ℕ → Read Item) → (List ℕ → ℕ) → ℕ → Group → List ℕ → ℕ
+inside_step_count item begun opening groups.Optional text = list_step_count item begun text
+inside_step_count item begun opening _ text = lists_step_count item begun opening (suc (length text)) text
 
 -- of a group, with one step for itself
-unfoldable pub group_begun : (List ℕ → Read Item) → (List ℕ → ℕ) → ℕ → Group × List ℕ → ℕ
-group_begun item begun opening found =
-    counted (λ text. 1 + inside_begun item begun opening found.0 text) (opened found.0 found.1)
+unfoldable pub group_step_count : (List ℕ → Read Item) → (List ℕ → ℕ) → ℕ → Group × List ℕ → ℕ
+group_step_count item begun opening found =
+    counted (λ text. 1 + inside_step_count item begun opening found.0 text) (opened found.0 found.1)
 
 -- of a literal, an escape or a component
-abbrev pub leaf_begun : Version → Bool → List ℕ → ℕ
-leaf_begun version nested text = counted (λ x. length (steps_of x.0)) (leaf version nested text)
+abbrev pub leaf_step_count : Version → Bool → List ℕ → ℕ
+leaf_step_count version nested text = counted (λ x. length (steps_of x.0)) (leaf version nested text)
 
 -- of an item, in which lists nest at most depth deep
-unfoldable pub item_begun : Version → ℕ → Bool → List ℕ → ℕ
-item_begun version zero nested text = by_option (leaf_begun version nested text) (λ found. 0) (group_word text)
-item_begun version (suc depth) nested text =
-    by_option (leaf_begun version nested text)
-    (group_begun (item version depth true) (item_begun version depth true) (length text)) (group_word text)
+unfoldable pub item_step_count : Version → ℕ → Bool → List ℕ → ℕ
+item_step_count version zero nested text = by_option (leaf_step_count version nested text) (λ found. 0) (group_word text)
+item_step_count version (suc depth) nested text =
+    by_option (leaf_step_count version nested text)
+    (group_step_count (item version depth true) (item_step_count version depth true) (length text)) (group_word text)
 
 -- of a description
-abbrev pub steps_begun : Version → List ℕ → ℕ
-steps_begun version text =
-    items_begun (item version most_lists false) (item_begun version most_lists false) (length text) false text
+abbrev pub steps_count : Version → List ℕ → ℕ
+steps_count version text =
+    items_step_count (item version most_lists false) (item_step_count version most_lists false) (length text) false text
 
 -- The text starts more than n steps.
-abbrev pub TakesMore : ℕ → Version → List ℕ → Type 0
-TakesMore n version text = n < steps_begun version text
+abbrev pub StartsMoreThan : ℕ → Version → List ℕ → Type 0
+StartsMoreThan n version text = n < steps_count version text
 
 -- The text starts at most n steps.
-abbrev pub TakesAtMost : ℕ → Version → List ℕ → Type 0
-TakesAtMost n version text = steps_begun version text ≤ n
+abbrev pub StartsAtMost : ℕ → Version → List ℕ → Type 0
+StartsAtMost n version text = steps_count version text ≤ n
 
 -- ---- Results of the parser of owned items
 
@@ -266,9 +266,9 @@ Owns {A} says read (Ok x) = (a : A) × (read ≡ Ok (a, x.1.now)) × says x.0 a
 Owns says read (Err u) = Fails read u
 
 -- the owned item and the specified item have one tree
-abbrev pub SaysItem : OwnedFormatItem → Item → Type 0
-SaysItem item i = owned_shape item ≡ tree_of i
+abbrev pub MatchesItem : OwnedFormatItem → Item → Type 0
+MatchesItem item i = owned_shape item ≡ tree_of i
 
 -- the owned items and the specified items have equal trees
-abbrev pub SaysItems : List OwnedFormatItem → List Item → Type 0
-SaysItems items is = map owned_shape items ≡ map tree_of is
+abbrev pub MatchesItems : List OwnedFormatItem → List Item → Type 0
+MatchesItems items is = map owned_shape items ≡ map tree_of is

@@ -59,6 +59,6 @@ leaf_item (leaf.Literal b bytes) = literal b bytes.now
 leaf_item (leaf.Component c) = component c
 
 -- The result of a function, mapped by view, is what is found, if anything.
-abbrev pub Sees : {X Y : Type 0} → (X → Y) → Option X → Option Y → Type 0
-Sees view (Some x) found = found ≡ Some (view x)
-Sees view None found = found ≡ None
+abbrev pub Finds : {X Y : Type 0} → (X → Y) → Option X → Option Y → Type 0
+Finds view (Some x) found = found ≡ Some (view x)
+Finds view None found = found ≡ None

@@ -9,13 +9,15 @@ use Rattle.time_descriptions.specs.declared.strftime.Part.{Part}
 use Rattle.time_descriptions.specs.declared.strftime.Part.TheVariants as part
 use Rattle.time_descriptions.specs.Grammar.{by_option}
 use Rattle.time_descriptions.specs.Items.{Item, literal, component, flat}
-use Rattle.time_descriptions.specs.Strftime.{item_of_byte, offset, row_of, shorthands, Found, failed, followed, strftime}
+use Rattle.time_descriptions.specs.Strftime.{colon_offset, item_of_byte, offset, pointed_fraction, row_of, shorthands, Found, failed, followed, strftime}
 
 -- the items of a part
 abbrev pub part_items : Part → List Item
 part_items (part.Byte b) = literal b [] ∷ []
 part_items (part.Component c) = component c ∷ []
 part_items part.Offset = offset
+part_items part.ColonOffset = colon_offset
+part_items part.PointedFraction = pointed_fraction
 part_items (part.Shorthand letter) = by_option [] (map item_of_byte) (row_of shorthands letter)
 
 -- The whole finding is the items of what was read, followed by what is found in the rest; or it is only the fault.

@@ -2,18 +2,25 @@
 --     description = { byte | conversion }                   to the end of the text
 --     byte        = any byte but "%"
 --     conversion  = "%" , [ flag ] , letter
---     flag        = "-" for no padding | "_" for spaces | "0" for zeros
+--     flag        = "-" for no padding | "_" for spaces | "0" for zeros    before a letter with a padding
+--                 | "3" | "6" | "9" for that many digits                    before "f"
+--                 | "." for a point and the digits, or nothing              before "f"
+--                 | ":" for a colon between hours and minutes               before "z"
 use Rattle.std.specs.Prelude.{ℕ, List, [], ◌∷◌, true, false, map, codes, ◌==◌, Option, Some, None, if◌then◌else◌, ◌≡◌, ◌⊎◌, ◌+◌, ◌<◌, ◌≤◌, ◌++◌, Bool, ◌||◌, length, option_and_then, Result, Ok, Err}
 use Rattle.std.specs.Option.{option_map}
 use Rattle.time_digits.specs.declared.Padding.TheVariants as padding
 use Rattle.time_digits.specs.declared.Padding.{Padding}
 use Rattle.time_components.specs.declared.format_description.Component.{Component}
 use Rattle.time_components.specs.declared.format_description.Component.TheVariants as component
+use Rattle.time_components.specs.declared.modifier.SubsecondDigits.TheVariants as digits
+use Rattle.time_components.specs.declared.inspect.Group.TheVariants as groups
 use Rattle.time_components.specs.declared.inspect.Step.{Step}
 use Rattle.time_components.specs.declared.inspect.Step.TheVariants as step
 use Rattle.time_components.specs.Tree.{Tree, sequence}
 use Rattle.time_descriptions.specs.Grammar.{by_option}
-use Rattle.time_descriptions.specs.Items.{Item, literal, component as component_item, flat, items_of, trees_of}
+use Rattle.time_descriptions.specs.Items.{Item, literal, component as component_item, group, flat, items_of, trees_of}
+use Rattle.time_descriptions.specs.declared.letters.Flag.{Flag}
+use Rattle.time_descriptions.specs.declared.letters.Flag.TheVariants as flag
 use Rattle.time_descriptions.specs.declared.error.Fault.{Fault}
 use Rattle.time_descriptions.specs.declared.error.Fault.TheVariants as fault
 use Rattle.time_descriptions.specs.declared.error.Unsupported.TheVariants as unsupported
@@ -31,7 +38,7 @@ unfoldable pub row_of : {V : Type 0} → Rows V → ℕ → Option V
 row_of [] letter = None
 row_of (r ∷ rows) letter = if r.0 == letter then Some r.1 else row_of rows letter
 
--- the letters that mean one component each: a A b h B C g G y Y d e j H k I l m M S p P s u w U V W
+-- the letters that mean one component each: a A b h B C g G y Y d e j H k I l m M S f N p P s u w U V W
 unfoldable pub components : Rows Component
 components =
     (97, component.WeekdayShort (record { case_sensitive = true }))
@@ -54,6 +61,8 @@ components =
     ∷ (109, component.MonthNumerical (record { padding = padding.Zero }))
     ∷ (77, component.Minute (record { padding = padding.Zero }))
     ∷ (83, component.Second (record { padding = padding.Zero }))
+    ∷ (102, component.Subsecond (record { digits = digits.OneOrMore }))
+    ∷ (78, component.Subsecond (record { digits = digits.Nine }))
     ∷ (112, component.Period (record { is_uppercase = true; case_sensitive = true }))
     ∷ (80, component.Period (record { is_uppercase = false; case_sensitive = true }))
     ∷ (115, component.UnixTimestampSecond (record { sign_is_mandatory = false }))
@@ -101,11 +110,18 @@ meaning letter =
     else by_option (option_map (map item_of_byte) (row_of shorthands letter)) (λ c. Some (component_item c ∷ []))
     (row_of components letter)
 
--- the padding that a flag selects
-abbrev pub flag_padding : ℕ → Option Padding
-flag_padding b =
-    if b == 45 then Some padding.None
-    else (if b == 95 then Some padding.Space else (if b == 48 then Some padding.Zero else None))
+-- the flags: - _ 0 3 6 9 . :
+unfoldable pub flags : Rows Flag
+flags =
+    (45, flag.Padding padding.None)
+    ∷ (95, flag.Padding padding.Space)
+    ∷ (48, flag.Padding padding.Zero)
+    ∷ (51, flag.Digits digits.Three)
+    ∷ (54, flag.Digits digits.Six)
+    ∷ (57, flag.Digits digits.Nine)
+    ∷ (46, flag.Point)
+    ∷ (58, flag.Colon)
+    ∷ []
 
 -- the component with that padding, if it has a padding and some letter means it
 unfoldable pub with_padding : Padding → Component → Option Component
@@ -133,6 +149,26 @@ with_padding p _ = None
 abbrev pub padded : Padding → ℕ → Option Component
 padded p letter = option_and_then (with_padding p) (row_of components letter)
 
+-- the fraction of a second after a point, or nothing
+abbrev pub pointed_fraction : List Item
+pointed_fraction =
+    group groups.Optional (items_of (literal 46 [] ∷ component_item (component.Subsecond (record { digits = digits.OneOrMore })) ∷ []))
+    ∷ []
+
+-- the offset with a colon between its hours and its minutes
+abbrev pub colon_offset : List Item
+colon_offset =
+    component_item (component.OffsetHour (record { padding = padding.Zero; sign_is_mandatory = true })) ∷ literal 58 []
+    ∷ component_item (component.OffsetMinute (record { padding = padding.Zero })) ∷ []
+
+-- the meaning of a letter after a flag, if it has one
+abbrev pub flagged_meaning : Flag → ℕ → Option (List Item)
+flagged_meaning (flag.Padding p) letter = option_map (λ c. component_item c ∷ []) (padded p letter)
+flagged_meaning (flag.Digits d) letter =
+    if letter == 102 then Some (component_item (component.Subsecond (record { digits = d })) ∷ []) else None
+flagged_meaning flag.Point letter = if letter == 102 then Some pointed_fraction else None
+flagged_meaning flag.Colon letter = if letter == 122 then Some colon_offset else None
+
 -- conversions of strftime without a component
 abbrev pub is_unsupported : ℕ → Bool
 is_unsupported letter = letter == 69 || letter == 79 || letter == 90
@@ -148,12 +184,10 @@ letter_fault percent left letter =
 abbrev pub letter_items : ℕ → ℕ → ℕ → Result (List Item) Fault
 letter_items percent left letter = or_fault (letter_fault percent left letter) (meaning letter)
 
--- the meaning of a letter after a flag
-abbrev pub flagged_items : Padding → ℕ → ℕ → Result (List Item) Fault
-flagged_items p left letter =
-    letter_items (left + 2) left letter
-    >>= λ is. or_fault (fault.InvalidModifier (left + 1) 1) (padded p letter)
-    >>= λ c. Ok (component_item c ∷ [])
+-- the meaning of a letter after a flag, or the fault
+abbrev pub flagged_items : Flag → ℕ → ℕ → Result (List Item) Fault
+flagged_items f left letter =
+    letter_items (left + 2) left letter >>= λ is. or_fault (fault.InvalidModifier (left + 1) 1) (flagged_meaning f letter)
 
 -- items, and the fault after them, if there is one
 abbrev pub Found : Type 0
@@ -182,12 +216,12 @@ unfoldable mutual
   conversion [] = failed (fault.InvalidComponentName 0 0)
   conversion (b ∷ text) =
       by_option (started (letter_items (length (b ∷ text) + 1) (length (b ∷ text)) b) (strftime text))
-      (λ p. flagged p text) (flag_padding b)
+      (λ f. flagged f text) (row_of flags b)
 
   -- likewise of a text after a flag
-  pub flagged : Padding → List ℕ → Found
-  flagged p [] = failed (fault.InvalidComponentName 0 0)
-  flagged p (b ∷ text) = started (flagged_items p (length (b ∷ text)) b) (strftime text)
+  pub flagged : Flag → List ℕ → Found
+  flagged f [] = failed (fault.InvalidComponentName 0 0)
+  flagged f (b ∷ text) = started (flagged_items f (length (b ∷ text)) b) (strftime text)
 
 -- The text describes the tree.
 unfoldable pub DescribesStrftime : List ℕ → Tree → Type 0

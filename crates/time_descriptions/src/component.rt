@@ -1,7 +1,7 @@
 //! A component in brackets: its name and its modifiers.
 ghost use Rattle.std.specs.Prelude.{◌≡◌, ℕ, suc, ◌<◌, ◌≤◌, length, IfOk};
 ghost use Rattle.time_descriptions.specs.Components as components;
-ghost use Rattle.time_descriptions.specs.Components.{Gives};
+ghost use Rattle.time_descriptions.specs.Components.{Returns};
 ghost use Rattle.time_descriptions.specs.Modifiers as chosen;
 
 use crate::error::{Expectation, Fault};
@@ -49,7 +49,7 @@ fn read_modifier(name: ComponentName, text: &[u8], left: usize) -> Result<Modifi
 // The values of the modifiers at the start of the text, and the text after them and white space.
 fn read_modifiers(name: ComponentName, text: &[u8]) -> Result<(Modifiers, &[u8]), Fault>
     ensures within { IfOk result (λ x. length x.1.now ≤ length text.now) }
-    ensures reads { Gives (λ x. (x.0, x.1.now)) result
+    ensures reads { Returns (λ x. (x.0, x.1.now)) result
         (components.modifiers name (suc (length text.now)) chosen.default text.now) }
 {
     let mut modifiers = Modifiers::DEFAULT;
@@ -71,7 +71,7 @@ fn read_modifiers(name: ComponentName, text: &[u8]) -> Result<(Modifiers, &[u8])
 // The text after the closing bracket that it begins with. `opening` counts the bytes from the opening bracket to the
 // end of the whole text.
 fn after_component(text: &[u8], opening: usize) -> Result<&[u8], Fault>
-    ensures reads { Gives (λ x. x.now) result (components.after_component opening text.now) }
+    ensures reads { Returns (λ x. x.now) result (components.after_component opening text.now) }
     ensures shorter { IfOk result (λ x. length x.now < length text.now) }
 {
     match text {
@@ -88,7 +88,7 @@ fn after_component(text: &[u8], opening: usize) -> Result<&[u8], Fault>
 #[tactic(auto, unfolding(crate::specs::Components::bracketed))]
 pub fn bracketed(text: &[u8]) -> Result<(Component, &[u8]), Fault>
     requires { 1 ≤ length text.now }
-    ensures reads { Gives (λ x. (x.0, x.1.now)) result (components.bracketed text.now) }
+    ensures reads { Returns (λ x. (x.0, x.1.now)) result (components.bracketed text.now) }
     ensures shorter { IfOk result (λ x. length x.1.now < length text.now) }
 {
     let inside = after(text, 1);

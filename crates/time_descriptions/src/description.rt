@@ -1,6 +1,6 @@
 //! Parsed descriptions.
 ghost use Rattle.std.specs.Prelude.{◌≡◌, ◌≤◌, ◌⊎◌, length, IfOk, IfErr, OnOk};
-ghost use Rattle.time_descriptions.specs.Grammar.{TakesAtMost, Describes};
+ghost use Rattle.time_descriptions.specs.Grammar.{StartsAtMost, Describes};
 ghost use Rattle.time_descriptions.specs.Description.{IsRefused, shape, version_of};
 ghost use Rattle.time_descriptions.specs.Refusal.{refusal_of};
 
@@ -54,7 +54,7 @@ pub fn parse_borrowed<const VERSION: usize, const N: usize>(
 ) -> Result<Description<N>, InvalidFormatDescription<'_>>
     requires { (VERSION ≡ 1) ⊎ (VERSION ≡ 2) }
     ensures ok { IfOk result (λ d. Describes (version_of VERSION) text.now (shape d)) }
-    ensures fits { OnOk result (TakesAtMost N (version_of VERSION) text.now) }
+    ensures fits { OnOk result (StartsAtMost N (version_of VERSION) text.now) }
     ensures err { IfErr result (λ e. IsRefused N (version_of VERSION) text.now (refusal_of e)) }
 {
     let mut steps = ArrayVec::new();

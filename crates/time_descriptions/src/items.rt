@@ -1,9 +1,9 @@
 //! Parsers of a description's items, which append steps.
 ghost use Rattle.std.specs.Prelude.{◌≡◌, ◌<◌, ◌≤◌, ◌+◌, ◌-◌, ◌++◌, ◌∷◌, [], length, suc, map, true, IfOk, IfErr, IfSome, OnOk, slice_set};
 ghost use Rattle.std.specs.List.{prefix_len};
-ghost use Rattle.time_descriptions.specs.Components.{Gives, Adds};
+ghost use Rattle.time_descriptions.specs.Components.{Returns, Adds};
 ghost use Rattle.time_descriptions.specs.Grammar as grammar;
-ghost use Rattle.time_descriptions.specs.Items.{flat, steps_of, leaf_item, Sees};
+ghost use Rattle.time_descriptions.specs.Items.{flat, steps_of, leaf_item, Finds};
 ghost use Rattle.time_descriptions.specs.declared.error.Fault.TheVariants as fault;
 ghost use Rattle.time_components.specs.declared.inspect.Group.TheVariants as groups;
 ghost use Rattle.time_components.specs.declared.inspect.Step.TheVariants as step;
@@ -39,7 +39,7 @@ fn group_named(word: &[u8]) -> Option<Group>
 // The group that the text begins with, and the text after the group's word.
 #[tactic(auto, unfolding(crate::specs::Grammar::group_word))]
 pub(crate) fn group_word(text: &[u8]) -> Option<(Group, &[u8])>
-    ensures found { Sees (λ x. (x.0, x.1.now)) result (grammar.group_word text.now) }
+    ensures found { Finds (λ x. (x.0, x.1.now)) result (grammar.group_word text.now) }
     ensures shorter { IfSome result (λ x. length x.1.now < length text.now) }
 {
     let [b'[', rest @ ..] = text else {
@@ -56,7 +56,7 @@ pub(crate) fn group_word(text: &[u8]) -> Option<(Group, &[u8])>
 // The text inside the first list of a group.
 #[tactic(auto, unfolding(crate::specs::Grammar::opened))]
 pub(crate) fn opened(group: Group, text: &[u8]) -> Result<&[u8], Fault>
-    ensures reads { Gives (λ x. x.now) result (grammar.opened group text.now) }
+    ensures reads { Returns (λ x. x.now) result (grammar.opened group text.now) }
     ensures shorter { IfOk result (λ rest. length rest.now + 2 ≤ length text.now) }
 {
     let space = space_len(text);
@@ -83,7 +83,7 @@ pub(crate) fn opened(group: Group, text: &[u8]) -> Result<&[u8], Fault>
 // The text inside the next list of a group, if one follows.
 #[tactic(auto, unfolding(crate::specs::Grammar::next_list))]
 pub(crate) fn next_list(text: &[u8]) -> Option<&[u8]>
-    ensures found { Sees (λ x. x.now) result (grammar.next_list text.now) }
+    ensures found { Finds (λ x. x.now) result (grammar.next_list text.now) }
     ensures shorter { IfSome result (λ x. length x.now < length text.now) }
 {
     match after(text, space_len(text)) {
@@ -94,7 +94,7 @@ pub(crate) fn next_list(text: &[u8]) -> Option<&[u8]>
 
 // The text after the closing bracket that it begins with.
 pub(crate) fn after_closing(text: &[u8], opening: usize) -> Result<&[u8], Fault>
-    ensures reads { Gives (λ x. x.now) result (grammar.after_byte 93 (fault.UnclosedOpeningBracket opening) text.now) }
+    ensures reads { Returns (λ x. x.now) result (grammar.after_byte 93 (fault.UnclosedOpeningBracket opening) text.now) }
     ensures shorter { IfOk result (λ rest. length rest.now < length text.now) }
 {
     match text {
@@ -106,7 +106,7 @@ pub(crate) fn after_closing(text: &[u8], opening: usize) -> Result<&[u8], Fault>
 // The text after a group. `opening` counts the bytes from the group's opening bracket to the end of the whole text.
 #[tactic(auto, unfolding(crate::specs::Grammar::closed))]
 pub(crate) fn closed(text: &[u8], opening: usize) -> Result<&[u8], Fault>
-    ensures reads { Gives (λ x. x.now) result (grammar.closed opening text.now) }
+    ensures reads { Returns (λ x. x.now) result (grammar.closed opening text.now) }
     ensures shorter { IfOk result (λ rest. length rest.now < length text.now) }
 {
     after_closing(after(text, space_len(text)), opening)
@@ -180,7 +180,7 @@ fn add_leaf<'a, const N: usize>(
     text: &'a [u8],
     steps: &mut ArrayVec<Step, N>,
 ) -> Result<&'a [u8], Fault>
-    ensures adds { Adds steps_of N (grammar.leaf version nested text.now) (grammar.leaf_begun version nested text.now)
+    ensures adds { Adds steps_of N (grammar.leaf version nested text.now) (grammar.leaf_step_count version nested text.now)
         (length text.now) steps.old.items result steps.new.items }
     ensures shorter { IfOk result (λ rest. length rest.now < length text.now) }
 {
@@ -203,7 +203,7 @@ fn add_item<'a, const N: usize>(
     steps: &mut ArrayVec<Step, N>,
 ) -> Result<&'a [u8], Fault>
     ensures adds { Adds steps_of N (grammar.item version depth nested text.now)
-        (grammar.item_begun version depth nested text.now) (length text.now) steps.old.items result steps.new.items }
+        (grammar.item_step_count version depth nested text.now) (length text.now) steps.old.items result steps.new.items }
     ensures shorter { IfOk result (λ rest. length rest.now < length text.now) }
 {
     match group_word(text) {
@@ -231,9 +231,9 @@ fn add_group<'a, const N: usize>(
     text: &'a [u8],
     steps: &mut ArrayVec<Step, N>,
 ) -> Result<&'a [u8], Fault>
-    ensures { let item = grammar.item version depth true in let begun = grammar.item_begun version depth true in
+    ensures { let item = grammar.item version depth true in let begun = grammar.item_step_count version depth true in
         Adds steps_of N (grammar.group_by item opening (group, text.now))
-        (grammar.group_begun item begun opening (group, text.now)) (length text.now) steps.old.items result steps.new.items }
+        (grammar.group_step_count item begun opening (group, text.now)) (length text.now) steps.old.items result steps.new.items }
 {
     match opened(group, text) {
         Err(fault) => Err(fault),
@@ -260,9 +260,9 @@ fn add_inside<'a, const N: usize>(
     text: &'a [u8],
     steps: &mut ArrayVec<Step, N>,
 ) -> Result<&'a [u8], Fault>
-    ensures { let item = grammar.item version depth true in let begun = grammar.item_begun version depth true in
+    ensures { let item = grammar.item version depth true in let begun = grammar.item_step_count version depth true in
         Adds flat N (grammar.inside_by (grammar.list_by item opening) group text.now)
-        (grammar.inside_begun item begun opening group text.now) (length text.now + 1) steps.old.items
+        (grammar.inside_step_count item begun opening group text.now) (length text.now + 1) steps.old.items
         result steps.new.items }
 {
     match group {
@@ -280,9 +280,9 @@ fn add_lists<'a, const N: usize>(
     text: &'a [u8],
     steps: &mut ArrayVec<Step, N>,
 ) -> Result<&'a [u8], Fault>
-    ensures { let item = grammar.item version depth true in let begun = grammar.item_begun version depth true in
+    ensures { let item = grammar.item version depth true in let begun = grammar.item_step_count version depth true in
         Adds flat N (grammar.lists_by (grammar.list_by item opening) (suc (length text.now)) text.now)
-        (grammar.lists_begun item begun opening (suc (length text.now)) text.now) (length text.now + 1) steps.old.items
+        (grammar.lists_step_count item begun opening (suc (length text.now)) text.now) (length text.now + 1) steps.old.items
         result steps.new.items }
 {
     let mut inside = text;
@@ -310,8 +310,8 @@ fn add_list<'a, const N: usize>(
     text: &'a [u8],
     steps: &mut ArrayVec<Step, N>,
 ) -> Result<&'a [u8], Fault>
-    ensures adds { let item = grammar.item version depth true in let begun = grammar.item_begun version depth true in
-        Adds flat N (grammar.list_by item opening text.now) (grammar.list_begun item begun text.now) (length text.now)
+    ensures adds { let item = grammar.item version depth true in let begun = grammar.item_step_count version depth true in
+        Adds flat N (grammar.list_by item opening text.now) (grammar.list_step_count item begun text.now) (length text.now)
         steps.old.items result steps.new.items }
     ensures shorter { IfOk result (λ rest. length rest.now < length text.now) }
 {
@@ -331,9 +331,9 @@ pub fn add_items<'a, const N: usize>(
     text: &'a [u8],
     steps: &mut ArrayVec<Step, N>,
 ) -> Result<&'a [u8], Fault>
-    ensures adds { let item = grammar.item version depth nested in let begun = grammar.item_begun version depth nested in
+    ensures adds { let item = grammar.item version depth nested in let begun = grammar.item_step_count version depth nested in
         Adds flat N (grammar.items version depth nested text.now)
-        (grammar.items_begun item begun (length text.now) nested text.now) (length text.now) steps.old.items
+        (grammar.items_step_count item begun (length text.now) nested text.now) (length text.now) steps.old.items
         result steps.new.items }
     ensures ended { IfOk result (λ rest. grammar.ends nested rest.now ≡ true) }
 {

@@ -1,7 +1,7 @@
 //! Items without other items inside them, their steps, and the versions of descriptions.
 ghost use Rattle.std.specs.Prelude.{◌≡◌, ◌+◌, ◌<◌, ◌≤◌, length, IfOk};
 ghost use Rattle.std.specs.List.{prefix_len};
-ghost use Rattle.time_descriptions.specs.Components.{Gives};
+ghost use Rattle.time_descriptions.specs.Components.{Returns};
 ghost use Rattle.time_descriptions.specs.Grammar as grammar;
 ghost use Rattle.time_descriptions.specs.Items.{steps_of, leaf_item};
 
@@ -43,7 +43,7 @@ fn plain_len(version: Version, nested: bool, text: &[u8]) -> usize
 
 // The byte after a backslash, as a literal.
 fn escaped(text: &[u8]) -> Result<(Leaf<'_>, &[u8]), Fault>
-    ensures reads { Gives (λ x. (leaf_item x.0, x.1.now)) result (grammar.escaped text.now) }
+    ensures reads { Returns (λ x. (leaf_item x.0, x.1.now)) result (grammar.escaped text.now) }
     ensures takes { IfOk result (λ x. length (steps_of (leaf_item x.0)) + length x.1.now ≤ length text.now) }
 {
     match text {
@@ -58,7 +58,7 @@ fn escaped(text: &[u8]) -> Result<(Leaf<'_>, &[u8]), Fault>
 /// The literal, the escape or the component at the start of the text, and the rest.
 #[tactic(auto, unfolding(crate::specs::Grammar::leaf))]
 pub fn read_leaf(version: Version, nested: bool, text: &[u8]) -> Result<(Leaf<'_>, &[u8]), Fault>
-    ensures reads { Gives (λ x. (leaf_item x.0, x.1.now)) result (grammar.leaf version nested text.now) }
+    ensures reads { Returns (λ x. (leaf_item x.0, x.1.now)) result (grammar.leaf version nested text.now) }
     ensures takes { IfOk result (λ x. length (steps_of (leaf_item x.0)) + length x.1.now ≤ length text.now) }
     ensures shorter { IfOk result (λ x. length x.1.now < length text.now) }
 {

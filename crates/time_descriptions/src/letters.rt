@@ -1,12 +1,12 @@
 //! The meanings of strftime's letters.
 ghost use Rattle.std.specs.Prelude.{◌≡◌};
-ghost use Rattle.time_descriptions.specs.Items.{Sees};
+ghost use Rattle.time_descriptions.specs.Items.{Finds};
 ghost use Rattle.time_descriptions.specs.Strftime as letters;
 ghost use Rattle.time_descriptions.specs.Strftime.{row_of};
 
 use crate::leaf::Step;
 use crate::modifiers::component;
-use time_components::{Component, Padding};
+use time_components::{Component, Padding, SubsecondDigits};
 
 // A letter, and its component: the one of that name with these modifiers.
 macro_rules! row {
@@ -16,7 +16,7 @@ macro_rules! row {
 }
 
 // The letters that mean one component each.
-const COMPONENTS: [(u8, Component); 28] = [
+const COMPONENTS: [(u8, Component); 30] = [
     row!(b'a', WeekdayShort, case_sensitive: true),
     row!(b'A', WeekdayLong, case_sensitive: true),
     row!(b'b', MonthShort, case_sensitive: true),
@@ -37,6 +37,8 @@ const COMPONENTS: [(u8, Component); 28] = [
     row!(b'm', MonthNumerical, padding: Padding::Zero),
     row!(b'M', Minute, padding: Padding::Zero),
     row!(b'S', Second, padding: Padding::Zero),
+    row!(b'f', Subsecond, digits: SubsecondDigits::OneOrMore),
+    row!(b'N', Subsecond, digits: SubsecondDigits::Nine),
     row!(b'p', Period, is_uppercase: true, case_sensitive: true),
     row!(b'P', Period, is_uppercase: false, case_sensitive: true),
     row!(b's', UnixTimestampSecond, sign_is_mandatory: false),
@@ -63,6 +65,31 @@ const SHORTHANDS: [(u8, &[u8]); 11] = [
     (b'%', b"%"),
 ];
 
+/// A flag between the `%` and the letter of a conversion.
+#[derive(Clone, Copy)]
+pub enum Flag {
+    /// The padding of a number.
+    Padding(Padding),
+    /// How many digits a fraction of a second has.
+    Digits(SubsecondDigits),
+    /// A fraction of a second after a point, or nothing.
+    Point,
+    /// A colon between the hours and the minutes of an offset.
+    Colon,
+}
+
+// The flags.
+const FLAGS: [(u8, Flag); 8] = [
+    (b'-', Flag::Padding(Padding::None)),
+    (b'_', Flag::Padding(Padding::Space)),
+    (b'0', Flag::Padding(Padding::Zero)),
+    (b'3', Flag::Digits(SubsecondDigits::Three)),
+    (b'6', Flag::Digits(SubsecondDigits::Six)),
+    (b'9', Flag::Digits(SubsecondDigits::Nine)),
+    (b'.', Flag::Point),
+    (b':', Flag::Colon),
+];
+
 // The value of the first row with that letter.
 fn row_of<V: Copy>(rows: &[(u8, V)], letter: u8) -> Option<V>
     ensures { result ≡ row_of rows.now letter }
@@ -84,9 +111,16 @@ pub fn component_of_letter(letter: u8) -> Option<Component>
     row_of(&COMPONENTS, letter)
 }
 
+/// The flag that the byte means, if it means one.
+pub fn flag_of(byte: u8) -> Option<Flag>
+    ensures { result ≡ row_of letters.flags byte }
+{
+    row_of(&FLAGS, byte)
+}
+
 /// The bytes that the letter abbreviates, if it is a shorthand.
 pub fn shorthand(letter: u8) -> Option<&'static [u8]>
-    ensures { Sees (λ bytes. bytes.now) result (row_of letters.shorthands letter) }
+    ensures { Finds (λ bytes. bytes.now) result (row_of letters.shorthands letter) }
 {
     row_of(&SHORTHANDS, letter)
 }

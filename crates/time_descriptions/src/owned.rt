@@ -4,7 +4,7 @@ ghost use Rattle.time_components.specs.Tree.{owned_shape, group_tree, sequence, 
 ghost use Rattle.time_descriptions.specs.Description.{version_of};
 ghost use Rattle.time_descriptions.specs.Grammar as grammar;
 ghost use Rattle.time_descriptions.specs.Items.{leaf_item};
-ghost use Rattle.time_descriptions.specs.Grammar.{owned_error_text, OwnedOutcome, Owns, SaysItem, SaysItems};
+ghost use Rattle.time_descriptions.specs.Grammar.{owned_error_text, OwnedOutcome, Owns, MatchesItem, MatchesItems};
 ghost use Rattle.time_descriptions.specs.declared.owned.Unread.TheVariants as unread;
 
 use crate::description::{MOST_LISTS, version_of};
@@ -72,7 +72,7 @@ impl<T: Drop> From<AllocFailed<T>> for Unread {
 
 // The item of a leaf.
 fn owned_leaf(alloc: Global, leaf: Leaf<'_>) -> Result<OwnedFormatItem, AllocError>
-    ensures { IfOk result (λ item. SaysItem item (leaf_item leaf.entry)) }
+    ensures { IfOk result (λ item. MatchesItem item (leaf_item leaf.entry)) }
 {
     match leaf {
         Leaf::Component(component) => Ok(OwnedFormatItem::Component(component)),
@@ -119,7 +119,7 @@ fn read_item<'a>(
     nested: bool,
     text: &'a [u8],
 ) -> Result<(OwnedFormatItem, &'a [u8]), Unread>
-    ensures owns { Owns SaysItem (grammar.item version depth nested text.now) result }
+    ensures owns { Owns MatchesItem (grammar.item version depth nested text.now) result }
     ensures shorter { IfOk result (λ x. length x.1.now < length text.now) }
 {
     match group_word(text) {
@@ -151,7 +151,7 @@ fn read_group<'a>(
     opening: usize,
     text: &'a [u8],
 ) -> Result<(OwnedFormatItem, &'a [u8]), Unread>
-    ensures owns { Owns SaysItem (grammar.group_by (grammar.item version depth true) opening (group, text.now)) result }
+    ensures owns { Owns MatchesItem (grammar.group_by (grammar.item version depth true) opening (group, text.now)) result }
     ensures shorter { IfOk result (λ x. length x.1.now < length text.now) }
 {
     let inside = opened(group, text)?;
@@ -171,7 +171,7 @@ fn read_inside<'a>(
     opening: usize,
     text: &'a [u8],
 ) -> Result<(Vec<OwnedFormatItem>, &'a [u8]), Unread>
-    ensures owns { Owns (λ v is. SaysItems v.items is)
+    ensures owns { Owns (λ v is. MatchesItems v.items is)
         (grammar.inside_by (grammar.list_by (grammar.item version depth true) opening) group text.now) result }
     ensures shorter { IfOk result (λ x. length x.1.now < length text.now) }
 {
@@ -190,7 +190,7 @@ fn read_lists<'a>(
     opening: usize,
     text: &'a [u8],
 ) -> Result<(Vec<OwnedFormatItem>, &'a [u8]), Unread>
-    ensures owns { Owns (λ v is. SaysItems v.items is)
+    ensures owns { Owns (λ v is. MatchesItems v.items is)
         (grammar.lists_by (grammar.list_by (grammar.item version depth true) opening) (suc (length text.now)) text.now) result }
     ensures shorter { IfOk result (λ x. length x.1.now < length text.now) }
 {
@@ -215,7 +215,7 @@ fn read_list<'a>(
     opening: usize,
     text: &'a [u8],
 ) -> Result<(Vec<OwnedFormatItem>, &'a [u8]), Unread>
-    ensures owns { Owns (λ v is. SaysItems v.items is)
+    ensures owns { Owns (λ v is. MatchesItems v.items is)
         (grammar.list_by (grammar.item version depth true) opening text.now) result }
     ensures shorter { IfOk result (λ x. length x.1.now < length text.now) }
 {
@@ -233,7 +233,7 @@ fn read_items<'a>(
     nested: bool,
     text: &'a [u8],
 ) -> Result<(Vec<OwnedFormatItem>, &'a [u8]), Unread>
-    ensures owns { Owns (λ v is. SaysItems v.items is) (grammar.items version depth nested text.now) result }
+    ensures owns { Owns (λ v is. MatchesItems v.items is) (grammar.items version depth nested text.now) result }
     ensures ended { IfOk result (λ x. grammar.ends nested x.1.now ≡ true) }
     ensures within { IfOk result (λ x. length x.1.now ≤ length text.now) }
 {

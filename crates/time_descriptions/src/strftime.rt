@@ -1,8 +1,8 @@
 //! Descriptions in strftime's syntax.
-ghost use Rattle.std.specs.Prelude.{◌≡◌, ◌⊎◌, ◌+◌, ◌<◌, ◌≤◌, ◌++◌, ◌∷◌, length, map, Some, IfOk, IfErr, OnOk};
-ghost use Rattle.time_descriptions.specs.Components.{Gives};
+ghost use Rattle.std.specs.Prelude.{◌≡◌, ◌⊎◌, ◌+◌, ◌<◌, ◌≤◌, ◌==◌, ◌++◌, ◌∷◌, if◌then◌else◌, length, map, Some, None, IfOk, IfErr, OnOk};
+ghost use Rattle.time_descriptions.specs.Components.{Returns};
 ghost use Rattle.time_descriptions.specs.Description.{shape};
-ghost use Rattle.time_descriptions.specs.Items.{flat, Sees};
+ghost use Rattle.time_descriptions.specs.Items.{flat, Finds};
 ghost use Rattle.time_descriptions.specs.Strftime as letters;
 ghost use Rattle.time_descriptions.specs.Parts.{Begins, HasSteps, part_items};
 ghost use Rattle.time_descriptions.specs.Refusal.{refusal_of};
@@ -12,11 +12,11 @@ ghost use Rattle.time_descriptions.specs.declared.error.Fault.TheVariants as fau
 use crate::description::Description;
 use crate::error::{Fault, InvalidFormatDescription, Unsupported};
 use crate::items::push;
-use crate::leaf::Step;
-use crate::letters::{component_of_letter, shorthand, step_of_byte};
+use crate::leaf::{Group, Step};
+use crate::letters::{Flag, component_of_letter, flag_of, shorthand, step_of_byte};
 use crate::modifiers::component;
 use arrayvec::ArrayVec;
-use time_components::{Component, Padding};
+use time_components::{Component, Padding, SubsecondDigits};
 
 /// The meaning of a byte or a conversion.
 #[derive(Clone, Copy)]
@@ -27,21 +27,21 @@ pub enum Part {
     Component(Component),
     /// The hours and the minutes of an offset.
     Offset,
+    /// The hours and the minutes of an offset, with a colon between them.
+    ColonOffset,
+    /// The fraction of a second after a point, or nothing.
+    PointedFraction,
     /// The meanings of the bytes that the letter abbreviates.
     Shorthand(u8),
 }
 
-// The padding that the flag selects.
-fn flag_padding(flag: u8) -> Option<Padding>
-    ensures { result ≡ letters.flag_padding flag }
-{
-    match flag {
-        b'-' => Some(Padding::None),
-        b'_' => Some(Padding::Space),
-        b'0' => Some(Padding::Zero),
-        _ => None,
-    }
-}
+const OFFSET_HOUR: Step = Step::Component(
+    component!(OffsetHour, padding: Padding::Zero, sign_is_mandatory: true),
+);
+
+const OFFSET_MINUTE: Step = Step::Component(component!(OffsetMinute, padding: Padding::Zero));
+
+const FRACTION: Step = Step::Component(component!(Subsecond, digits: SubsecondDigits::OneOrMore));
 
 // The component with that padding, if it has a padding and some letter means it.
 #[tactic(auto, unfolding(crate::specs::Strftime::with_padding))]
@@ -82,7 +82,7 @@ fn padded(padding: Padding, letter: u8) -> Option<Component>
 
 // The meaning of the letter, if it has one.
 fn meaning(letter: u8) -> Option<Part>
-    ensures { Sees part_items result (letters.meaning letter) }
+    ensures { Finds part_items result (letters.meaning letter) }
 {
     if letter == b'z' {
         return Some(Part::Offset);
@@ -99,7 +99,7 @@ fn meaning(letter: u8) -> Option<Part>
 // The meaning of the letter. `percent` counts the bytes from its `%` to the end of the text, and `left` those from the
 // letter.
 fn read_letter(percent: usize, left: usize, letter: u8) -> Result<Part, Fault>
-    ensures { Gives part_items result (letters.letter_items percent left letter) }
+    ensures { Returns part_items result (letters.letter_items percent left letter) }
 {
     match meaning(letter) {
         Some(part) => Ok(part),
@@ -113,10 +113,35 @@ fn read_letter(percent: usize, left: usize, letter: u8) -> Result<Part, Fault>
     }
 }
 
+// The part, if the letter is `only`.
+fn for_letter(letter: u8, only: u8, part: Part) -> Option<Part>
+    ensures { Finds part_items result (if letter == only then Some (part_items part) else None) }
+{
+    if letter == only { Some(part) } else { None }
+}
+
+// The meaning of the letter after the flag, if it has one.
+fn flagged_meaning(flag: Flag, letter: u8) -> Option<Part>
+    ensures { Finds part_items result (letters.flagged_meaning flag letter) }
+{
+    match flag {
+        Flag::Padding(padding) => match padded(padding, letter) {
+            Some(component) => Some(Part::Component(component)),
+            None => None,
+        },
+        Flag::Digits(digits) => {
+            let fraction = component!(Subsecond, digits: digits);
+            for_letter(letter, b'f', Part::Component(fraction))
+        }
+        Flag::Point => for_letter(letter, b'f', Part::PointedFraction),
+        Flag::Colon => for_letter(letter, b'z', Part::ColonOffset),
+    }
+}
+
 // The meaning of the letter at the start of the text, after a flag, and the rest.
 #[tactic(auto, unfolding(crate::specs::Strftime::flagged))]
-fn read_flagged(padding: Padding, text: &[u8]) -> Result<(Part, &[u8]), Fault>
-    ensures begins { Begins (letters.flagged padding text.now) result }
+fn read_flagged(flag: Flag, text: &[u8]) -> Result<(Part, &[u8]), Fault>
+    ensures begins { Begins (letters.flagged flag text.now) result }
     ensures within { IfOk result (λ x. length x.1.now ≤ length text.now) }
 {
     let [letter, rest @ ..] = text else {
@@ -125,8 +150,8 @@ fn read_flagged(padding: Padding, text: &[u8]) -> Result<(Part, &[u8]), Fault>
     let left = text.len();
     match read_letter(left + 2, left, *letter) {
         Err(fault) => Err(fault),
-        Ok(_) => match padded(padding, *letter) {
-            Some(component) => Ok((Part::Component(component), rest)),
+        Ok(_) => match flagged_meaning(flag, *letter) {
+            Some(part) => Ok((part, rest)),
             None => Err(Fault::InvalidModifier {
                 left: left + 1,
                 len: 1,
@@ -144,8 +169,8 @@ fn read_conversion(text: &[u8]) -> Result<(Part, &[u8]), Fault>
     let [first, rest @ ..] = text else {
         return Err(Fault::InvalidComponentName { left: 0, len: 0 });
     };
-    match flag_padding(*first) {
-        Some(padding) => read_flagged(padding, rest),
+    match flag_of(*first) {
+        Some(flag) => read_flagged(flag, rest),
         None => match read_letter(text.len() + 1, text.len(), *first) {
             Err(fault) => Err(fault),
             Ok(part) => Ok((part, rest)),
@@ -178,16 +203,16 @@ fn push_shorthand<const N: usize>(steps: &mut ArrayVec<Step, N>, bytes: &[u8]) -
     Ok(())
 }
 
-// Appends the steps of an offset, if there is room.
-fn push_offset<const N: usize>(steps: &mut ArrayVec<Step, N>) -> Result<(), Fault>
-    ensures ok { OnOk result (steps.new.items ≡ steps.old.items ++ flat letters.offset) }
+// Appends steps, if there is room.
+fn push_all<const N: usize>(steps: &mut ArrayVec<Step, N>, added: &[Step]) -> Result<(), Fault>
+    ensures ok { OnOk result (steps.new.items ≡ steps.old.items ++ added.now) }
     ensures room { OnOk result (length steps.old.items ≤ N → length steps.new.items ≤ N) }
-    ensures err { IfErr result (λ e. (e ≡ fault.NoRoom) × (N < length steps.old.items + 2)) }
+    ensures err { IfErr result (λ e. (e ≡ fault.NoRoom) × (N < length steps.old.items + length added.now)) }
 {
-    let hours = component!(OffsetHour, padding: Padding::Zero, sign_is_mandatory: true);
-    push(steps, Step::Component(hours))?;
-    let minutes = component!(OffsetMinute, padding: Padding::Zero);
-    push(steps, Step::Component(minutes))
+    for step in added {
+        push(steps, *step)?;
+    }
+    Ok(())
 }
 
 // Appends the steps of a part, if there is room.
@@ -200,7 +225,12 @@ fn push_part<const N: usize>(steps: &mut ArrayVec<Step, N>, part: Part) -> Resul
     match part {
         Part::Byte(byte) => push(steps, Step::Literal(byte)),
         Part::Component(component) => push(steps, Step::Component(component)),
-        Part::Offset => push_offset(steps),
+        Part::Offset => push_all(steps, &[OFFSET_HOUR, OFFSET_MINUTE]),
+        Part::ColonOffset => { push_all(steps, &[OFFSET_HOUR, Step::Literal(b':'), OFFSET_MINUTE]) }
+        Part::PointedFraction => {
+            let optional = Step::Group(Group::Optional, 2);
+            push_all(steps, &[optional, Step::Literal(b'.'), FRACTION])
+        }
         Part::Shorthand(letter) => match shorthand(letter) {
             Some(bytes) => push_shorthand(steps, bytes),
             None => Ok(()),
@@ -231,6 +261,9 @@ fn read_steps<const N: usize>(text: &[u8]) -> Result<ArrayVec<Step, N>, Fault>
 
 /// Parses a description in strftime's syntax, such as `%Y-%m-%d`: literal bytes, and conversions, each a `%`, an
 /// optional flag and a letter.
+///
+/// Beside POSIX's, `%f` is a fraction of one or more digits, `%3f`, `%6f` and `%9f` are fractions of that many digits,
+/// `%.f` is a point and a fraction or nothing, `%N` is nine digits as in GNU `date`, and `%:z` is an offset with a colon.
 ///
 /// # Errors
 ///

@@ -8,7 +8,7 @@ use Rattle.std.proofs.Math.Nat.{div-le_self}
 use Rattle.std.proofs.lemmas.Int.{ints, to_z-of_z}
 use Rattle.std.proofs.lemmas.Bool.Decides.{nat_tests}
 use Rattle.time_values.specs.MovedClocks.{IsNear}
-use Rattle.time_values.specs.Shown.{fixed}
+use Rattle.time_values.specs.DisplayTexts.{fixed}
 use Rattle.time_formatting.proofs.KeptDigits.{fixed-length}
 use Rattle.time_digits.specs.Digits.{AllDigits, IsDigitRun, IsPaddedRun, NoDigitFirst, NoSpaceFirst, digits_value}
 use Rattle.time_digits.specs.declared.Padding.{Padding}

@@ -9,7 +9,7 @@ use Rattle.std.proofs.lemmas.Fmt.{decimal_by_steps_wide, length-decimal-le_wide}
 use Rattle.std.proofs.lemmas.Int.{ints}
 use Rattle.std.proofs.lemmas.Nat.{le-div, pow-add}
 use Rattle.std.proofs.Math.Nat.{add-mul, div-lt_iff_lt-mul, div-mul-le_self}
-use Rattle.time_values.specs.Shown.{fixed, is_behind}
+use Rattle.time_values.specs.DisplayTexts.{fixed, is_behind}
 use Rattle.time_values.specs.Sign.{signed_by}
 use Rattle.time_values.specs.declared.utc_offset.UtcOffset.{UtcOffset}
 use Rattle.time_values.specs.Calendar.{IsBetween, greatest_year}
@@ -25,7 +25,7 @@ use Rattle.time_digits.specs.declared.Padding.TheVariants as padding
 use Rattle.time_digits.specs.declared.Sign.{Sign}
 use Rattle.time_digits.specs.declared.Sign.TheVariants.{Negative, Positive}
 use Rattle.time_digits.proofs.Runs.{AllDigits-push, digits_value-push, pow-mono}
-use Rattle.time_components.specs.Spelling.{IsFractionRun, least_digits, most_digits, IsSigned, SaysCentury, SaysOffsetHour, SaysYear, flagged, flagged_value, signed, signed_value, SaysTimestamp, scaled_value}
+use Rattle.time_components.specs.Spelling.{IsFractionRun, least_digits, most_digits, IsSigned, SpellsCentury, SpellsOffsetHour, SpellsYear, flagged, flagged_value, signed, signed_value, SpellsTimestamp, scaled_value}
 use Rattle.time_components.specs.declared.modifier.SubsecondDigits.{SubsecondDigits}
 use Rattle.time_components.specs.declared.modifier.SubsecondDigits.TheVariants.{One, Two, Three, Four, Five, Six, Seven, Eight, Nine, OneOrMore}
 use Rattle.time_formatting.specs.Numbers.{filled, filler, padded, sign_text, century, century_digits, full_year, year_digits, year_sign, count_text, whole}
@@ -182,7 +182,7 @@ narrow_run p k n rest some below stops = rw (lt-ltb n (10 ^ k) below) (padded_ru
 -- years
 year_spelled : (Behind : List ℕ → Type 0) (mandatory : Bool) (p : Padding) (most : ℕ) (y : ℤ) (rest : List ℕ)
     → (Behind rest → IsPaddedRun p 4 most (year_digits p (unsigned_abs y)) rest (unsigned_abs y))
-    → SignedStops (year_sign mandatory y) Behind (PaddedStops p) rest → SaysYear mandatory p most (full_year mandatory p y) rest (signed y)
+    → SignedStops (year_sign mandatory y) Behind (PaddedStops p) rest → SpellsYear mandatory p most (full_year mandatory p y) rest (signed y)
 year_spelled Behind mandatory p most y rest front stops =
     let below = int_lt y (pos 0) in
     let long = int_lt (pos 9999) y in (
@@ -194,11 +194,11 @@ year_spelled Behind mandatory p most y rest front stops =
     )
 
 pub year_extended : (mandatory : Bool) (p : Padding) (y : ℤ) (rest : List ℕ) → unsigned_abs y < 10 ^ 6 → YearStops mandatory p y rest
-    → SaysYear mandatory p 6 (full_year mandatory p y) rest (signed y)
+    → SpellsYear mandatory p 6 (full_year mandatory p y) rest (signed y)
 year_extended mandatory p y rest below = year_spelled NoDigitFirst mandatory p 6 y rest (wide_run p 4 (unsigned_abs y) rest (omega arith) below)
 
 pub year_standard : (mandatory : Bool) (p : Padding) (y : ℤ) (rest : List ℕ) → unsigned_abs y < 10 ^ 4 → PaddedStops p rest
-    → SaysYear mandatory p 4 (full_year mandatory p y) rest (signed y)
+    → SpellsYear mandatory p 4 (full_year mandatory p y) rest (signed y)
 year_standard mandatory p y rest below stops =
     year_spelled (PaddedStops p) mandatory p 4 y rest (narrow_run p 4 (unsigned_abs y) rest (omega arith) below)
     (either_stops (year_sign mandatory y) (PaddedStops p) rest stops)
@@ -218,7 +218,7 @@ bare_run padding.Space n rest below stops =
 
 century_spelled : (Behind : List ℕ → Type 0) (mandatory : Bool) (p : Padding) (most : ℕ) (y : ℤ) (rest : List ℕ)
     → (Behind rest → IsPaddedRun p 2 most (century_digits p (unsigned_abs y / 100)) rest (unsigned_abs y / 100))
-    → CenturyStops Behind mandatory p y rest → SaysCentury mandatory p most (century mandatory p y) rest (century_value y)
+    → CenturyStops Behind mandatory p y rest → SpellsCentury mandatory p most (century mandatory p y) rest (century_value y)
 century_spelled Behind mandatory p most y rest front stops =
     let below = int_lt y (pos 0) in
     let long = int_lt (pos 9999) y in
@@ -231,18 +231,18 @@ century_spelled Behind mandatory p most y rest front stops =
     )
 
 pub century_extended : (mandatory : Bool) (p : Padding) (y : ℤ) (rest : List ℕ) → unsigned_abs y < 10 ^ 6 → CenturyStops NoDigitFirst mandatory p y rest
-    → SaysCentury mandatory p 4 (century mandatory p y) rest (century_value y)
+    → SpellsCentury mandatory p 4 (century mandatory p y) rest (century_value y)
 century_extended mandatory p y rest below =
     century_spelled NoDigitFirst mandatory p 4 y rest (wide_run p 2 (unsigned_abs y / 100) rest (omega arith) (omega (arith, below)))
 
 pub century_standard : (mandatory : Bool) (p : Padding) (y : ℤ) (rest : List ℕ) → unsigned_abs y < 10 ^ 4 → CenturyStops (PaddedStops p) mandatory p y rest
-    → SaysCentury mandatory p 2 (century mandatory p y) rest (century_value y)
+    → SpellsCentury mandatory p 2 (century mandatory p y) rest (century_value y)
 century_standard mandatory p y rest below =
     century_spelled (PaddedStops p) mandatory p 2 y rest (narrow_run p 2 (unsigned_abs y / 100) rest (omega arith) (omega (arith, below)))
 
 -- the hours of an offset
 pub offset_hour_spelled : (mandatory : Bool) (p : Padding) (o : UtcOffset) (rest : List ℕ) → PaddedStops p rest
-    → SaysOffsetHour mandatory p (sign_text (is_behind o) mandatory ++ padded p 2 (unsigned_abs o.hours)) rest (flagged o.hours (is_behind o))
+    → SpellsOffsetHour mandatory p (sign_text (is_behind o) mandatory ++ padded p 2 (unsigned_abs o.hours)) rest (flagged o.hours (is_behind o))
 offset_hour_spelled mandatory p o rest stops =
     let below = is_behind o in
     let n = unsigned_abs o.hours in (
@@ -309,7 +309,7 @@ instant_size v =
 
 -- a number of units of 10 ^ k nanoseconds
 pub timestamp_spelled : (k : ℕ) (mandatory : Bool) (v : OffsetDateTime) (rest : List ℕ) → k ≤ 9 → NoDigitFirst rest
-    → SaysTimestamp (10 ^ k) mandatory (23 - k) (count_text (10 ^ k) mandatory (offset_instant greatest_year v)) rest
+    → SpellsTimestamp (10 ^ k) mandatory (23 - k) (count_text (10 ^ k) mandatory (offset_instant greatest_year v)) rest
     (units_value (10 ^ k) (offset_instant greatest_year v))
 timestamp_spelled k mandatory v rest few none =
     let z = offset_instant greatest_year v in

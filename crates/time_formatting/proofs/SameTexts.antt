@@ -9,7 +9,7 @@ use Rattle.std.proofs.lemmas.Bool.Decides.{nat_tests}
 use Rattle.std.proofs.lemmas.Fmt.{decimal_is_IsNumeral_wide}
 use Rattle.std.proofs.lemmas.Str.Parse.{digit_from_value}
 use Rattle.std.proofs.lemmas.Int.{ints}
-use Rattle.time_values.specs.Shown.{fixed, significant, fraction_shown, magnitude_shown, year_sign_shown, hour_shown}
+use Rattle.time_values.specs.DisplayTexts.{fixed, significant, fraction_display, magnitude_display, year_sign_display, hour_display}
 use Rattle.time_values.specs.Sign.{signed_by, same_sign, HasOneSign}
 use Rattle.time_formatting.proofs.KeptDigits.{fixed-length, take-fixed, front-below, significant-bound, zeros-cut}
 
@@ -84,18 +84,18 @@ fixed-same (suc k) m n small few e =
 -- ---- Parts of values that print alike are equal
 
 -- the digits of a year are its last k digits, for some k
-magnitude-fixed : (n : ℕ) → n < 10 ^ 6 → (k : ℕ) × (n < 10 ^ k) × (magnitude_shown n ≡ fixed k n)
+magnitude-fixed : (n : ℕ) → n < 10 ^ 6 → (k : ℕ) × (n < 10 ^ k) × (magnitude_display n ≡ fixed k n)
 magnitude-fixed n small = by_four (nat_lt n 10_000) refl
   where
-    by_five : (b : Bool) → nat_lt n 10_000 ≡ false → nat_lt n 100_000 ≡ b → (k : ℕ) × (n < 10 ^ k) × (magnitude_shown n ≡ fixed k n)
+    by_five : (b : Bool) → nat_lt n 10_000 ≡ false → nat_lt n 100_000 ≡ b → (k : ℕ) × (n < 10 ^ k) × (magnitude_display n ≡ fixed k n)
     by_five true not_four five = (5, grind (arith, nat_tests), rw (not_four, five) refl)
     by_five false not_four not_five = (6, small, rw (not_four, not_five) refl)
 
-    by_four : (b : Bool) → nat_lt n 10_000 ≡ b → (k : ℕ) × (n < 10 ^ k) × (magnitude_shown n ≡ fixed k n)
+    by_four : (b : Bool) → nat_lt n 10_000 ≡ b → (k : ℕ) × (n < 10 ^ k) × (magnitude_display n ≡ fixed k n)
     by_four true four = (4, grind (arith, nat_tests), rw four refl)
     by_four false not_four = by_five (nat_lt n 100_000) not_four refl
 
-magnitude-same : (m n : ℕ) → m < 10 ^ 6 → n < 10 ^ 6 → magnitude_shown m ≡ magnitude_shown n → m ≡ n
+magnitude-same : (m n : ℕ) → m < 10 ^ 6 → n < 10 ^ 6 → magnitude_display m ≡ magnitude_display n → m ≡ n
 magnitude-same m n small few e =
     let one = magnitude-fixed m small in
     let other = magnitude-fixed n few in
@@ -104,7 +104,7 @@ magnitude-same m n small few e =
     fixed-same one.0 m n one.1 (subst (λ k. n < 10 ^ k) (sym long) other.1)
     (texts ∙ ap (λ k. fixed k n) (sym long))
 
-pub magnitude-lacks : (c n : ℕ) → n < 10 ^ 6 → (c < 48) ⊎ (57 < c) → Lacks c (magnitude_shown n)
+pub magnitude-lacks : (c n : ℕ) → n < 10 ^ 6 → (c < 48) ⊎ (57 < c) → Lacks c (magnitude_display n)
 magnitude-lacks c n small other =
     let one = magnitude-fixed n small in
     subst (Lacks c) (sym one.2) (fixed-lacks c one.0 n other)
@@ -114,34 +114,34 @@ not_below m = search rules
 
 -- a year and its sign
 abbrev pub year_shown : ℤ → List ℕ
-year_shown y = year_sign_shown y ++ magnitude_shown (unsigned_abs y)
+year_shown y = year_sign_display y ++ magnitude_display (unsigned_abs y)
 
 abbrev later_shown : Bool → ℕ → List ℕ
-later_shown b m = (if b then codes "+" else []) ++ magnitude_shown m
+later_shown b m = (if b then codes "+" else []) ++ magnitude_display m
 
 year-later : (m : ℕ) → year_shown (pos m) ≡ later_shown (int_lt (pos 9999) (pos m)) m
 year-later m = rw (not_below m) refl
 
 later-same : (b c : Bool) (m n : ℕ) → m < 10 ^ 6 → n < 10 ^ 6 → later_shown b m ≡ later_shown c n → m ≡ n
-later-same true true m n small few e = magnitude-same m n small few (let digits : magnitude_shown m ≡ magnitude_shown n = cc in digits)
-later-same true false m n small few e = absurd (Lacks-first 43 (magnitude_shown n) (magnitude_shown m) (magnitude-lacks 43 n few (inl (omega arith))) e)
+later-same true true m n small few e = magnitude-same m n small few (let digits : magnitude_display m ≡ magnitude_display n = cc in digits)
+later-same true false m n small few e = absurd (Lacks-first 43 (magnitude_display n) (magnitude_display m) (magnitude-lacks 43 n few (inl (omega arith))) e)
 later-same false true m n small few e =
-    absurd (Lacks-first 43 (magnitude_shown m) (magnitude_shown n) (magnitude-lacks 43 m small (inl (omega arith))) (sym e))
+    absurd (Lacks-first 43 (magnitude_display m) (magnitude_display n) (magnitude-lacks 43 m small (inl (omega arith))) (sym e))
 later-same false false m n small few e = magnitude-same m n small few e
 
 no_minus : (b : Bool) (m : ℕ) (a : List ℕ) → m < 10 ^ 6 → 45 ∷ a ≡ later_shown b m → ⊥
 no_minus true m a small e = let first : ◌≡◌ {A = ℕ} 45 43 = ap (λ t. get_or t 0 0) e in omega (arith, first)
-no_minus false m a small e = Lacks-first 45 (magnitude_shown m) a (magnitude-lacks 45 m small (inl (omega arith))) e
+no_minus false m a small e = Lacks-first 45 (magnitude_display m) a (magnitude-lacks 45 m small (inl (omega arith))) e
 
 pub year-same : (y z : ℤ) → unsigned_abs y < 10 ^ 6 → unsigned_abs z < 10 ^ 6 → year_shown y ≡ year_shown z → y ≡ z
 year-same (pos m) (pos n) small few e =
     ap pos (later-same (int_lt (pos 9999) (pos m)) (int_lt (pos 9999) (pos n)) m n small few (sym (year-later m) ∙ e ∙ year-later n))
 year-same (pos m) (negsuc n) small few e =
-    absurd (no_minus (int_lt (pos 9999) (pos m)) m (magnitude_shown (suc n)) small (sym e ∙ year-later m))
+    absurd (no_minus (int_lt (pos 9999) (pos m)) m (magnitude_display (suc n)) small (sym e ∙ year-later m))
 year-same (negsuc m) (pos n) small few e =
-    absurd (no_minus (int_lt (pos 9999) (pos n)) n (magnitude_shown (suc m)) few (e ∙ year-later n))
+    absurd (no_minus (int_lt (pos 9999) (pos n)) n (magnitude_display (suc m)) few (e ∙ year-later n))
 year-same (negsuc m) (negsuc n) small few e =
-    let same : suc m ≡ suc n = magnitude-same (suc m) (suc n) small few (let digits : magnitude_shown (suc m) ≡ magnitude_shown (suc n) = cc in digits) in
+    let same : suc m ≡ suc n = magnitude-same (suc m) (suc n) small few (let digits : magnitude_display (suc m) ≡ magnitude_display (suc n) = cc in digits) in
     let less : m ≡ n = cc in
     ap negsuc less
 
@@ -149,25 +149,25 @@ pub year-lacks : (y : ℤ) → unsigned_abs y < 10 ^ 6 → Lacks 32 (year_shown 
 year-lacks (pos m) small = subst (Lacks 32) (sym (year-later m)) (by_sign (int_lt (pos 9999) (pos m)))
   where
     by_sign : (b : Bool) → Lacks 32 (later_shown b m)
-    by_sign true = Lacks-append 32 (43 ∷ []) (magnitude_shown m) (Lacks-one 32 43 (λ e. omega (arith, e))) (magnitude-lacks 32 m small (inl (omega arith)))
+    by_sign true = Lacks-append 32 (43 ∷ []) (magnitude_display m) (Lacks-one 32 43 (λ e. omega (arith, e))) (magnitude-lacks 32 m small (inl (omega arith)))
     by_sign false = magnitude-lacks 32 m small (inl (omega arith))
 year-lacks (negsuc m) small =
-    Lacks-append 32 (45 ∷ []) (magnitude_shown (suc m)) (Lacks-one 32 45 (λ e. omega (arith, e))) (magnitude-lacks 32 (suc m) small (inl (omega arith)))
+    Lacks-append 32 (45 ∷ []) (magnitude_display (suc m)) (Lacks-one 32 45 (λ e. omega (arith, e))) (magnitude-lacks 32 (suc m) small (inl (omega arith)))
 
 -- an hour before its colon
-hour-lacks : (h : ℕ) → h < 24 → Lacks 58 (hour_shown h)
+hour-lacks : (h : ℕ) → h < 24 → Lacks 58 (hour_display h)
 hour-lacks h small = by_ten (nat_lt h 10) refl
   where
-    by_ten : (b : Bool) → nat_lt h 10 ≡ b → Lacks 58 (hour_shown h)
+    by_ten : (b : Bool) → nat_lt h 10 ≡ b → Lacks 58 (hour_display h)
     by_ten true less = let few : h < 10 = grind (arith, nat_tests) in rw less (Lacks-one 58 (48 + h) (λ e. omega (arith, e, few)))
     by_ten false more = rw more (fixed-lacks 58 2 h (inr (omega arith)))
 
-pub hour-same : (h g : ℕ) (x y : List ℕ) → h < 24 → g < 24 → hour_shown h ++ 58 ∷ x ≡ hour_shown g ++ 58 ∷ y → (h ≡ g) × (x ≡ y)
+pub hour-same : (h g : ℕ) (x y : List ℕ) → h < 24 → g < 24 → hour_display h ++ 58 ∷ x ≡ hour_display g ++ 58 ∷ y → (h ≡ g) × (x ≡ y)
 hour-same h g x y small few e =
-    let parts = same_to 58 (hour_shown h) (hour_shown g) x y (hour-lacks h small) (hour-lacks g few) e in
+    let parts = same_to 58 (hour_display h) (hour_display g) x y (hour-lacks h small) (hour-lacks g few) e in
     (by_ten (nat_lt h 10) (nat_lt g 10) refl refl parts.0, parts.1)
   where
-    by_ten : (b c : Bool) → nat_lt h 10 ≡ b → nat_lt g 10 ≡ c → hour_shown h ≡ hour_shown g → h ≡ g
+    by_ten : (b c : Bool) → nat_lt h 10 ≡ b → nat_lt g 10 ≡ c → hour_display h ≡ hour_display g → h ≡ g
     by_ten true true less low e =
         let bytes : (48 + h) ∷ [] ≡ (48 + g) ∷ [] = rw (less, low) at e in
         let byte : 48 + h ≡ 48 + g = cc in
@@ -199,13 +199,13 @@ all-kept n small = by_count (significant 9 n) refl
         let one : max (suc k) 1 ≡ suc k = omega arith in
         subst (λ i. n / 10 ^ (9 - i) * 10 ^ (9 - i) ≡ n) (sym one) (zeros-cut 9 n (9 - suc k) (omega (arith, bound, some)))
 
-fraction-is : (n : ℕ) → fraction_shown (at_least_one n) n ≡ 46 ∷ take (at_least_one n) (fixed 9 n)
+fraction-is : (n : ℕ) → fraction_display (at_least_one n) n ≡ 46 ∷ take (at_least_one n) (fixed 9 n)
 fraction-is n = let some : (at_least_one n == 0) ≡ false = grind (arith, nat_tests) in rw some refl
 
 count-within : (n : ℕ) → at_least_one n ≤ 9
 count-within n = let bound = significant-bound 9 n in omega (arith, bound)
 
-pub fraction-same : (m n : ℕ) → m < 10 ^ 9 → n < 10 ^ 9 → fraction_shown (at_least_one m) m ≡ fraction_shown (at_least_one n) n → m ≡ n
+pub fraction-same : (m n : ℕ) → m < 10 ^ 9 → n < 10 ^ 9 → fraction_display (at_least_one m) m ≡ fraction_display (at_least_one n) n → m ≡ n
 fraction-same m n small few e =
     let bytes : 46 ∷ take (at_least_one m) (fixed 9 m) ≡ 46 ∷ take (at_least_one n) (fixed 9 n) = sym (fraction-is m) ∙ e ∙ fraction-is n in
     let digits : take (at_least_one m) (fixed 9 m) ≡ take (at_least_one n) (fixed 9 n) = cc in

@@ -10,14 +10,14 @@ use Rattle.time_values.specs.Names.{month_number, month_name, weekday_name}
 use Rattle.time_values.specs.declared.date.Date.{Date}
 use Rattle.time_values.specs.Dates as Dates
 use Rattle.time_values.specs.Moments.{offset_instant}
-use Rattle.time_values.specs.Shown.{is_behind}
+use Rattle.time_values.specs.DisplayTexts.{is_behind}
 use Rattle.time_values.specs.declared.offset_date_time.OffsetDateTime.{OffsetDateTime}
 use Rattle.time_values.proofs.InstantLemmas.{ordinal_in, day_number_in, year_start_later}
 use Rattle.time_values.proofs.YearLemmas.{abs_within, weekdays_in_closed, day_limit-weekday, year_end_at, year_start-next, year_after_first, year_length-leap_day}
 use Rattle.time_values.proofs.NumberLemmas.{month_number_in}
 use Rattle.time_digits.specs.Digits.{IsPaddedRun, NoDigitFirst}
 use Rattle.time_digits.specs.declared.Padding.{Padding}
-use Rattle.time_components.specs.Spelling.{IsNamed, period_name, EndsBy, IsFractionRun, SaysCentury, SaysOffsetHour, SaysTimestamp, SaysYear, flagged, least_digits, most_digits, signed}
+use Rattle.time_components.specs.Spelling.{IsNamed, period_name, EndsBy, IsFractionRun, SpellsCentury, SpellsOffsetHour, SpellsTimestamp, SpellsYear, flagged, least_digits, most_digits, signed}
 use Rattle.time_components.specs.declared.format_description.Component.TheVariants as component
 use Rattle.time_components.specs.declared.modifier.TrailingInput.{TrailingInput}
 use Rattle.time_components.specs.declared.modifier.TrailingInput.TheVariants.{Discard, Prohibit}
@@ -129,34 +129,34 @@ standard y a text = standard_by y a text (nat_le (unsigned_abs y) 9999) refl
 -- years and centuries
 module _ (mandatory : Bool) (p : Padding) (y : ℤ) (text rest : List ℕ) where
   extended_year : unsigned_abs y < 10 ^ 6 → YearStops mandatory p y rest → IsText (Ok (full_year mandatory p y)) text
-      → SaysYear mandatory p 6 text rest (signed y)
+      → SpellsYear mandatory p 6 text rest (signed y)
   extended_year below stops is =
-      subst (λ t. SaysYear mandatory p 6 t rest (signed y)) (same_text (full_year mandatory p y) text is) (year_extended mandatory p y rest below stops)
+      subst (λ t. SpellsYear mandatory p 6 t rest (signed y)) (same_text (full_year mandatory p y) text is) (year_extended mandatory p y rest below stops)
 
-  standard_year : PaddedStops p rest → IsText (in_standard_range y (full_year mandatory p y)) text → SaysYear mandatory p 4 text rest (signed y)
+  standard_year : PaddedStops p rest → IsText (in_standard_range y (full_year mandatory p y)) text → SpellsYear mandatory p 4 text rest (signed y)
   standard_year stops is =
       let both = standard y (full_year mandatory p y) text is in
-      subst (λ t. SaysYear mandatory p 4 t rest (signed y)) both.1 (year_standard mandatory p y rest both.0 stops)
+      subst (λ t. SpellsYear mandatory p 4 t rest (signed y)) both.1 (year_standard mandatory p y rest both.0 stops)
 
   extended_century : unsigned_abs y < 10 ^ 6 → CenturyStops NoDigitFirst mandatory p y rest → IsText (Ok (century mandatory p y)) text
-      → SaysCentury mandatory p 4 text rest (century_value y)
+      → SpellsCentury mandatory p 4 text rest (century_value y)
   extended_century below stops is =
-      subst (λ t. SaysCentury mandatory p 4 t rest (century_value y)) (same_text (century mandatory p y) text is)
+      subst (λ t. SpellsCentury mandatory p 4 t rest (century_value y)) (same_text (century mandatory p y) text is)
       (century_extended mandatory p y rest below stops)
 
   standard_century : CenturyStops (PaddedStops p) mandatory p y rest → IsText (in_standard_range y (century mandatory p y)) text
-      → SaysCentury mandatory p 2 text rest (century_value y)
+      → SpellsCentury mandatory p 2 text rest (century_value y)
   standard_century stops is =
       let both = standard y (century mandatory p y) text is in
-      subst (λ t. SaysCentury mandatory p 2 t rest (century_value y)) both.1 (century_standard mandatory p y rest both.0 stops)
+      subst (λ t. SpellsCentury mandatory p 2 t rest (century_value y)) both.1 (century_standard mandatory p y rest both.0 stops)
 
 -- units of 10 ^ k nanoseconds
 timestamp : (k : ℕ) (mandatory : Bool) (v : OffsetDateTime) (text rest : List ℕ) → k ≤ 9 → NoDigitFirst rest
     → IsText (Ok (count_text (10 ^ k) mandatory (offset_instant greatest_year v))) text
-    → SaysTimestamp (10 ^ k) mandatory (23 - k) text rest (units_value (10 ^ k) (offset_instant greatest_year v))
+    → SpellsTimestamp (10 ^ k) mandatory (23 - k) text rest (units_value (10 ^ k) (offset_instant greatest_year v))
 timestamp k mandatory v text rest few none is =
     let z = offset_instant greatest_year v in
-    subst (λ t. SaysTimestamp (10 ^ k) mandatory (23 - k) t rest (units_value (10 ^ k) z)) (same_text (count_text (10 ^ k) mandatory z) text is)
+    subst (λ t. SpellsTimestamp (10 ^ k) mandatory (23 - k) t rest (units_value (10 ^ k) z)) (same_text (count_text (10 ^ k) mandatory z) text is)
     (timestamp_spelled k mandatory v rest few none)
 
 ends : (trailing : TrailingInput) → EndsBy trailing []
@@ -233,7 +233,7 @@ component_spelled v (component.Subsecond m) whole text rest is stops =
           (fraction_spelled m.digits n rest v.time.nanosecond_in stops),
     )
 component_spelled v (component.OffsetHour m) whole text rest is stops =
-    subst (λ t. SaysOffsetHour m.sign_is_mandatory m.padding t rest (flagged v.offset.hours (is_behind v.offset))) (same_text _ text is)
+    subst (λ t. SpellsOffsetHour m.sign_is_mandatory m.padding t rest (flagged v.offset.hours (is_behind v.offset))) (same_text _ text is)
     (offset_hour_spelled m.sign_is_mandatory m.padding v.offset rest stops)
 component_spelled v (component.OffsetMinute m) whole text rest is stops =
     let n = unsigned_abs v.offset.minutes in let few = abs_within 59 v.offset.minutes v.offset.minutes_in in

@@ -4,7 +4,7 @@ use Rattle.time_values.specs.Names.{month_name, weekday_name, month_number, days
 use Rattle.time_values.specs.Dates as Dates
 use Rattle.time_values.specs.Moments.{offset_date, offset_instant, offset_of, offset_time}
 use Rattle.time_values.specs.Offsets as Offsets
-use Rattle.time_values.specs.Shown.{fixed, is_behind, significant}
+use Rattle.time_values.specs.DisplayTexts.{fixed, is_behind, significant}
 use Rattle.time_values.specs.Times as Times
 use Rattle.time_values.specs.declared.offset_date_time.OffsetDateTime.{OffsetDateTime}
 use Rattle.time_values.specs.declared.weekday.Weekday.{Weekday}

@@ -1,7 +1,7 @@
 -- Numbers in the forms of components.
 use Rattle.std.specs.Prelude.{ℕ, ◌/◌, ℤ, pos, negsuc, int_lt, unsigned_abs, List, [], ◌∷◌, ◌++◌, codes, Bool, ◌==◌, if◌then◌else◌, ◌+◌, ◌-◌, ◌+ℤ◌, ◌-ℤ◌, ◌||◌, nat_lt, nat_le, Result, Ok, Err}
 use Rattle.std.specs.Fmt.{decimal}
-use Rattle.time_values.specs.Shown.{fixed}
+use Rattle.time_values.specs.DisplayTexts.{fixed}
 use Rattle.time_values.specs.Calendar.{thursday_of, weekdays_in, year_length, year_start}
 use Rattle.time_values.specs.Dates as Dates
 use Rattle.time_values.specs.declared.date.Date.{Date}

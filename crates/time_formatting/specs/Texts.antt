@@ -1,6 +1,6 @@
 -- The text of a moment by a description. `Y` is the greatest year.
 use Rattle.std.specs.Prelude.{ℕ, List, [], ◌++◌, length, nat_le, if◌then◌else◌, Result, Ok, Err, codes, ◌≡◌, Bool}
-use Rattle.time_values.specs.Shown.{Items}
+use Rattle.time_values.specs.DisplayTexts.{Items}
 use Rattle.time_values.specs.declared.offset_date_time.OffsetDateTime.{OffsetDateTime}
 use Rattle.time_components.specs.Tree.{Tree, Trees, literal, component as tree_component, sequence, optional, first_of, none, more as tree_more}
 use Rattle.time_components.specs.Spelling.{Spells}

@@ -6,7 +6,7 @@ use Rattle.time_values.specs.Dates as Dates
 use Rattle.time_values.specs.Moments.{offset_date, offset_time, offset_of, nanoseconds}
 use Rattle.time_values.specs.Names.{month_number, month_name, weekday_name, days_from_monday}
 use Rattle.time_values.specs.Offsets as Offsets
-use Rattle.time_values.specs.Shown.{Items, fixed, significant, fraction_shown}
+use Rattle.time_values.specs.DisplayTexts.{Items, fixed, significant, fraction_display}
 use Rattle.time_values.specs.Times as Times
 use Rattle.time_values.specs.Calendar.{greatest_year}
 use Rattle.time_values.specs.declared.date.Date.{Date}
@@ -61,7 +61,7 @@ offset_text o = if is_none o then codes "Z" else numeric_text o
 abbrev pub moment_text : ℕ → OffsetDateTime → List ℕ
 moment_text k v =
     date_text (offset_date v) ++ codes "T" ++ clock_text (offset_time v)
-    ++ fraction_shown k (Times.nanosecond (offset_time v)) ++ offset_text (offset_of v)
+    ++ fraction_display k (Times.nanosecond (offset_time v)) ++ offset_text (offset_of v)
 
 -- `+HHMM` or `-HHMM`
 abbrev pub zone_text : UtcOffset → List ℕ
@@ -114,8 +114,8 @@ unwritable_2822 v =
     if int_eq (Offsets.seconds (offset_of v)) (pos 0) then None else Some OffsetSecond
 
 -- The result is that error; or, without an error, a text with the property.
-abbrev pub WritesSuch : Option Unwritable → (List ℕ → Type 0) → Result Items Unwritable → Type 0
-WritesSuch reason such result =
+abbrev pub WritesTextWith : Option Unwritable → (List ℕ → Type 0) → Result Items Unwritable → Type 0
+WritesTextWith reason such result =
     MatchOption reason (IsOkAnd result (λ text. such text.items)) (λ why. result ≡ Err why)
 
 -- The result is that error; or, without an error, a text of those bytes.
@@ -126,12 +126,12 @@ Writes reason bytes result =
 -- ---- The printed texts of values
 
 -- the nanoseconds, as a decimal number
-abbrev pub timestamp_shown : Timestamp → List ℕ
-timestamp_shown t = signed_decimal (nanoseconds t)
+abbrev pub timestamp_display : Timestamp → List ℕ
+timestamp_display t = signed_decimal (nanoseconds t)
 
 -- values that print alike are equal
-abbrev pub OneShown : {V : Type 0} → (V → List ℕ) → Type 0
-OneShown {V} shown = (v w : V) → shown v ≡ shown w → v ≡ w
+abbrev pub IsInjective : {V : Type 0} → (V → List ℕ) → Type 0
+IsInjective {V} shown = (v w : V) → shown v ≡ shown w → v ≡ w
 
 -- ---- Printed messages of errors
 

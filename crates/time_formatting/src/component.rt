@@ -4,7 +4,7 @@ ghost use Rattle.time_components.specs.Spelling.{first_digit};
 ghost use Rattle.time_values.specs.Moments.{offset_instant};
 ghost use Rattle.time_values.specs.Offsets as Offsets;
 ghost use Rattle.time_values.specs.Calendar.{greatest_year};
-ghost use Rattle.time_values.specs.Shown.{fixed, is_behind};
+ghost use Rattle.time_values.specs.DisplayTexts.{fixed, is_behind};
 ghost use Rattle.time_formatting.specs.Components as components;
 ghost use Rattle.time_formatting.specs.Components.{number_of, other_of};
 ghost use Rattle.time_formatting.specs.Numbers as numbers;

@@ -4,7 +4,7 @@ ghost use Rattle.time_values.specs.Calendar.{IsBetween};
 ghost use Rattle.time_values.specs.Dates as Dates;
 ghost use Rattle.time_values.specs.Moments.{offset_date};
 ghost use Rattle.time_values.specs.Names.{month_number};
-ghost use Rattle.time_values.specs.Shown.{fixed};
+ghost use Rattle.time_values.specs.DisplayTexts.{fixed};
 ghost use Rattle.time_values.specs.Times as Times;
 ghost use Rattle.time_formatting.specs.WellKnown.{moment_text, basic_offset_text, basic_text, unwritable_3339, Writes};
 

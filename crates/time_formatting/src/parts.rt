@@ -2,7 +2,7 @@
 ghost use Rattle.std.specs.Prelude.{◌≡◌, ◌<◌, [], ◌∷◌, ◌++◌, codes, pos, neg_ℤ, unsigned_abs, ◌≤◌, Some};
 ghost use Rattle.time_values.specs.Calendar.{IsBetween};
 ghost use Rattle.time_values.specs.Dates as Dates;
-ghost use Rattle.time_values.specs.Shown.{fixed};
+ghost use Rattle.time_values.specs.DisplayTexts.{fixed};
 ghost use Rattle.time_formatting.specs.WellKnown as Texts;
 ghost use Rattle.time_formatting.specs.WellKnown.{count_of, unwritable_text};
 

@@ -3,8 +3,8 @@ ghost use Rattle.std.specs.Prelude.{◌≡◌, ◌++◌, codes, pos};
 ghost use Rattle.time_values.specs.Calendar.{IsBetween};
 ghost use Rattle.time_values.specs.Dates as Dates;
 ghost use Rattle.time_values.specs.Moments.{offset_date};
-ghost use Rattle.time_values.specs.Shown.{fixed};
-ghost use Rattle.time_formatting.specs.WellKnown.{IsMailText, short_month, short_weekday, unwritable_2822, WritesSuch};
+ghost use Rattle.time_values.specs.DisplayTexts.{fixed};
+ghost use Rattle.time_formatting.specs.WellKnown.{IsMailText, short_month, short_weekday, unwritable_2822, WritesTextWith};
 
 use crate::parts::{Unwritable, clock, month_letters, offset_without_colon, weekday_letters};
 use time_values::digits::{four, pair};
@@ -59,7 +59,7 @@ fn reason(value: OffsetDateTime) -> Option<Unwritable>
 /// A moment without such a text gives the first error that applies: its year is outside 1900 to 9999, or its offset has
 /// seconds.
 pub fn text_2822(value: OffsetDateTime) -> Result<Text, Unwritable>
-    ensures { WritesSuch (unwritable_2822 value) (IsMailText value) result }
+    ensures { WritesTextWith (unwritable_2822 value) (IsMailText value) result }
 {
     match reason(value) {
         Some(why) => Err(why),

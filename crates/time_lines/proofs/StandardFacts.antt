@@ -1,5 +1,4 @@
--- Worked values of fields and answers, by the definitions alone. A wrong rule in the specs fails to check here. `Y` is
--- the greatest year.
+-- Worked values of fields and answers, by the definitions alone. A wrong rule in the specs fails to check here.
 use Rattle.std.proofs.Common.{get_or, ◌≡◌, ℕ, List, [], ◌∷◌, ◌++◌, length, Some, None, codes, refl, ap, arith, length-append}
 use Rattle.time_lines.specs.Output.{AreAnswers, IsAnswer, fields_of}
 
@@ -30,43 +29,42 @@ no_fields_at_spaces = refl
 
 -- ---- Answers that report the error of a line
 
-module _ (Y : ℕ) where
-  pub answer_to_an_empty_line : IsAnswer Y [] (codes "error: line")
-  unfolding IsAnswer
-  answer_to_an_empty_line = refl
+pub answer_to_an_empty_line : IsAnswer [] (codes "error: line")
+unfolding IsAnswer
+answer_to_an_empty_line = refl
 
-  pub answer_to_an_unknown_target : IsAnswer Y (codes "rfc3339" ++ tab ++ codes "x" ++ tab ++ codes "y") (codes "error: target")
-  unfolding IsAnswer
-  answer_to_an_unknown_target = refl
+pub answer_to_an_unknown_target : IsAnswer (codes "rfc3339" ++ tab ++ codes "x" ++ tab ++ codes "y") (codes "error: target")
+unfolding IsAnswer
+answer_to_an_unknown_target = refl
 
-  -- the format is checked before the target
-  pub answer_to_an_unknown_format : IsAnswer Y (codes "x" ++ tab ++ codes "x" ++ tab ++ codes "y") (codes "error: format")
-  unfolding IsAnswer
-  answer_to_an_unknown_format = refl
+-- the format is checked before the target
+pub answer_to_an_unknown_format : IsAnswer (codes "x" ++ tab ++ codes "x" ++ tab ++ codes "y") (codes "error: format")
+unfolding IsAnswer
+answer_to_an_unknown_format = refl
 
-  -- and both after the fields are counted
-  pub answer_to_one_tab : IsAnswer Y (codes "x" ++ tab ++ codes "x") (codes "error: line")
-  unfolding IsAnswer
-  answer_to_one_tab = refl
+-- and both after the fields are counted
+pub answer_to_one_tab : IsAnswer (codes "x" ++ tab ++ codes "x") (codes "error: line")
+unfolding IsAnswer
+answer_to_one_tab = refl
 
-  pub answers_to_two_lines : AreAnswers Y ([] ∷ (codes "x" ++ tab ++ tab) ∷ []) (codes "error: line" ++ 10 ∷ codes "error: format" ++ 10 ∷ [])
-  unfolding IsAnswer
-  answers_to_two_lines =
-      (codes "error: line", codes "error: format" ++ 10 ∷ [], refl, (codes "error: format", [], refl, refl, refl), refl)
+pub answers_to_two_lines : AreAnswers ([] ∷ (codes "x" ++ tab ++ tab) ∷ []) (codes "error: line" ++ 10 ∷ codes "error: format" ++ 10 ∷ [])
+unfolding IsAnswer
+answers_to_two_lines =
+    (codes "error: line", codes "error: format" ++ 10 ∷ [], refl, (codes "error: format", [], refl, refl, refl), refl)
 
-  pub no_empty_answer : IsAnswer Y [] [] → ⊥
-  unfolding IsAnswer
-  no_empty_answer h = omega (arith, ap length h)
+pub no_empty_answer : IsAnswer [] [] → ⊥
+unfolding IsAnswer
+no_empty_answer h = omega (arith, ap length h)
 
-  pub no_target_before_the_format : IsAnswer Y (codes "x" ++ tab ++ codes "x" ++ tab ++ codes "y") (codes "error: target") → ⊥
-  unfolding IsAnswer
-  no_target_before_the_format h = omega (arith, ap (λ text. get_or text 7 0) h)
+pub no_target_before_the_format : IsAnswer (codes "x" ++ tab ++ codes "x" ++ tab ++ codes "y") (codes "error: target") → ⊥
+unfolding IsAnswer
+no_target_before_the_format h = omega (arith, ap (λ text. get_or text 7 0) h)
 
-  pub no_format_before_the_fields : IsAnswer Y (codes "x" ++ tab ++ codes "x") (codes "error: format") → ⊥
-  unfolding IsAnswer
-  no_format_before_the_fields h = omega (arith, ap length h)
+pub no_format_before_the_fields : IsAnswer (codes "x" ++ tab ++ codes "x") (codes "error: format") → ⊥
+unfolding IsAnswer
+no_format_before_the_fields h = omega (arith, ap length h)
 
-  -- a line has an answer, so two lines have more than one
-  pub no_line_without_an_answer : AreAnswers Y ([] ∷ []) [] → ⊥
-  unfolding IsAnswer
-  no_line_without_an_answer (answer, others, one, more, is) = omega (arith, ap length is, length-append answer (10 ∷ others))
+-- a line has an answer, so two lines have more than one
+pub no_line_without_an_answer : AreAnswers ([] ∷ []) [] → ⊥
+unfolding IsAnswer
+no_line_without_an_answer (answer, others, one, more, is) = omega (arith, ap length is, length-append answer (10 ∷ others))

@@ -1,4 +1,4 @@
--- The output for an input. `Y` is the greatest year.
+-- The output for an input.
 use Rattle.std.specs.Prelude.{ℕ, List, [], ◌∷◌, if◌then◌else◌, ◌==◌, Option, None, Some, ◌≡◌, codes, MatchOption}
 use Rattle.std.specs.Option.{option_and_then, option_map}
 use Rattle.programs_answers.specs.Formats.{format_named, target_named}
@@ -28,35 +28,35 @@ fields_of line =
 
 -- The answer to a line: the outcome of its text, or the error of the line. A missing field is reported before any name
 -- is checked, and an unknown format is reported before its target is checked.
-unfoldable pub IsAnswer : ℕ → List ℕ → List ℕ → Type 0
-IsAnswer Y line answer =
+unfoldable pub IsAnswer : List ℕ → List ℕ → Type 0
+IsAnswer line answer =
     MatchOption (fields_of line) (answer ≡ codes "error: line")
     (λ fields. MatchOption (format_named fields.format) (answer ≡ codes "error: format")
     (λ format. MatchOption (target_named fields.target) (answer ≡ codes "error: target")
-    (λ target. IsParsed Y format target fields.text answer)))
+    (λ target. IsParsed format target fields.text answer)))
 
 -- The answers to the lines, each followed by LF.
-abbrev pub AreAnswers : ℕ → List (List ℕ) → List ℕ → Type 0
-AreAnswers Y = output.AreAnswers (IsAnswer Y)
+abbrev pub AreAnswers : List (List ℕ) → List ℕ → Type 0
+AreAnswers = output.AreAnswers IsAnswer
 
 -- The writer's contents are followed by the answers to the lines of the input.
-abbrev pub WritesAnswers : ℕ → Option (List ℕ) → Option (List ℕ) → List ℕ → Type 0
-WritesAnswers Y = output.WritesAnswers (IsAnswer Y)
+abbrev pub WritesAnswers : Option (List ℕ) → Option (List ℕ) → List ℕ → Type 0
+WritesAnswers = output.WritesAnswers IsAnswer
 
--- ---- Laws of answers. `Y` is the greatest year.
+-- ---- Laws of answers.
 
 -- A line has at most one answer.
-abbrev pub OneAnswer : ℕ → Type 0
-OneAnswer Y = (line answer other : List ℕ) → IsAnswer Y line answer → IsAnswer Y line other → answer ≡ other
+abbrev pub OneAnswer : Type 0
+OneAnswer = (line answer other : List ℕ) → IsAnswer line answer → IsAnswer line other → answer ≡ other
 
 -- Lines have at most one text of answers.
-abbrev pub OneOutput : ℕ → Type 0
-OneOutput Y =
+abbrev pub OneOutput : Type 0
+OneOutput =
     (lines : List (List ℕ)) (output other : List ℕ)
-    → AreAnswers Y lines output → AreAnswers Y lines other → output ≡ other
+    → AreAnswers lines output → AreAnswers lines other → output ≡ other
 
 -- After the answers to one input, a writer of known contents holds at most one text.
-abbrev pub OneWriting : ℕ → Type 0
-OneWriting Y =
+abbrev pub OneWriting : Type 0
+OneWriting =
     (input before new other : List ℕ)
-    → WritesAnswers Y (Some before) (Some new) input → WritesAnswers Y (Some before) (Some other) input → new ≡ other
+    → WritesAnswers (Some before) (Some new) input → WritesAnswers (Some before) (Some other) input → new ≡ other

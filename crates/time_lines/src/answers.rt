@@ -4,7 +4,6 @@
 //! field. It has the same result for the lines that `fast` splits, so without `fast` each line has the same answer, in
 //! more steps.
 ghost use Rattle.std.specs.Prelude.{ℕ, List, OnOk, MatchResult};
-ghost use Rattle.time_values.specs.Calendar.{greatest_year};
 ghost use Rattle.programs_answers.specs.Formats.{AreOfFormats};
 ghost use Rattle.programs_answers.specs.Output.{IsParsed, Writes};
 ghost use Rattle.time_lines.specs.Output.{IsAnswer};
@@ -25,9 +24,9 @@ type Request<'a> = Result<(Format, Target, &'a [u8]), &'static [u8]>;
 #[tactic(auto, unfolding(crate::specs::Output::IsAnswer))]
 fn split_request(line: &[u8]) -> Request<'_>
     ensures { MatchResult result
-        (λ request. (answer : List ℕ) → IsParsed greatest_year request.0 request.1 request.2.now answer
-        → IsAnswer greatest_year line.now answer)
-        (λ error. IsAnswer greatest_year line.now error.now) }
+        (λ request. (answer : List ℕ) → IsParsed request.0 request.1 request.2.now answer
+        → IsAnswer line.now answer)
+        (λ error. IsAnswer line.now error.now) }
 {
     let Some((format, rest)) = split_at_tab(line) else {
         return Err(b"error: line".as_slice());
@@ -62,7 +61,7 @@ impl Fields {
 }
 
 impl LineHandler for Fields {
-    ghost is_answer = { λ _. IsAnswer greatest_year };
+    ghost is_answer = { λ _. IsAnswer };
 
     #[inline(always)]
     fn write_answer<W: Sink>(&self, line: &[u8], out: &mut W) -> Result<(), Unwritten> {

@@ -1,6 +1,5 @@
 //! Splits lines into fields, and answers all lines of an input.
 ghost use Rattle.std.specs.Prelude.{◌≡◌, Err, OnOk, IfSome};
-ghost use Rattle.time_values.specs.Calendar.{greatest_year};
 ghost use Rattle.byte_streams.specs.Faults.{HasCause};
 ghost use Rattle.programs_answers.specs.Output.{HasReadCause, HasWriteCause};
 ghost use Rattle.programs_answers.specs.declared.serving.Stop.TheVariants as Stop;
@@ -17,7 +16,7 @@ use std::io::{Read, Write};
 // Writes the answer to each line of the input to a sink.
 #[inline(always)]
 fn run_to<W: Sink>(input: &[u8], out: &mut BufferedSink<W>) -> Result<(), Unwritten>
-    ensures answers { OnOk result (WritesAnswers greatest_year (W.contents out.old.sink) (W.contents out.new.sink) input.now) }
+    ensures answers { OnOk result (WritesAnswers (W.contents out.old.sink) (W.contents out.new.sink) input.now) }
     ensures cause { HasCause result (W.faults out.old.sink) (W.faults out.new.sink) }
     ensures through { W.through out.new.sink ≡ W.through out.old.sink }
 {
@@ -29,7 +28,7 @@ fn run_to<W: Sink>(input: &[u8], out: &mut BufferedSink<W>) -> Result<(), Unwrit
 /// Each line ends with LF, which is optional after the last one. `Err` is the error of a write, after which it is
 /// unspecified how much was written.
 pub fn run<W: Write>(input: &[u8], out: &mut W) -> io::Result<()>
-    ensures { OnOk result (WritesAnswers greatest_year (W.contents out.old) (W.contents out.new) input.now) }
+    ensures { OnOk result (WritesAnswers (W.contents out.old) (W.contents out.new) input.now) }
 {
     let mut buffered = BufferedSink::new(Lent::new(out));
     match run_to(input, &mut buffered) {
@@ -44,7 +43,7 @@ pub fn run<W: Write>(input: &[u8], out: &mut W) -> io::Result<()>
 /// written.
 pub fn serve<R: Read, W: Write>(alloc: Global, input: &mut R, out: &mut W) -> Result<(), Stop>
     ensures ok { OnOk result (IfSome (R.remaining input.old)
-        (λ bytes. WritesAnswers greatest_year (W.contents out.old) (W.contents out.new) bytes)) }
+        (λ bytes. WritesAnswers (W.contents out.old) (W.contents out.new) bytes)) }
     ensures unread { result ≡ Err Stop.Unread → out.new ≡ out.old }
     ensures memory { result ≡ Err Stop.Memory → out.new ≡ out.old }
 {
@@ -58,7 +57,7 @@ pub(crate) fn serve_in<R: Read, W: Write, A: Allocator>(
     out: &mut W,
 ) -> Result<(), Stop>
     ensures ok { OnOk result (IfSome (R.remaining input.old)
-        (λ bytes. WritesAnswers greatest_year (W.contents out.old) (W.contents out.new) bytes)) }
+        (λ bytes. WritesAnswers (W.contents out.old) (W.contents out.new) bytes)) }
     ensures unread { result ≡ Err Stop.Unread → out.new ≡ out.old }
     ensures memory { result ≡ Err Stop.Memory → out.new ≡ out.old }
 {
@@ -75,7 +74,7 @@ pub(crate) fn serve_to<R: Source, W: Sink, A: Allocator>(
     out: &mut BufferedSink<W>,
 ) -> Result<(), Stop>
     ensures ok { OnOk result (IfSome (R.remaining input.old)
-        (λ bytes. WritesAnswers greatest_year (W.contents out.old.sink) (W.contents out.new.sink) bytes)) }
+        (λ bytes. WritesAnswers (W.contents out.old.sink) (W.contents out.new.sink) bytes)) }
     ensures unread { result ≡ Err Stop.Unread → out.new ≡ out.old }
     ensures memory { result ≡ Err Stop.Memory → out.new ≡ out.old }
     ensures read { HasReadCause result (R.faults input.old) (R.faults input.new) (R.given input.old) (R.given input.new) }

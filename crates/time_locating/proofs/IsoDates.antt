@@ -22,11 +22,11 @@ use Rattle.time_readers.proofs.MailRanges.{signed-abs}
 use Rattle.time_record.specs.Record.{Record}
 use Rattle.time_parsing.specs.Iso8601.{date_entries, put_or_fault, reading}
 use Rattle.time_parsing.specs.Rfc3339.{with_leap_second}
-use Rattle.time_locating.specs.Iso8601.{date_rows, left_at_number, missed_or_later, rest_of, row_misses, rows_misses, after, offset_piece, rows_after, time_piece, wanted_at}
-use Rattle.time_locating.specs.IsoNumbers.{IsYearHeld, year_of}
+use Rattle.time_locating.specs.Iso8601.{date_rows, left_at_number, miss_or_rest_misses, rest_of, row_misses, rows_misses, after, offset_piece, rows_after, time_piece, expected_at}
+use Rattle.time_locating.specs.IsoNumbers.{IsYearInRange, year_of}
 use Rattle.time_locating.specs.Misses.{Miss}
 use Rattle.time_locating.specs.declared.iso8601.Piece.TheVariants as piece
-use Rattle.time_locating.specs.IsoMarks.{Marks, after_date, after_row, by_date, from_time, is_piece_of, leaves, offset_mark, row_mark, rows_mark, text_mark, time_mark, wants_name, without_date}
+use Rattle.time_locating.specs.IsoMarks.{Marks, after_date, after_row, by_date, from_time, is_piece_of, leaves, offset_mark, row_mark, rows_mark, text_mark, time_mark, expects_name, without_date}
 use Rattle.time_locating.specs.Located.{IsMarked}
 use Rattle.time_locating.specs.declared.iso8601.Piece.{Piece}
 use Rattle.time_locating.proofs.IsoLengths.{byte-length, month-within, positive-length, weekday-length, year-within, after-within, time_text-within}
@@ -144,7 +144,7 @@ year-held b rest y h =
     ap (λ n. nat_le n greatest_year) same ∙ le-leb a.1 greatest_year (digits-held cut.0 rest a cut.2.2)
 
 pub date-number : (b : List ℕ) (d : Found IsoDate) → date_text b ≡ Ok d
-    → (left_at_number d.kind d.value (length d.rest) ≤ length b) × IsYearHeld d.value
+    → (left_at_number d.kind d.value (length d.rest) ≤ length b) × IsYearInRange d.value
 unfolding date_text
 date-number b d h =
     need-Ok (year b) (component (codes "year")) _ d h
@@ -163,7 +163,7 @@ rest-below Unknown (week y w d) rest n h = omega arith
 
 -- ---- a date that doesn't match
 
-none_missed : (m : Miss) (later : List ℕ → List Miss) (o : Option (List ℕ)) → missed_or_later m later o ≡ []
+none_missed : (m : Miss) (later : List ℕ → List Miss) (o : Option (List ℕ)) → miss_or_rest_misses m later o ≡ []
     → (rest : List ℕ) × (o ≡ Some rest) × (later rest ≡ [])
 none_missed m later None h = let clash : m ∷ [] ≡ [] = h in absurd cc
 none_missed m later (Some rest) h = (rest, refl, h)
@@ -173,10 +173,10 @@ rested None rest h = absurd (none-some rest h)
 rested (Some (x, v)) rest h = (v, ap (λ y. Some (y, v)) (same_Some x rest h))
 
 -- a date of the calendar with separators
-all_stand-Ok : (b r1 r2 r3 r4 r5 : List ℕ) (y : ℤ) (m : _) (n : ℕ) (e : Refusal) → year b ≡ Some (r1, y) → byte 45 r1 ≡ Some r2
+parse_places-Ok : (b r1 r2 r3 r4 r5 : List ℕ) (y : ℤ) (m : _) (n : ℕ) (e : Refusal) → year b ≡ Some (r1, y) → byte 45 r1 ≡ Some r2
     → month r2 ≡ Some (r3, m) → byte 45 r3 ≡ Some r4 → positive 2 r4 ≡ Some (r5, n) → date_text b ≡ Err e → ⊥
 unfolding date_text forms
-all_stand-Ok b r1 r2 r3 r4 r5 y m n e year_is dash_is month_is other_dash_is day_is h =
+parse_places-Ok b r1 r2 r3 r4 r5 y m n e year_is dash_is month_is other_dash_is day_is h =
     Ok-Err (record { rest = r5; value = calendar y m n; kind = Extended }) e
     (sym h ∙ rw (year_is, dash_is, month_is, other_dash_is, day_is) refl)
 
@@ -191,7 +191,7 @@ calendar-misses b e h none =
     let year_is = rested (year b) y.0 y.1 in
     let month_is = rested (month x.0) m.0 m.1 in
     let day_is = rested (positive 2 z.0) d.0 d.1 in
-    all_stand-Ok b y.0 x.0 m.0 z.0 d.0 year_is.0 month_is.0 day_is.0 e year_is.1 x.1 month_is.1 z.1 day_is.1 h
+    parse_places-Ok b y.0 x.0 m.0 z.0 d.0 year_is.0 month_is.0 day_is.0 e year_is.1 x.1 month_is.1 z.1 day_is.1 h
 
 joined_none : (ms ns : List Miss) → ms ++ ns ≡ [] → (ms ≡ []) × (ns ≡ [])
 joined_none [] ns h = (refl, h)
@@ -204,9 +204,9 @@ no_date-misses b e h none =
     let fourth = (joined_none (row_misses (piece.Year ∷ piece.WeekLetter ∷ piece.Week ∷ piece.Weekday ∷ []) b) _ third).1 in
     calendar-misses b e h (joined_none (row_misses (piece.Year ∷ piece.Dash ∷ piece.Month ∷ piece.Dash ∷ piece.Day ∷ []) b) _ fourth).0
 
--- ---- Where the components of an ISO 8601 text begin. `Y` is the greatest year.
+-- ---- Where the components of an ISO 8601 text begin.
 
-pub other_piece : (name : List ℕ) (p : Piece) → (p ≡ piece.Zulu → ⊥) → is_piece_of name p ≡ wants_name name (wanted_at p)
+pub other_piece : (name : List ℕ) (p : Piece) → (p ≡ piece.Zulu → ⊥) → is_piece_of name p ≡ expects_name name (expected_at p)
 other_piece name piece.Zulu other = absurd (other refl)
 other_piece name _ other = refl
 
@@ -268,48 +268,48 @@ module _ (name : List ℕ) (left : ℕ) (b : List ℕ) where
       (from_time-within (length b) name left true d.kind d.rest (time_text true d.kind d.rest) None refl room tt)
       (rows_mark-within (length b) name (length d.rest) date_rows b (omega arith))
 
-  by_date-within : (Y : ℕ) (r : Record) (o : Result (Found IsoDate) Refusal) → date_text b ≡ o
-      → IsUpTo (length b) (by_date Y name left b r o)
-  by_date-within Y r (Err e) is = without_date-within (length b) name left b (omega arith)
-  by_date-within Y r (Ok d) is = after_date-within d (put_or_fault Y (date_entries d.value) r) is
+  by_date-within : (r : Record) (o : Result (Found IsoDate) Refusal) → date_text b ≡ o
+      → IsUpTo (length b) (by_date name left b r o)
+  by_date-within r (Err e) is = without_date-within (length b) name left b (omega arith)
+  by_date-within r (Ok d) is = after_date-within d (put_or_fault greatest_year (date_entries d.value) r) is
 
-  text_mark-within : (Y : ℕ) (r : Record) → IsUpTo (length b) (text_mark Y name left b r)
+  text_mark-within : (r : Record) → IsUpTo (length b) (text_mark name left b r)
   unfolding text_mark
-  text_mark-within Y r = by_date-within Y r (date_text b) refl
+  text_mark-within r = by_date-within r (date_text b) refl
 
 -- ---- the result
 
-module _ (Y : ℕ) (name b : List ℕ) (r : Record) where
+module _ (name b : List ℕ) (r : Record) where
   -- the index of a mark
-  pub iso_marked : (rest : List ℕ) (q : Record) (mark : Option ℕ) → reading Y b (with_leap_second r) ≡ Some (rest, q)
-      → mark ≡ text_mark Y name (length rest) b (with_leap_second r)
-      → IsMarked (Marks Y) name b r (option_map (λ left. length b - left) mark)
+  pub iso_marked : (rest : List ℕ) (q : Record) (mark : Option ℕ) → reading greatest_year b (with_leap_second r) ≡ Some (rest, q)
+      → mark ≡ text_mark name (length rest) b (with_leap_second r)
+      → IsMarked Marks name b r (option_map (λ left. length b - left) mark)
   iso_marked rest q None h is = rw h is
   iso_marked rest q (Some left) h is =
       let within : IsUpTo (length b) (Some left) =
-      subst (IsUpTo (length b)) (sym is) (text_mark-within name (length rest) b Y (with_leap_second r)) in
+      subst (IsUpTo (length b)) (sym is) (text_mark-within name (length rest) b (with_leap_second r)) in
       (left, rw h is, omega arith)
 
   -- nothing matches
-  pub iso_unmarked : reading Y b (with_leap_second r) ≡ None → IsMarked (Marks Y) name b r None
+  pub iso_unmarked : reading greatest_year b (with_leap_second r) ≡ None → IsMarked Marks name b r None
   iso_unmarked h = rw h refl
 
 -- the mark of a text by its date
-module _ (Y : ℕ) (name : List ℕ) (left : ℕ) (b : List ℕ) (r : Record) where
+module _ (name : List ℕ) (left : ℕ) (b : List ℕ) (r : Record) where
   pub no_date-mark : (e : Refusal) (mark : Option ℕ) → date_text b ≡ Err e → mark ≡ without_date name left b
-      → mark ≡ text_mark Y name left b r
+      → mark ≡ text_mark name left b r
   unfolding text_mark
   no_date-mark e mark is h = rw is h
 
   pub great_date-mark : (d : Found IsoDate) (e : Refusal) (mark : Option ℕ) → date_text b ≡ Ok d
-      → put_or_fault Y (date_entries d.value) r ≡ Err e → mark ≡ without_date name left b → mark ≡ text_mark Y name left b r
+      → put_or_fault greatest_year (date_entries d.value) r ≡ Err e → mark ≡ without_date name left b → mark ≡ text_mark name left b r
   unfolding text_mark
   great_date-mark d e mark is put h = rw (is, put) h
 
   pub held_date-mark : (d : Found IsoDate) (q : Record) (mark : Option ℕ) → date_text b ≡ Ok d
-      → put_or_fault Y (date_entries d.value) r ≡ Ok q
+      → put_or_fault greatest_year (date_entries d.value) r ≡ Ok q
       → mark ≡ option_or (from_time name left d.kind d.rest (time_text true d.kind d.rest) None) (rows_mark name (length d.rest) date_rows b)
-      → mark ≡ text_mark Y name left b r
+      → mark ≡ text_mark name left b r
   unfolding text_mark
   held_date-mark d q mark is put h = rw (is, put) h
 

@@ -9,10 +9,10 @@ use Rattle.time_values.specs.Refusal.{Refusal, component}
 use Rattle.time_digits.specs.Digits.{Form, Cut, IsSign, IsByte, Finds}
 use Rattle.time_digits.specs.declared.ParsedItem.{ParsedItem}
 use Rattle.time_digits.specs.declared.Sign.{Sign}
-use Rattle.time_readers.specs.IsoPieces.{Found, IsNumber, IsYear, Number, at_most, byte, digits_saying, month, months, not_zero, number, numbered, positive, sign, up_to, weekday, weekdays, year, digits}
+use Rattle.time_readers.specs.IsoPieces.{Found, IsNumber, IsYear, Number, at_most, byte, mapped_digits, month, months, not_zero, number, numbered, positive, sign, up_to, weekday, weekdays, year, digits}
 use Rattle.time_readers.specs.IsoOffsets as offsets
-use Rattle.time_readers.specs.IsoOffsets.{OffsetParts, offset_rows, offset_text, nothing_said, numbers_found}
-use Rattle.time_readers.specs.IsoTimes.{Row, Stands, all_stand, first_fitting, fits, when, nothing_given, says, time_after, time_rows, time_text}
+use Rattle.time_readers.specs.IsoOffsets.{OffsetParts, offset_rows, offset_text, no_offset_parts, numbers_found}
+use Rattle.time_readers.specs.IsoTimes.{Row, PlaceParser, parse_places, first_fitting, fits, when, nothing_given, says, time_after, time_rows, time_text}
 use Rattle.time_readers.specs.IsoTimes as times
 use Rattle.time_readers.specs.declared.iso8601.ExtendedKind.{ExtendedKind}
 use Rattle.time_readers.specs.declared.iso8601.OffsetNumbers.{OffsetNumbers}
@@ -25,7 +25,7 @@ use Rattle.time_parsing.specs.Iso8601.{date_entries, put_or_fault}
 use Rattle.time_locating.specs.Iso8601.{after, rest_of, after_t, after_time, date_rows, from_time, left_at_number, misses, row_misses, rows_misses, without_date}
 use Rattle.time_locating.specs.declared.iso8601.Piece.{Piece}
 use Rattle.time_locating.specs.declared.iso8601.Piece.TheVariants as piece
-use Rattle.time_locating.specs.IsoNumbers.{IsYearHeld}
+use Rattle.time_locating.specs.IsoNumbers.{IsYearInRange}
 use Rattle.time_locating.specs.Misses.{Miss, further, furthest, missed, named}
 use Rattle.time_locating.proofs.TurnSteps.{further-assoc, furthest-append}
 
@@ -39,7 +39,7 @@ unfolding byte
 byte-length c [] rest h = absurd (none-some rest h)
 byte-length c (x ∷ b) rest h = let is = cond_some (nat_eq x c) b rest h in omega (arith, ap length is.1)
 
-pub said-length : {A : Type 0} (n : ℕ) (says : ℕ → Option A) (b rest : List ℕ) (a : A) → digits_saying n says b ≡ Some (rest, a)
+pub said-length : {A : Type 0} (n : ℕ) (says : ℕ → Option A) (b rest : List ℕ) (a : A) → mapped_digits n says b ≡ Some (rest, a)
     → length b ≡ n + length rest
 said-length n says b rest a h =
     let cut = said-tells n says b rest a h in
@@ -89,7 +89,7 @@ number-within {U} s b rest u h =
 
 -- ---- the places of a time and of an offset
 
-abbrev pub Shortens : {P V : Type 0} → Stands P V → Type 0
+abbrev pub Shortens : {P V : Type 0} → PlaceParser P V → Type 0
 Shortens {P} {V} stands =
     (p : P) (b : List ℕ) (v : V) (rest : List ℕ) (u : V) → stands p b v ≡ Some (rest, u) → length rest ≤ length b
 
@@ -126,9 +126,9 @@ positive-within n b rest h = rested (positive n b) rest h (λ v e. omega (arith,
 time_piece-within : (p : times.Place) (b rest : List ℕ) → rest_of (times.stands p b nothing_given) ≡ Some rest → length rest ≤ length b
 time_piece-within p b rest h = rested (times.stands p b nothing_given) rest h (λ v e. time-within p b nothing_given rest v e)
 
-offset_piece-within : (p : offsets.OffsetPlace) (b rest : List ℕ) → rest_of (offsets.stands p b nothing_said) ≡ Some rest
+offset_piece-within : (p : offsets.OffsetPlace) (b rest : List ℕ) → rest_of (offsets.stands p b no_offset_parts) ≡ Some rest
     → length rest ≤ length b
-offset_piece-within p b rest h = rested (offsets.stands p b nothing_said) rest h (λ v e. offset-within p b nothing_said rest v e)
+offset_piece-within p b rest h = rested (offsets.stands p b no_offset_parts) rest h (λ v e. offset-within p b no_offset_parts rest v e)
 
 pub after-within : (p : Piece) (b rest : List ℕ) → after p b ≡ Some rest → length rest ≤ length b
 after-within piece.Year b rest h = rested (year b) rest h (λ v e. year-within b rest v e)
@@ -160,24 +160,24 @@ or-some : {A P : Type 0} (o q : Option A) (a : A) → option_or o q ≡ Some a �
 or-some None q a h first second = second h
 or-some (Some x) q a h first second = first h
 
-module _ {P V : Type 0} (stands : Stands P V) (shortens : Shortens stands) where
-  all_stand-within : (ps : List P) (b : List ℕ) (v : V) (rest : List ℕ) (u : V) → all_stand stands ps b v ≡ Some (rest, u)
+module _ {P V : Type 0} (stands : PlaceParser P V) (shortens : Shortens stands) where
+  parse_places-within : (ps : List P) (b : List ℕ) (v : V) (rest : List ℕ) (u : V) → parse_places stands ps b v ≡ Some (rest, u)
       → length rest ≤ length b
-  all_stand-within [] b v rest u h = omega (arith, ap length (some_pair_parts b rest v u h).0)
-  all_stand-within (p ∷ ps) b v rest u h =
-      option_and_then_some (λ f. all_stand stands ps f.0 f.1) (stands p b v) (rest, u) h
-      (λ f e k. omega (arith, shortens p b v f.0 f.1 e, all_stand-within ps f.0 f.1 rest u k))
+  parse_places-within [] b v rest u h = omega (arith, ap length (some_pair_parts b rest v u h).0)
+  parse_places-within (p ∷ ps) b v rest u h =
+      option_and_then_some (λ f. parse_places stands ps f.0 f.1) (stands p b v) (rest, u) h
+      (λ f e k. omega (arith, shortens p b v f.0 f.1 e, parse_places-within ps f.0 f.1 rest u k))
 
   module _ (nothing : V) (kind : ExtendedKind) (b : List ℕ) where
     fits-within : (r : Row P) (t : Found V) → fits stands nothing r kind b ≡ Some t → length t.rest ≤ length b
     fits-within r t h =
         let found : (List ℕ × V) → Option (Found V) =
         λ f. when (r.follows f.0) (record { rest = f.0; value = f.1; kind = r.after kind }) in
-        let stood = if-some (r.before kind) (option_and_then found (all_stand stands r.text b nothing)) t h in
-        option_and_then_some found (all_stand stands r.text b nothing) t stood
+        let stood = if-some (r.before kind) (option_and_then found (parse_places stands r.text b nothing)) t h in
+        option_and_then_some found (parse_places stands r.text b nothing) t stood
         (λ f e k. omega (
           arith,
-          all_stand-within r.text b nothing f.0 f.1 e,
+          parse_places-within r.text b nothing f.0 f.1 e,
           ap (λ (x : Found V). length x.rest)
               (cond_some (r.follows f.0) (record { rest = f.0; value = f.1; kind = r.after kind }) t k).1,
         ))
@@ -211,10 +211,10 @@ pub offset_text-within : (kind : ExtendedKind) (b : List ℕ) (o : Found OffsetN
     → length o.rest ≤ length b
 unfolding offset_text
 offset_text-within kind b o h =
-    mapped numbers_found (first_fitting offsets.stands nothing_said offset_rows kind b) o h
+    mapped numbers_found (first_fitting offsets.stands no_offset_parts offset_rows kind b) o h
     (λ t e is. omega (
       arith,
-      first_fitting-within offsets.stands offset-within nothing_said kind b offset_rows t e,
+      first_fitting-within offsets.stands offset-within no_offset_parts kind b offset_rows t e,
       ap (λ (x : Found OffsetNumbers). length x.rest) is,
     ))
 
@@ -277,21 +277,21 @@ unfolding from_time
 time_joined needs_t kind b t m n is h k =
     rw is (joined m n (after_time t) (after_t needs_t kind b (byte 84 b)) h k)
 
-module _ (Y : ℕ) (b : List ℕ) (r : Record) where
+module _ (b : List ℕ) (r : Record) where
   pub no_date : (e : Refusal) (m n : Option Miss) → date_text b ≡ Err e → m ≡ furthest (rows_misses date_rows b)
-      → n ≡ furthest (without_date b) → further m n ≡ furthest (misses Y b r)
+      → n ≡ furthest (without_date b) → further m n ≡ furthest (misses b r)
   unfolding misses
   no_date e m n is h k = rw is (joined m n (rows_misses date_rows b) (without_date b) h k)
 
   pub great_date : (d : Found IsoDate) (name : List ℕ) (n : Option Miss) → date_text b ≡ Ok d
-      → put_or_fault Y (date_entries d.value) r ≡ Err (component name) → n ≡ furthest (without_date b)
-      → further (Some (missed (left_at_number d.kind d.value (length d.rest)) (named name))) n ≡ furthest (misses Y b r)
+      → put_or_fault greatest_year (date_entries d.value) r ≡ Err (component name) → n ≡ furthest (without_date b)
+      → further (Some (missed (left_at_number d.kind d.value (length d.rest)) (named name))) n ≡ furthest (misses b r)
   unfolding misses
   great_date d name n is put k =
       rw (is, put) (ap (λ x. further (Some (missed (left_at_number d.kind d.value (length d.rest)) (named name))) x) k)
 
   pub held_date : (d : Found IsoDate) (q : Record) (m : Option Miss) → date_text b ≡ Ok d
-      → put_or_fault Y (date_entries d.value) r ≡ Ok q → m ≡ furthest (from_time true d.kind d.rest) → m ≡ furthest (misses Y b r)
+      → put_or_fault greatest_year (date_entries d.value) r ≡ Ok q → m ≡ furthest (from_time true d.kind d.rest) → m ≡ furthest (misses b r)
   unfolding misses
   held_date d q m is put h = rw (is, put) h
 
@@ -301,7 +301,7 @@ Small (calendar y m d) = (1 ≤ d) × (d ≤ 31)
 Small (ordinal y d) = (1 ≤ d) × (d ≤ 366)
 Small (week y w d) = (1 ≤ w) × (w ≤ 53)
 
-pub held : (d : IsoDate) (r : Record) → IsYearHeld d → Small d → (q : Record) × (put_or_fault greatest_year (date_entries d) r ≡ Ok q)
+pub held : (d : IsoDate) (r : Record) → IsYearInRange d → Small d → (q : Record) × (put_or_fault greatest_year (date_entries d) r ≡ Ok q)
 held (calendar y m d) r year small = (
   put_here (day_is d) (put_here (month_is m) (put_here (year_is y) r)),
   rw (year, le-leb 1 d small.0, le-leb d 31 small.1) refl,

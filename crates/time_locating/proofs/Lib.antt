@@ -1,4 +1,5 @@
 pub mod MissLemmas
+pub mod StrictTexts
 pub mod TurnSteps
 pub mod MarkSteps
 pub mod Rfc3339Places

@@ -5,8 +5,8 @@ use Rattle.time_digits.specs.Digits.{Cut, IsDigitRun}
 use Rattle.time_digits.proofs.WordBytes.{IsUnique-cut}
 use Rattle.time_digits.proofs.Runs.{IsDigitRun-one}
 use Rattle.time_readers.specs.MailBlanks.{opt_cfws, opt_cfws_colon_opt_cfws}
-use Rattle.time_readers.specs.Readers.{Stand, Reader}
-use Rattle.time_readers.specs.Rfc2822.{Asks, FailsAt, IsWeekdayPart, IsYear, nothing_read, places}
+use Rattle.time_readers.specs.Readers.{MatchesPlaces, Reader}
+use Rattle.time_readers.specs.Rfc2822.{PlaceSyntax, FailsAt, IsWeekdayPart, IsYear, nothing_read, places}
 use Rattle.time_readers.specs.declared.rfc2822.Numbers.{Numbers}
 use Rattle.time_readers.specs.declared.rfc2822.Place.{Place}
 use Rattle.time_readers.specs.declared.rfc2822.Place.TheVariants.{WeekdayName, Day, DayBlanks, MonthName, MonthBlanks, Year, YearBlanks, Hour, HourColon, Minute, Second, TimeBlanks, OffsetHour, OffsetMinute, EndBlanks}
@@ -15,7 +15,7 @@ use Rattle.time_readers.proofs.OneMailDate.{MailAsks-unique}
 use Rattle.time_readers.proofs.Repeats.{Leaves}
 use Rattle.time_locating.specs.MailPlaces.{Agrees, rank}
 use Rattle.time_locating.specs.declared.rfc2822.Passed.{Passed}
-use Rattle.time_locating.specs.Rfc2822.{past, wanted_from}
+use Rattle.time_locating.specs.Rfc2822.{past, expected_from}
 use Rattle.time_locating.proofs.WholeTexts.{IsWithin}
 use Rattle.time_locating.proofs.Rfc3339Places.{RankedFrom, rank-before}
 
@@ -35,8 +35,8 @@ year_full s x rest w v true four cut =
 year_full s x rest w v false four cut = absurd (cut.2.0 four.0 x w (sym cut.1 ∙ four.1) four.2)
 
 -- the syntax of an equal place
-pub asked : (n m : Numbers) (s rest : List ℕ) (p q : Place) → p ≡ q → Cut (Asks true p n) s rest m → Cut (Asks true q n) s rest m
-asked n m s rest p q is = subst (λ x. Cut (Asks true x n) s rest m) is
+pub asked : (n m : Numbers) (s rest : List ℕ) (p q : Place) → p ≡ q → Cut (PlaceSyntax true p n) s rest m → Cut (PlaceSyntax true q n) s rest m
+asked n m s rest p q is = subst (λ x. Cut (PlaceSyntax true x n) s rest m) is
 
 -- a place that doesn't affect those after it
 pub kept : (n m k : Numbers) (passed : Passed) → m ≡ k → k.year_is_full ≡ n.year_is_full → is_some k.offset_sign ≡ is_some n.offset_sign
@@ -54,11 +54,11 @@ past-within : (p : Reader) → Leaves p → (b : List ℕ) → length (past p b)
 past-within p leaves b = past_answer p leaves b (p b) refl
 
 -- the expected text of a place begins in the bytes that are left there
-pub wanted_from-within : IsWithin wanted_from
-wanted_from-within WeekdayName b = omega (arith, past-within opt_cfws opt_cfws-leaves b, length-drop 3 (past opt_cfws b))
-wanted_from-within HourColon b = past-within opt_cfws opt_cfws-leaves b
-wanted_from-within Second b = past-within opt_cfws_colon_opt_cfws colon-leaves b
-wanted_from-within _ b = omega arith
+pub expected_from-within : IsWithin expected_from
+expected_from-within WeekdayName b = omega (arith, past-within opt_cfws opt_cfws-leaves b, length-drop 3 (past opt_cfws b))
+expected_from-within HourColon b = past-within opt_cfws opt_cfws-leaves b
+expected_from-within Second b = past-within opt_cfws_colon_opt_cfws colon-leaves b
+expected_from-within _ b = omega arith
 
 pub rank-below : (p : Place) → rank p < 15
 rank-below WeekdayName = omega arith
@@ -92,7 +92,7 @@ pub record Reached (bytes : List ℕ) (p : Place) (s : FailsAt true bytes p) (i 
   pub left : List Place
   pub numbers : Numbers
   pub ahead : drop i places ≡ left ++ p ∷ s.after
-  pub stand : Stand (Asks true) left numbers rest s.mid s.numbers
+  pub stand : MatchesPlaces (PlaceSyntax true) left numbers rest s.mid s.numbers
   pub agrees : Agrees numbers passed
 
 pub Reached-start : (bytes : List ℕ) (p : Place) (s : FailsAt true bytes p) (passed : Passed) → Agrees nothing_read passed
@@ -105,15 +105,15 @@ Reached-start bytes p s passed h = record {
   agrees = h;
 }
 
-stands_empty : (left : List Place) (n m : Numbers) (rest mid : List ℕ) → length left ≡ 0 → Stand (Asks true) left n rest mid m → rest ≡ mid
-unfolding Stand
+stands_empty : (left : List Place) (n m : Numbers) (rest mid : List ℕ) → length left ≡ 0 → MatchesPlaces (PlaceSyntax true) left n rest mid m → rest ≡ mid
+unfolding MatchesPlaces
 stands_empty [] n m rest mid none stand = sym stand.0
 stands_empty (x ∷ left) n m rest mid none stand = absurd (omega arith)
 
 -- the rest after a place, as it is returned, with what is known after it
 abbrev pub Answers : Place → List ℕ → Passed → Option (List ℕ) → Passed → Type 0
 Answers q rest passed found after =
-    (n m : Numbers) (mid : List ℕ) → Agrees n passed → Cut (Asks true q n) rest mid m → (found ≡ Some mid) × Agrees m after
+    (n m : Numbers) (mid : List ℕ) → Agrees n passed → Cut (PlaceSyntax true q n) rest mid m → (found ≡ Some mid) × Agrees m after
 
 -- the place is reached
 pub Reached-here : (bytes : List ℕ) (p : Place) (s : FailsAt true bytes p) (i : ℕ) (rest : List ℕ) (passed : Passed) → i ≡ rank p
@@ -124,10 +124,10 @@ Reached-here bytes p s i rest passed is r =
 
 module _ (bytes : List ℕ) (p : Place) (s : FailsAt true bytes p) (i : ℕ) (rest : List ℕ) (passed : Passed) (q : Place) (early : i < rank p) where
   further_on : (left : List Place) (n : Numbers) → drop i places ≡ q ∷ drop (suc i) places
-      → drop i places ≡ left ++ p ∷ s.after → Stand (Asks true) left n rest s.mid s.numbers → Agrees n passed
+      → drop i places ≡ left ++ p ∷ s.after → MatchesPlaces (PlaceSyntax true) left n rest s.mid s.numbers → Agrees n passed
       → (found : Option (List ℕ)) (after : Passed) → Answers q rest passed found after
       → (mid : List ℕ) × (found ≡ Some mid) × Reached bytes p s (suc i) mid after
-  unfolding Stand
+  unfolding MatchesPlaces
   further_on [] n here ahead stand h found after step =
       let many = rank-before rank i (drop i places) [] s.after p (ranked i) ahead in absurd (omega arith)
   further_on (x ∷ left) n here ahead stand h found after step =

@@ -1,4 +1,5 @@
--- What the misses of a tree determine. `Y` is the greatest year.
+-- What the misses of a tree determine.
+use Rattle.time_values.specs.Calendar.{greatest_year}
 use Rattle.std.proofs.Common.{◌≡◌, ℕ, ◌<◌, ◌≤◌, List, [], ◌∷◌, ◌++◌, Option, Some, None, All, Bool, true, false, nat_lt, if◌then◌else◌, refl, ap, sym, ◌∙◌, subst, inl, inr, arith, suc, ◌+◌, ◌⊎◌, length, take, drop, get_or, length-take, length-drop, min}
 use Rattle.std.proofs.lemmas.List.Elements.{All-append, All-cons}
 use Rattle.std.proofs.lemmas.Bool.Decides.{nat_tests}
@@ -6,7 +7,7 @@ use Rattle.std.proofs.lemmas.List.{at_drop_all, at_drop_more, drop_min, take_all
 use Rattle.time_values.specs.Refusal.{Refusal}
 use Rattle.time_components.specs.declared.format_description.Component.{Component}
 use Rattle.time_components.specs.declared.format_description.Component.TheVariants as named_
-use Rattle.time_components.specs.Tree.{Tree, Trees, literal, component, sequence, optional, first_of, none, more, group_tree, further as tree_further, steps_after, steps_trees, tree_at, trees_in}
+use Rattle.time_components.specs.Tree.{Tree, Trees, literal, component, sequence, optional, first_of, none, more, group_tree, further as tree_further, item_length, steps_after, steps_trees, tree_at, trees_in}
 use Rattle.time_components.specs.declared.inspect.Group.{Group}
 use Rattle.time_components.specs.declared.inspect.Step.{Step}
 use Rattle.time_components.specs.declared.inspect.Step.TheVariants as step
@@ -16,9 +17,9 @@ use Rattle.time_record.specs.Record.{Record}
 use Rattle.time_record.proofs.Unique.{Reads-unique}
 use Rattle.time_record.proofs.WalkSteps.{behind_first, behind_is, first_item, steps_trees-end}
 use Rattle.time_locating.specs.Laws.{FurthestLeavesFewest, OwnMissFirst, refusal_by}
-use Rattle.time_locating.specs.Misses.{Miss, Misses, MissesAll, MissesFirst, Telling, further, further_of, furthest, missed, these_bytes, wanted_by}
-use Rattle.time_preparing.specs.Walk.{item_length}
-use Rattle.time_preparing.proofs.Rows.{item_after, item_alone}
+use Rattle.time_locating.specs.Misses.{Miss, Misses, MissesAll, MissesFirst, LiteralReport, further, further_of, furthest, missed, these_bytes, expected_by}
+use Rattle.time_components.proofs.StepLemmas.{item_after}
+use Rattle.time_preparing.proofs.Rows.{item_alone}
 use Rattle.time_locating.specs.StepRows.{IsSplit}
 use Rattle.time_locating.proofs.TurnSteps.{literal_cases}
 use Rattle.time_locating.proofs.MarkSteps.{no_furthest}
@@ -34,42 +35,42 @@ begins-is : (ms ns : List Miss) (e : Refusal) → ms ≡ ns → BeginsWith ns e 
 begins-is ms ns e is h = subst (λ xs. BeginsWith xs e) (sym is) h
 
 -- what a component expects determines its error
-told_component : (c : Component) → refusal_by (wanted_by c) ≡ component_fault c
+told_component : (c : Component) → refusal_by (expected_by c) ≡ component_fault c
 told_component (named_.Day m) = refl
 told_component _ = refl
 
 mutual
   unfolding Misses MissesAll MissesFirst Reads ReadsAll ReadsSome IsFault IsFaultAll
 
-  own : (Y : ℕ) (told : Telling) (t : Tree) (b : List ℕ) (r : Record) (e : Refusal) (ms : List Miss) → NoReading Y t b r →
-      IsFault Y t b r e → Misses Y told t b r ms → BeginsWith ms e
-  own Y told (literal x) b r e ms unread f h =
+  own : (told : LiteralReport) (t : Tree) (b : List ℕ) (r : Record) (e : Refusal) (ms : List Miss) → NoReading greatest_year t b r →
+      IsFault greatest_year t b r e → Misses told t b r ms → BeginsWith ms e
+  own told (literal x) b r e ms unread f h =
       elim (literal_cases told x b) [
         | inl there ↦ absurd (unread there.0.0 r (there.0.1, refl))
         | inr m ↦ (missed m.left (these_bytes m.wanted), [], h ∙ m.is, sym f)
       ]
-  own Y told (component w c) b r e ms unread f (inl h) = absurd (unread h.0.0 h.0.1 h.0.2)
-  own Y told (component w c) b r e ms unread f (inr h) = (_, [], h.1, told_component c ∙ sym f)
-  own Y told (sequence ts) b r e ms unread f h = own-all Y told ts b r e ms f h
-  own Y told (optional t) b r e ms unread f h = absurd f
-  own Y told (first_of none) b r e ms unread f h = absurd f
-  own Y told (first_of (more t ts)) b r e ms unread f (i, h, inl (x, q, s, is)) = absurd (unread x q (inl s))
-  own Y told (first_of (more t ts)) b r e ms unread f (i, h, inr (s, later, ks, is)) =
-      begins-is ms (i ++ later) e is (begins-append i later e (own Y told t b r e i s f h))
+  own told (component w c) b r e ms unread f (inl h) = absurd (unread h.0.0 h.0.1 h.0.2)
+  own told (component w c) b r e ms unread f (inr h) = (_, [], h.1, told_component c ∙ sym f)
+  own told (sequence ts) b r e ms unread f h = own-all told ts b r e ms f h
+  own told (optional t) b r e ms unread f h = absurd f
+  own told (first_of none) b r e ms unread f h = absurd f
+  own told (first_of (more t ts)) b r e ms unread f (i, h, inl (x, q, s, is)) = absurd (unread x q (inl s))
+  own told (first_of (more t ts)) b r e ms unread f (i, h, inr (s, later, ks, is)) =
+      begins-is ms (i ++ later) e is (begins-append i later e (own told t b r e i s f h))
 
-  own-all : (Y : ℕ) (told : Telling) (ts : Trees) (b : List ℕ) (r : Record) (e : Refusal) (ms : List Miss) → IsFaultAll Y ts b r e →
-      MissesAll Y told ts b r ms → BeginsWith ms e
-  own-all Y told none b r e ms f h = absurd f
-  own-all Y told (more t ts) b r e ms (inl f) (i, h, inl hs) = begins-is ms i e hs.1 (own Y told t b r e i f.0 f.1 h)
-  own-all Y told (more t ts) b r e ms (inl f) (i, h, inr (mid, q, s, later, ks, is)) = absurd (f.0 mid q s)
-  own-all Y told (more t ts) b r e ms (inr f) (i, h, inl hs) = absurd (hs.0 f.0 f.1 f.2)
-  own-all Y told (more t ts) b r e ms (inr (x, p, u, fs)) (i, h, inr (mid, q, s, later, ks, is)) =
-      let one = Reads-unique Y t b r x p mid q u s in
-      let there = subst (λ o. IsFaultAll Y ts mid o e) one.1 (subst (λ z. IsFaultAll Y ts z p e) one.0 fs) in
-      begins-is ms (later ++ i) e is (begins-append later i e (own-all Y told ts mid q e later there ks))
+  own-all : (told : LiteralReport) (ts : Trees) (b : List ℕ) (r : Record) (e : Refusal) (ms : List Miss) → IsFaultAll greatest_year ts b r e →
+      MissesAll told ts b r ms → BeginsWith ms e
+  own-all told none b r e ms f h = absurd f
+  own-all told (more t ts) b r e ms (inl f) (i, h, inl hs) = begins-is ms i e hs.1 (own told t b r e i f.0 f.1 h)
+  own-all told (more t ts) b r e ms (inl f) (i, h, inr (mid, q, s, later, ks, is)) = absurd (f.0 mid q s)
+  own-all told (more t ts) b r e ms (inr f) (i, h, inl hs) = absurd (hs.0 f.0 f.1 f.2)
+  own-all told (more t ts) b r e ms (inr (x, p, u, fs)) (i, h, inr (mid, q, s, later, ks, is)) =
+      let one = Reads-unique greatest_year t b r x p mid q u s in
+      let there = subst (λ o. IsFaultAll greatest_year ts mid o e) one.1 (subst (λ z. IsFaultAll greatest_year ts z p e) one.0 fs) in
+      begins-is ms (later ++ i) e is (begins-append later i e (own-all told ts mid q e later there ks))
 
 pub own_miss_first : OwnMissFirst
-own_miss_first Y told t b r e ms refused h = own Y told t b r e ms refused.unread refused.fault h
+own_miss_first told t b r e ms refused h = own told t b r e ms refused.unread refused.fault h
 
 -- such a miss is in the list, and those before it leave more bytes and those after it no fewer
 abbrev FoundIn : List Miss → Miss → Type 0

@@ -3,12 +3,12 @@ use Rattle.std.proofs.Common.{◌≡◌, ℕ, suc, ◌+◌, List, [], ◌∷◌,
 use Rattle.std.proofs.lemmas.List.{take_at, drop_at, length-take-le, take-append-drop}
 use Rattle.time_digits.specs.Digits.{IsByteIgnoringCase, Cut, NoCut, AllDigits, IsDigitRun, NoDigitFirst}
 use Rattle.time_digits.proofs.Runs.{AllDigits-unique}
-use Rattle.time_readers.specs.Readers.{Format, Stand, StopsAt}
-use Rattle.time_readers.specs.Rfc3339.{Asks, FailsAt, IsOffsetColon, IsOffsetMinute, IsSubsecond, places, nothing_read}
+use Rattle.time_readers.specs.Readers.{Format, MatchesPlaces, StopsAt}
+use Rattle.time_readers.specs.Rfc3339.{PlaceSyntax, FailsAt, IsOffsetColon, IsOffsetMinute, IsSubsecond, places, nothing_read}
 use Rattle.time_readers.specs.declared.rfc3339.Numbers.{Numbers}
 use Rattle.time_readers.specs.declared.rfc3339.Place.{Place}
 use Rattle.time_readers.specs.declared.rfc3339.Place.TheVariants.{Year, YearDash, Month, MonthDash, Day, Separator, Hour, HourColon, Minute, MinuteColon, Second, Subsecond, OffsetHour, OffsetColon, OffsetMinute}
-use Rattle.time_readers.proofs.Walking.{Stand-ends, Stand-split}
+use Rattle.time_readers.proofs.Walking.{MatchesPlaces-ends, MatchesPlaces-split}
 
 -- ---- Which place doesn't match, if the places have ranks
 
@@ -28,12 +28,12 @@ rank-before rank k ps (q ∷ before) after p ranked is =
 
 -- the places before the one that doesn't match
 pub stands-before : {P N : Type 0} (A : Format P N) (rank : P → ℕ) (ps : List P) (n : N) (bytes : List ℕ) (p : P)
-    → RankedFrom rank 0 ps → (s : StopsAt A ps n bytes p) → Stand A (take (rank p) ps) n bytes s.mid s.numbers
+    → RankedFrom rank 0 ps → (s : StopsAt A ps n bytes p) → MatchesPlaces A (take (rank p) ps) n bytes s.mid s.numbers
 stands-before A rank ps n bytes p ranked s =
     let many : length s.before ≡ rank p = omega (arith, rank-before rank 0 ps s.before s.after p ranked s.place) in
     let same : s.before ≡ take (rank p) ps =
     sym (take_at s.before (p ∷ s.after) (rank p) many) ∙ ap (take (rank p)) (sym s.place) in
-    subst (λ qs. Stand A qs n bytes s.mid s.numbers) same s.stand
+    subst (λ qs. MatchesPlaces A qs n bytes s.mid s.numbers) same s.stand
 
 -- its position among the places
 abbrev pub rank : Place → ℕ
@@ -53,9 +53,10 @@ rank OffsetHour = 12
 rank OffsetColon = 13
 rank OffsetMinute = 14
 
-rfc3339_before : (bytes : List ℕ) (p : Place) (s : FailsAt true bytes p) → Stand (Asks true) (take (rank p) places) nothing_read bytes s.mid s.numbers
+rfc3339_before : (bytes : List ℕ) (p : Place) (s : FailsAt true bytes p)
+    → MatchesPlaces (PlaceSyntax true) (take (rank p) places) nothing_read bytes s.mid s.numbers
 rfc3339_before bytes p s =
-    stands-before (Asks true) rank places nothing_read bytes p
+    stands-before (PlaceSyntax true) rank places nothing_read bytes p
     (refl, (refl, (refl, (refl, (refl, (refl, (refl, (refl, (refl, (refl, (refl, (refl, (refl, (refl, (refl, tt))))))))))))))) s
 
 -- how many bytes the text of a place takes; `None` if the number varies
@@ -84,7 +85,7 @@ widths (p ∷ ps) = both (width p) (widths ps)
 pub run_length : (n : ℕ) (text after : List ℕ) (v : ℕ) → IsDigitRun n n text after v → length text ≡ n
 run_length n text after v run = omega (arith, run.enough, run.within)
 
-asks-width : (p : Place) (n m : Numbers) (text after : List ℕ) → Asks true p n text after m → IfSome (width p) (λ k. length text ≡ k)
+asks-width : (p : Place) (n m : Numbers) (text after : List ℕ) → PlaceSyntax true p n text after m → IfSome (width p) (λ k. length text ≡ k)
 asks-width Year n m text after a = run_length 4 text after a.0 a.1
 asks-width YearDash n m text after a = ap length a.0
 asks-width Month n m text after a = run_length 2 text after a.0 a.1.0
@@ -106,9 +107,9 @@ parted None b k is = cc
 parted (Some x) None k is = cc
 parted (Some x) (Some y) k is = (x, y, refl, refl, cc)
 
-stand-widths : (ps : List Place) (k : ℕ) (n m : Numbers) (bytes rest : List ℕ) → widths ps ≡ Some k → Stand (Asks true) ps n bytes rest m
+stand-widths : (ps : List Place) (k : ℕ) (n m : Numbers) (bytes rest : List ℕ) → widths ps ≡ Some k → MatchesPlaces (PlaceSyntax true) ps n bytes rest m
     → k + length rest ≡ length bytes
-unfolding Stand
+unfolding MatchesPlaces
 stand-widths [] k n m bytes rest is s = let same = ap length s.0 in let none : 0 ≡ k = cc in omega arith
 stand-widths (p ∷ ps) k n m bytes rest is s =
     let parts = parted (width p) (widths ps) k is in
@@ -161,11 +162,11 @@ record AfterSecond (bytes mid : List ℕ) : Type 0 where
   whole : 19 + length (text ++ mid) ≡ length bytes
   tail : drop 19 bytes ≡ text ++ mid
 
-after_second : (n m : Numbers) (bytes mid : List ℕ) → Stand (Asks true) (take 12 places) nothing_read bytes mid m → AfterSecond bytes mid
-unfolding Stand
+after_second : (n m : Numbers) (bytes mid : List ℕ) → MatchesPlaces (PlaceSyntax true) (take 12 places) nothing_read bytes mid m → AfterSecond bytes mid
+unfolding MatchesPlaces
 after_second n m bytes mid s =
-    let parts = Stand-split (Asks true) (take 11 places) (Subsecond ∷ []) nothing_read m bytes mid s in
-    let ends = Stand-ends (Asks true) (take 11 places) nothing_read parts.1.0 bytes parts.0 parts.1.1 in
+    let parts = MatchesPlaces-split (PlaceSyntax true) (take 11 places) (Subsecond ∷ []) nothing_read m bytes mid s in
+    let ends = MatchesPlaces-ends (PlaceSyntax true) (take 11 places) nothing_read parts.1.0 bytes parts.0 parts.1.1 in
     let long = stand-widths (take 11 places) 19 nothing_read parts.1.0 bytes parts.0 refl parts.1.1 in
     let sub = parts.1.2 in
     let cut = sub.2 in
@@ -180,7 +181,7 @@ after_second n m bytes mid s =
       tail = ap (drop 19) ends.1 ∙ drop_at ends.0 parts.0 19 front ∙ here;
     }
 
-offset_hour : (n k : Numbers) (bytes mid : List ℕ) → Cut (Asks true OffsetHour n) bytes mid k → (k.is_utc ≡ true → ⊥)
+offset_hour : (n k : Numbers) (bytes mid : List ℕ) → Cut (PlaceSyntax true OffsetHour n) bytes mid k → (k.is_utc ≡ true → ⊥)
     → length bytes ≡ 3 + length mid
 offset_hour n k bytes mid (text, is, inl zulu) signed = absurd (signed (ap (λ (x : Numbers). x.is_utc) zulu.1))
 offset_hour n k bytes mid (text, is, inr hour) signed =
@@ -189,10 +190,10 @@ offset_hour n k bytes mid (text, is, inr hour) signed =
     let run = run_length 2 hour.digits mid hour.hour hour.run.0 in
     omega arith
 
-colon_stands : (n : Numbers) (bytes : List ℕ) → NoCut (Asks true OffsetColon n) bytes → n.is_utc ≡ true → ⊥
+colon_stands : (n : Numbers) (bytes : List ℕ) → NoCut (PlaceSyntax true OffsetColon n) bytes → n.is_utc ≡ true → ⊥
 colon_stands n bytes none is = none [] bytes n refl (subst (λ b. IsOffsetColon b []) (sym is) refl, refl)
 
-minute_stands : (n : Numbers) (bytes : List ℕ) → NoCut (Asks true OffsetMinute n) bytes → n.is_utc ≡ true → ⊥
+minute_stands : (n : Numbers) (bytes : List ℕ) → NoCut (PlaceSyntax true OffsetMinute n) bytes → n.is_utc ≡ true → ⊥
 minute_stands n bytes none is =
     none [] bytes n refl (subst (λ b. IsOffsetMinute true b n [] bytes n) (sym is) (refl, refl))
 
@@ -217,9 +218,11 @@ offset_hour_at bytes fraction len s =
 
 offset_colon_at : (bytes : List ℕ) (fraction : ℕ) → AfterFraction bytes fraction → (s : FailsAt true bytes OffsetColon)
     → 19 + fraction + 3 + length s.mid ≡ length bytes
-unfolding Stand
+unfolding MatchesPlaces
 offset_colon_at bytes fraction len s =
-    let parts = Stand-split (Asks true) (take 12 places) (OffsetHour ∷ []) nothing_read s.numbers bytes s.mid (rfc3339_before bytes OffsetColon s) in
+    let parts =
+    MatchesPlaces-split (PlaceSyntax true) (take 12 places) (OffsetHour ∷ []) nothing_read s.numbers bytes s.mid
+    (rfc3339_before bytes OffsetColon s) in
     let hour = parts.1.2 in
     let after : hour.0 ≡ s.mid = sym hour.3.0 in
     let numbers : hour.1 ≡ s.numbers = sym hour.3.1 in
@@ -230,10 +233,10 @@ offset_colon_at bytes fraction len s =
 
 offset_minute_at : (bytes : List ℕ) (fraction : ℕ) → AfterFraction bytes fraction → (s : FailsAt true bytes OffsetMinute)
     → 19 + fraction + 4 + length s.mid ≡ length bytes
-unfolding Stand
+unfolding MatchesPlaces
 offset_minute_at bytes fraction len s =
     let before = rfc3339_before bytes OffsetMinute s in
-    let parts = Stand-split (Asks true) (take 12 places) (OffsetHour ∷ OffsetColon ∷ []) nothing_read s.numbers bytes s.mid before in
+    let parts = MatchesPlaces-split (PlaceSyntax true) (take 12 places) (OffsetHour ∷ OffsetColon ∷ []) nothing_read s.numbers bytes s.mid before in
     let hour = parts.1.2 in
     let colon = hour.3 in
     let after : colon.0 ≡ s.mid = sym colon.3.0 in
@@ -263,7 +266,7 @@ at_offset_minute bytes fraction len p is =
     subst (λ x. (s : FailsAt true bytes x) → 19 + fraction + 4 + length s.mid ≡ length bytes) (sym is) (offset_minute_at bytes fraction len)
 
 -- a sign and an hour, without `Z`
-pub signed_hour : (n m : Numbers) (b rest : List ℕ) → NoCut (IsByteIgnoringCase 90) b → Cut (Asks true OffsetHour n) b rest m
+pub signed_hour : (n m : Numbers) (b rest : List ℕ) → NoCut (IsByteIgnoringCase 90) b → Cut (PlaceSyntax true OffsetHour n) b rest m
     → (text : List ℕ) × (b ≡ text ++ rest) × (length text ≡ 3) × (m.is_utc ≡ n.is_utc)
 signed_hour n m b rest none (text, is, inl zulu) = absurd (none text rest tt is zulu.0)
 signed_hour n m b rest none (text, is, inr hour) = (

@@ -1,4 +1,5 @@
--- How the readings and misses of a sequence follow from those of its beginnings. `Y` is the greatest year.
+-- How the readings and misses of a sequence follow from those of its beginnings.
+use Rattle.time_values.specs.Calendar.{greatest_year}
 use Rattle.std.proofs.Common.{◌≡◌, ℕ, ◌≤◌, List, [], ◌∷◌, ◌++◌, Option, Some, None, true, false, nat_lt, if◌then◌else◌, refl, ap, sym, ◌∙◌, arith, length, map, subst, inl, inr, ◌≢◌, ◌⊎◌, eq-eqb, Bool, Bor, unwrap_or}
 use Rattle.std.proofs.lemmas.Bool.Decides.{nat_tests, eqb_tells}
 use Rattle.std.proofs.lemmas.Bool.{ne_eqb}
@@ -12,7 +13,7 @@ use Rattle.time_record.specs.Reading.{NoReading, Reads, ReadsSome, NoReadingAll,
 use Rattle.time_record.specs.Record.{Record}
 use Rattle.time_record.specs.WalkSteps.{Attempts}
 use Rattle.time_record.proofs.Unique.{first_of-some, NoReadingSome, NoReadingSome-more, NoReadingSome-none, ReadsSome-here, ReadsSome-later, ReadsAll-more, Reads-unique}
-use Rattle.time_locating.specs.Misses.{Miss, further, further_of, furthest, IsFurthest, Misses, MissesFirst, Telling, MissesAll, literal_misses, missed, these_bytes, wanted_of}
+use Rattle.time_locating.specs.Misses.{Miss, further, further_of, furthest, IsFurthest, Misses, MissesFirst, LiteralReport, MissesAll, literal_misses, missed, these_bytes, expected_of}
 
 -- ---- The furthest of some misses
 
@@ -45,19 +46,18 @@ further-leaves most (Some m) None h k = h
 further-leaves most (Some m) (Some n) h k =
     elim (nat_lt n.left m.left) as (λ v. (if v then n else m).left ≤ most) [ true ↦ k | false ↦ h ]
 
--- ---- How the readings and misses of alternatives follow from the misses of those before them. `Y` is the greatest
--- year.
+-- ---- How the readings and misses of alternatives follow from the misses of those before them
 
 -- The readings and misses of the alternatives that are left are those of all of them: no alternative before them
 -- matches, and the furthest of their misses is kept.
-pub record Passes (Y : ℕ) (told : Telling) (all left : Trees) (b : List ℕ) (r now : Record) (kept : Option Miss) : Type 0 where
+pub record Passes (told : LiteralReport) (all left : Trees) (b : List ℕ) (r now : Record) (kept : Option Miss) : Type 0 where
   pub same : now ≡ r
-  pub reads : (rest : List ℕ) (q : Record) → ReadsSome Y left b r rest q → ReadsSome Y all b r rest q
-  pub unread : NoReadingSome Y left b r → NoReadingSome Y all b r
-  pub misses : (ms : List Miss) → MissesFirst Y told left b r ms → IsFurthest (MissesFirst Y told all b r) (further kept (furthest ms))
+  pub reads : (rest : List ℕ) (q : Record) → ReadsSome greatest_year left b r rest q → ReadsSome greatest_year all b r rest q
+  pub unread : NoReadingSome greatest_year left b r → NoReadingSome greatest_year all b r
+  pub misses : (ms : List Miss) → MissesFirst told left b r ms → IsFurthest (MissesFirst told all b r) (further kept (furthest ms))
 
-pub Passes-start : (Y : ℕ) (told : Telling) (all : Trees) (b : List ℕ) (r : Record) → Passes Y told all all b r r None
-Passes-start Y told all b r = record {
+pub Passes-start : (told : LiteralReport) (all : Trees) (b : List ℕ) (r : Record) → Passes told all all b r r None
+Passes-start told all b r = record {
   same = refl;
   reads = λ rest q h. h;
   unread = λ h. h;
@@ -65,50 +65,50 @@ Passes-start Y told all b r = record {
 }
 
 -- one or more alternatives that don't match
-first_of-unread : (Y : ℕ) (ts : Trees) (b : List ℕ) (r : Record) → (ts ≡ none → ⊥) → NoReadingSome Y ts b r → NoReading Y (first_of ts) b r
+first_of-unread : (ts : Trees) (b : List ℕ) (r : Record) → (ts ≡ none → ⊥) → NoReadingSome greatest_year ts b r → NoReading greatest_year (first_of ts) b r
 unfolding Reads ReadsSome
-first_of-unread Y none b r some h = absurd (some refl)
-first_of-unread Y (more t ts) b r some h = h
+first_of-unread none b r some h = absurd (some refl)
+first_of-unread (more t ts) b r some h = h
 
-first_of-nothing : (Y : ℕ) (ts : Trees) (b : List ℕ) (r : Record) → ts ≡ none → Reads Y (first_of ts) b r b r
+first_of-nothing : (ts : Trees) (b : List ℕ) (r : Record) → ts ≡ none → Reads greatest_year (first_of ts) b r b r
 unfolding Reads
-first_of-nothing Y none b r is = (refl, refl)
-first_of-nothing Y (more t ts) b r is = let clash : more t ts ≡ none = is in cc
+first_of-nothing none b r is = (refl, refl)
+first_of-nothing (more t ts) b r is = let clash : more t ts ≡ none = is in cc
 
-module _ {Y : ℕ} {told : Telling} {all left : Trees} {b : List ℕ} {r now : Record} {kept : Option Miss}
-    (f : Passes Y told all left b r now kept) where
+module _ {told : LiteralReport} {all left : Trees} {b : List ℕ} {r now : Record} {kept : Option Miss}
+    (f : Passes told all left b r now kept) where
   module _ (t : Tree) (ts : Trees) (is : left ≡ more t ts) where
     -- the next one matches
-    pub Passes-reads : (rest : List ℕ) (q : Record) → Reads Y t b now rest q → Reads Y (first_of all) b r rest q
+    pub Passes-reads : (rest : List ℕ) (q : Record) → Reads greatest_year t b now rest q → Reads greatest_year (first_of all) b r rest q
     Passes-reads rest q h =
-        let read = subst (λ p. Reads Y t b p rest q) f.same h in
-        let some = ReadsSome-here Y t ts b r rest q read in
-        first_of-some Y b r all rest q (f.reads rest q (subst (λ us. ReadsSome Y us b r rest q) (sym is) some))
+        let read = subst (λ p. Reads greatest_year t b p rest q) f.same h in
+        let some = ReadsSome-here greatest_year t ts b r rest q read in
+        first_of-some greatest_year b r all rest q (f.reads rest q (subst (λ us. ReadsSome greatest_year us b r rest q) (sym is) some))
 
-    module _ {missed : Option Miss} (m : IsFurthest (Misses Y told t b now) missed) where
-      pub Passes-misses : (rest : List ℕ) (q : Record) → Reads Y t b now rest q → IsFurthest (MissesFirst Y told all b r) (further kept missed)
+    module _ {missed : Option Miss} (m : IsFurthest (Misses told t b now) missed) where
+      pub Passes-misses : (rest : List ℕ) (q : Record) → Reads greatest_year t b now rest q → IsFurthest (MissesFirst told all b r) (further kept missed)
       unfolding MissesFirst
       Passes-misses rest q h =
-          let read = subst (λ p. Reads Y t b p rest q) f.same h in
-          let misses = subst (λ p. Misses Y told t b p m.0) f.same m.1 in
-          let here = subst (λ us. MissesFirst Y told us b r m.0) (sym is) (m.0, misses, inl (rest, q, read, refl)) in
+          let read = subst (λ p. Reads greatest_year t b p rest q) f.same h in
+          let misses = subst (λ p. Misses told t b p m.0) f.same m.1 in
+          let here = subst (λ us. MissesFirst told us b r m.0) (sym is) (m.0, misses, inl (rest, q, read, refl)) in
           let end = f.misses m.0 here in
           (end.0, end.1, ap (λ n. further kept n) m.2 ∙ end.2)
 
       -- the next one doesn't match
-      pub Passes-unread : {now' : Record} → NoReading Y t b now → now' ≡ now → Passes Y told all ts b r now' (further kept missed)
+      pub Passes-unread : {now' : Record} → NoReading greatest_year t b now → now' ≡ now → Passes told all ts b r now' (further kept missed)
       unfolding MissesFirst
       Passes-unread h stays =
-          let unread = subst (λ p. NoReading Y t b p) f.same h in
-          let misses = subst (λ p. Misses Y told t b p m.0) f.same m.1 in
+          let unread = subst (λ p. NoReading greatest_year t b p) f.same h in
+          let misses = subst (λ p. Misses told t b p m.0) f.same m.1 in
           record {
             same = stays ∙ f.same;
             reads = λ rest q x.
-                let some = ReadsSome-later Y t ts b r rest q unread x in
-                f.reads rest q (subst (λ us. ReadsSome Y us b r rest q) (sym is) some);
-            unread = λ x. f.unread (subst (λ us. NoReadingSome Y us b r) (sym is) (NoReadingSome-more Y t ts b r unread x));
+                let some = ReadsSome-later greatest_year t ts b r rest q unread x in
+                f.reads rest q (subst (λ us. ReadsSome greatest_year us b r rest q) (sym is) some);
+            unread = λ x. f.unread (subst (λ us. NoReadingSome greatest_year us b r) (sym is) (NoReadingSome-more greatest_year t ts b r unread x));
             misses = λ ms x.
-                let here = subst (λ us. MissesFirst Y told us b r (m.0 ++ ms)) (sym is) (m.0, misses, inr (unread, ms, x, refl)) in
+                let here = subst (λ us. MissesFirst told us b r (m.0 ++ ms)) (sym is) (m.0, misses, inr (unread, ms, x, refl)) in
                 let end = f.misses (m.0 ++ ms) here in (
                   end.0,
                   end.1,
@@ -120,19 +120,19 @@ module _ {Y : ℕ} {told : Telling} {all left : Trees} {b : List ℕ} {r now : R
           }
 
   -- no alternative is left
-  pub Passes-kept : left ≡ none → IsFurthest (MissesFirst Y told all b r) kept
+  pub Passes-kept : left ≡ none → IsFurthest (MissesFirst told all b r) kept
   unfolding MissesFirst
   Passes-kept is =
-      let end = f.misses [] (subst (λ ts. MissesFirst Y told ts b r []) (sym is) refl) in
+      let end = f.misses [] (subst (λ ts. MissesFirst told ts b r []) (sym is) refl) in
       (end.0, end.1, sym (further-none kept) ∙ end.2)
 
-  pub Passes-nothing : left ≡ none → (all ≡ none → ⊥) → NoReading Y (first_of all) b r
+  pub Passes-nothing : left ≡ none → (all ≡ none → ⊥) → NoReading greatest_year (first_of all) b r
   Passes-nothing is some =
-      first_of-unread Y all b r some (f.unread (subst (λ us. NoReadingSome Y us b r) (sym is) (NoReadingSome-none Y b r)))
+      first_of-unread all b r some (f.unread (subst (λ us. NoReadingSome greatest_year us b r) (sym is) (NoReadingSome-none greatest_year b r)))
 
   -- there was no alternative
-  pub Passes-none : all ≡ none → Reads Y (first_of all) b r b now
-  Passes-none is = rw f.same (first_of-nothing Y all b r is)
+  pub Passes-none : all ≡ none → Reads greatest_year (first_of all) b r b now
+  Passes-none is = rw f.same (first_of-nothing all b r is)
 
 pub some_trees : {X : Type 0} (f : X → Tree) (xs : List X) → (length xs ≡ 0 → ⊥) → trees (map f xs) ≡ none → ⊥
 some_trees f [] some is = some refl
@@ -142,43 +142,44 @@ pub no_trees : {X : Type 0} (f : X → Tree) (xs : List X) → length xs ≡ 0 �
 no_trees f [] is = refl
 no_trees f (x ∷ xs) is = absurd (omega arith)
 
-module _ (Y : ℕ) (t : Tree) (ts : Trees) (b : List ℕ) (r : Record) where
-  pub NoReadingAll-here : NoReading Y t b r → NoReadingAll Y (more t ts) b r
+module _ (t : Tree) (ts : Trees) (b : List ℕ) (r : Record) where
+  pub NoReadingAll-here : NoReading greatest_year t b r → NoReadingAll greatest_year (more t ts) b r
   unfolding ReadsAll
   NoReadingAll-here h = λ rest q k. h k.0 k.1 k.2
 
-  pub NoReadingAll-more : (mid : List ℕ) (q : Record) → Reads Y t b r mid q → NoReadingAll Y ts mid q → NoReadingAll Y (more t ts) b r
+  pub NoReadingAll-more : (mid : List ℕ) (q : Record) → Reads greatest_year t b r mid q → NoReadingAll greatest_year ts mid q → NoReadingAll greatest_year
+      (more t ts) b r
   unfolding ReadsAll
   NoReadingAll-more mid q h hs = λ rest p k.
-      let is = Reads-unique Y t b r k.0 k.1 mid q k.2 h in
-      hs rest p (subst (λ s. ReadsAll Y ts s q rest p) is.0 (subst (λ o. ReadsAll Y ts k.0 o rest p) is.1 k.3))
+      let is = Reads-unique greatest_year t b r k.0 k.1 mid q k.2 h in
+      hs rest p (subst (λ s. ReadsAll greatest_year ts s q rest p) is.0 (subst (λ o. ReadsAll greatest_year ts k.0 o rest p) is.1 k.3))
 
 -- The readings and misses of the trees that are left are those of all of them: those before them were read, and the
 -- furthest of their misses is kept.
-pub record Follows (Y : ℕ) (told : Telling) (all : Trees) (b0 : List ℕ) (r0 : Record) (left : Trees) (b : List ℕ) (r : Record)
+pub record Follows (told : LiteralReport) (all : Trees) (b0 : List ℕ) (r0 : Record) (left : Trees) (b : List ℕ) (r : Record)
     (kept : Option Miss) : Type 0 where
-  pub reads : (rest : List ℕ) (q : Record) → ReadsAll Y left b r rest q → ReadsAll Y all b0 r0 rest q
-  pub unread : NoReadingAll Y left b r → NoReadingAll Y all b0 r0
-  pub misses : (ms : List Miss) → MissesAll Y told left b r ms → IsFurthest (MissesAll Y told all b0 r0) (further (furthest ms) kept)
+  pub reads : (rest : List ℕ) (q : Record) → ReadsAll greatest_year left b r rest q → ReadsAll greatest_year all b0 r0 rest q
+  pub unread : NoReadingAll greatest_year left b r → NoReadingAll greatest_year all b0 r0
+  pub misses : (ms : List Miss) → MissesAll told left b r ms → IsFurthest (MissesAll told all b0 r0) (further (furthest ms) kept)
 
-pub Follows-start : (Y : ℕ) (told : Telling) (all : Trees) (b : List ℕ) (r : Record) → Follows Y told all b r all b r None
-Follows-start Y told all b r = record {
+pub Follows-start : (told : LiteralReport) (all : Trees) (b : List ℕ) (r : Record) → Follows told all b r all b r None
+Follows-start told all b r = record {
   reads = λ rest q h. h;
   unread = λ h. h;
   misses = λ ms h. (ms, h, further-none (furthest ms));
 }
 
-module _ {Y : ℕ} {told : Telling} {all : Trees} {b0 : List ℕ} {r0 : Record} {left : Trees} {b : List ℕ} {r : Record} {kept : Option Miss}
-    (f : Follows Y told all b0 r0 left b r kept) where
-  module _ (t : Tree) (ts : Trees) (is : left ≡ more t ts) {missed : Option Miss} (m : IsFurthest (Misses Y told t b r) missed) where
+module _ {told : LiteralReport} {all : Trees} {b0 : List ℕ} {r0 : Record} {left : Trees} {b : List ℕ} {r : Record} {kept : Option Miss}
+    (f : Follows told all b0 r0 left b r kept) where
+  module _ (t : Tree) (ts : Trees) (is : left ≡ more t ts) {missed : Option Miss} (m : IsFurthest (Misses told t b r) missed) where
     -- the next tree is read
-    pub Follows-reads : {mid : List ℕ} {q : Record} → Reads Y t b r mid q → Follows Y told all b0 r0 ts mid q (further missed kept)
+    pub Follows-reads : {mid : List ℕ} {q : Record} → Reads greatest_year t b r mid q → Follows told all b0 r0 ts mid q (further missed kept)
     unfolding MissesAll
     Follows-reads {mid} {q} h = record {
-      reads = λ rest p x. f.reads rest p (subst (λ us. ReadsAll Y us b r rest p) (sym is) (ReadsAll-more Y t ts b r mid q rest p h x));
-      unread = λ x. f.unread (subst (λ us. NoReadingAll Y us b r) (sym is) (NoReadingAll-more Y t ts b r mid q h x));
+      reads = λ rest p x. f.reads rest p (subst (λ us. ReadsAll greatest_year us b r rest p) (sym is) (ReadsAll-more greatest_year t ts b r mid q rest p h x));
+      unread = λ x. f.unread (subst (λ us. NoReadingAll greatest_year us b r) (sym is) (NoReadingAll-more t ts b r mid q h x));
       misses = λ ms x.
-          let here = subst (λ us. MissesAll Y told us b r (ms ++ m.0)) (sym is) (m.0, m.1, inr (mid, q, h, ms, x, refl)) in
+          let here = subst (λ us. MissesAll told us b r (ms ++ m.0)) (sym is) (m.0, m.1, inr (mid, q, h, ms, x, refl)) in
           let end = f.misses (ms ++ m.0) here in (
             end.0,
             end.1,
@@ -190,29 +191,29 @@ module _ {Y : ℕ} {told : Telling} {all : Trees} {b0 : List ℕ} {r0 : Record} 
     }
 
     -- the next tree doesn't match
-    pub Follows-misses : NoReading Y t b r → IsFurthest (MissesAll Y told all b0 r0) (further missed kept)
+    pub Follows-misses : NoReading greatest_year t b r → IsFurthest (MissesAll told all b0 r0) (further missed kept)
     unfolding MissesAll
     Follows-misses h =
-        let here = subst (λ us. MissesAll Y told us b r m.0) (sym is) (m.0, m.1, inl (h, refl)) in
+        let here = subst (λ us. MissesAll told us b r m.0) (sym is) (m.0, m.1, inl (h, refl)) in
         let end = f.misses m.0 here in
         (end.0, end.1, ap (λ n. further n kept) m.2 ∙ end.2)
 
-    pub Follows-unread : NoReading Y t b r → NoReading Y (sequence all) b0 r0
+    pub Follows-unread : NoReading greatest_year t b r → NoReading greatest_year (sequence all) b0 r0
     unfolding Reads
-    Follows-unread h = f.unread (subst (λ us. NoReadingAll Y us b r) (sym is) (NoReadingAll-here Y t ts b r h))
+    Follows-unread h = f.unread (subst (λ us. NoReadingAll greatest_year us b r) (sym is) (NoReadingAll-here t ts b r h))
 
   -- no tree is left
-  pub Follows-end : left ≡ none → Reads Y (sequence all) b0 r0 b r
+  pub Follows-end : left ≡ none → Reads greatest_year (sequence all) b0 r0 b r
   unfolding Reads ReadsAll
-  Follows-end is = f.reads b r (subst (λ ts. ReadsAll Y ts b r b r) (sym is) (refl, refl))
+  Follows-end is = f.reads b r (subst (λ ts. ReadsAll greatest_year ts b r b r) (sym is) (refl, refl))
 
-  pub Follows-kept : left ≡ none → IsFurthest (MissesAll Y told all b0 r0) kept
+  pub Follows-kept : left ≡ none → IsFurthest (MissesAll told all b0 r0) kept
   unfolding MissesAll
-  Follows-kept is = f.misses [] (subst (λ ts. MissesAll Y told ts b r []) (sym is) refl)
+  Follows-kept is = f.misses [] (subst (λ ts. MissesAll told ts b r []) (sym is) refl)
 
 -- ---- The miss in a literal
 
-module _ (told : Telling) (t b : ℕ) (text bytes : List ℕ) where
+module _ (told : LiteralReport) (t b : ℕ) (text bytes : List ℕ) where
   -- the literal's first byte matches
   pub literal-same : b ≡ t → literal_misses told (t ∷ text) (b ∷ bytes) ≡ literal_misses told text bytes
   literal-same is = rw (eq-eqb b t is) refl
@@ -222,14 +223,14 @@ module _ (told : Telling) (t b : ℕ) (text bytes : List ℕ) where
   literal-other other = rw (ne_eqb b t other) refl
 
 -- it is missed once, and leaves no more bytes than there are
-pub record IsMissed (told : Telling) (text bytes : List ℕ) : Type 0 where
+pub record IsMissed (told : LiteralReport) (text bytes : List ℕ) : Type 0 where
   pub left : ℕ
   pub wanted : List ℕ
   pub within : left ≤ length bytes
   pub is : literal_misses told text bytes ≡ missed left (these_bytes wanted) ∷ []
 
 -- The bytes begin with the literal, which then has no miss; or the literal is missed.
-pub literal_cases : (told : Telling) (text bytes : List ℕ)
+pub literal_cases : (told : LiteralReport) (text bytes : List ℕ)
     → (((rest : List ℕ) × (bytes ≡ text ++ rest)) × (literal_misses told text bytes ≡ [])) ⊎ IsMissed told text bytes
 literal_cases told [] bytes = inl ((bytes, refl), refl)
 literal_cases told (t ∷ text) [] = inr (record { left = 0; wanted = told (t ∷ text); within = omega arith; is = refl })
@@ -253,55 +254,55 @@ literal_cases told (t ∷ text) (b ∷ bytes) =
     ]
 
 -- a literal that matches has no miss
-pub literal-there : (told : Telling) (text rest : List ℕ) → literal_misses told text (text ++ rest) ≡ []
+pub literal-there : (told : LiteralReport) (text rest : List ℕ) → literal_misses told text (text ++ rest) ≡ []
 literal-there told [] rest = refl
 literal-there told (t ∷ text) rest = literal-same told t t text (text ++ rest) refl ∙ literal-there told text rest
 
--- ---- The misses of a literal or a component. `Y` is the greatest year.
+-- ---- The misses of a literal or a component.
 
-module _ (Y : ℕ) (told : Telling) (b : List ℕ) (r : Record) where
-  pub literal_reads : (text rest : List ℕ) (q : Record) → Reads Y (literal text) b r rest q → IsFurthest (Misses Y told (literal text) b r) None
+module _ (told : LiteralReport) (b : List ℕ) (r : Record) where
+  pub literal_reads : (text rest : List ℕ) (q : Record) → Reads greatest_year (literal text) b r rest q → IsFurthest (Misses told (literal text) b r) None
   unfolding Misses Reads
   literal_reads text rest q h = ([], sym (ap (literal_misses told text) h.0 ∙ literal-there told text rest), refl)
 
   pub literal_misses-furthest : (text : List ℕ) (miss : Option Miss) → miss ≡ furthest (literal_misses told text b) →
-      IsFurthest (Misses Y told (literal text) b r) miss
+      IsFurthest (Misses told (literal text) b r) miss
   unfolding Misses
   literal_misses-furthest text miss is = (literal_misses told text b, refl, is)
 
-  pub component_reads : (w : Bool) (c : Component) (rest : List ℕ) (q : Record) → Reads Y (component w c) b r rest q →
-      IsFurthest (Misses Y told (component w c) b r) None
+  pub component_reads : (w : Bool) (c : Component) (rest : List ℕ) (q : Record) → Reads greatest_year (component w c) b r rest q →
+      IsFurthest (Misses told (component w c) b r) None
   unfolding Misses
   component_reads w c rest q h = ([], inl ((rest, q, h), refl), refl)
 
-  pub component_misses : (w : Bool) (c : Component) (e : Refusal) → Refuses Y (component w c) b r e →
-      IsFurthest (Misses Y told (component w c) b r) (Some (missed (length b) (wanted_of e)))
+  pub component_misses : (w : Bool) (c : Component) (e : Refusal) → Refuses greatest_year (component w c) b r e →
+      IsFurthest (Misses told (component w c) b r) (Some (missed (length b) (expected_of e)))
   unfolding Misses IsFault
   component_misses w c e h =
-      (missed (length b) (wanted_of e) ∷ [], inr (h.unread, ap (λ f. missed (length b) (wanted_of f) ∷ []) h.fault), refl)
+      (missed (length b) (expected_of e) ∷ [], inr (h.unread, ap (λ f. missed (length b) (expected_of f) ∷ []) h.fault), refl)
 
 -- a component of version 3 by itself
 pub v3_component : (c : Component) → v3_shape (v3.Component c) ≡ component true c
 v3_component c = ap v3_shape (sym (v3.rolls-Component c)) ∙ fold-roll-FormatDescriptionV3Inner Tree v3_step (layer.Component c)
 
-same_answer : (Y : ℕ) (t : Tree) (b : List ℕ) (r : Record) (x y : List ℕ) (q p : Record) → x ≡ y → q ≡ p → Reads Y t b r y p → Reads Y t b r x q
-same_answer Y t b r x y q p e f h = subst (λ z. Reads Y t b r z q) (sym e) (subst (λ o. Reads Y t b r y o) (sym f) h)
+same_answer : (t : Tree) (b : List ℕ) (r : Record) (x y : List ℕ) (q p : Record) → x ≡ y → q ≡ p → Reads greatest_year t b r y p → Reads greatest_year t b r x q
+same_answer t b r x y q p e f h = subst (λ z. Reads greatest_year t b r z q) (sym e) (subst (λ o. Reads greatest_year t b r y o) (sym f) h)
 
 -- a tree in turn by itself
-module _ (Y : ℕ) (t : Tree) (ts : Trees) (is : ts ≡ more t none) (b : List ℕ) (r : Record) where
-  pub alone_reads : (rest : List ℕ) (q : Record) → Reads Y (sequence ts) b r rest q → Reads Y t b r rest q
+module _ (t : Tree) (ts : Trees) (is : ts ≡ more t none) (b : List ℕ) (r : Record) where
+  pub alone_reads : (rest : List ℕ) (q : Record) → Reads greatest_year (sequence ts) b r rest q → Reads greatest_year t b r rest q
   unfolding Reads ReadsAll
   alone_reads rest q h =
-      let one = subst (λ us. ReadsAll Y us b r rest q) is h in
-      same_answer Y t b r rest one.0 q one.1 one.3.0 one.3.1 one.2
+      let one = subst (λ us. ReadsAll greatest_year us b r rest q) is h in
+      same_answer t b r rest one.0 q one.1 one.3.0 one.3.1 one.2
 
-  pub alone_unread : NoReading Y (sequence ts) b r → NoReading Y t b r
+  pub alone_unread : NoReading greatest_year (sequence ts) b r → NoReading greatest_year t b r
   unfolding Reads ReadsAll
-  alone_unread h = λ rest q k. h rest q (subst (λ us. ReadsAll Y us b r rest q) (sym is) (rest, q, k, (refl, refl)))
+  alone_unread h = λ rest q k. h rest q (subst (λ us. ReadsAll greatest_year us b r rest q) (sym is) (rest, q, k, (refl, refl)))
 
 -- an optional tree
-pub optional_reads : (Y : ℕ) (t : Tree) (b : List ℕ) (r : Record) (read : Option (Bor (List ℕ))) (input : Bor (List ℕ)) (new : Record) →
-    b ≡ input.now → Attempts Y t b r read new → Reads Y (optional t) b r (unwrap_or read input).now new
+pub optional_reads : (t : Tree) (b : List ℕ) (r : Record) (read : Option (Bor (List ℕ))) (input : Bor (List ℕ)) (new : Record) →
+    b ≡ input.now → Attempts greatest_year t b r read new → Reads greatest_year (optional t) b r (unwrap_or read input).now new
 unfolding Reads
-optional_reads Y t b r (Some rest) input new is h = inl h
-optional_reads Y t b r None input new is h = inr (h.unread, sym is, h.same)
+optional_reads t b r (Some rest) input new is h = inl h
+optional_reads t b r None input new is h = inr (h.unread, sym is, h.same)

@@ -13,12 +13,12 @@ use Rattle.time_values.specs.declared.month.Month.{Month}
 use Rattle.time_values.specs.declared.weekday.Weekday.{Weekday}
 use Rattle.time_digits.specs.Digits.{Cut}
 use Rattle.time_digits.specs.declared.Sign.{Sign}
-use Rattle.time_readers.specs.Readers.{Format, Stand}
+use Rattle.time_readers.specs.Readers.{Format, MatchesPlaces}
 use Rattle.time_readers.specs.Rfc2822 as mail
 use Rattle.time_readers.specs.Rfc3339 as rfc3339
 use Rattle.time_readers.specs.declared.rfc2822.Numbers as MailNumbers
 use Rattle.time_readers.specs.declared.rfc3339.Numbers.{Numbers}
-use Rattle.time_readers.proofs.Walking.{Stand-ends}
+use Rattle.time_readers.proofs.Walking.{MatchesPlaces-ends}
 use Rattle.time_readers.proofs.RangedForms as Keeping
 use Rattle.time_readers.proofs.MailRanges as MailRanges
 use Rattle.time_readers.proofs.MailRanges.{signed-abs}
@@ -27,8 +27,8 @@ use Rattle.time_parsing.specs.Outcome.{IsExact, IsWhole, Reading, Refusing, Reso
 use Rattle.time_parsing.specs.Rfc2822 as over_mail
 use Rattle.time_parsing.specs.Rfc3339 as over
 use Rattle.time_parsing.specs.exact.RecordedRfc2822.{AllInRange, in_range-append, put-each, put_each}
-use Rattle.time_locating.specs.Located.{IsErrorAt, IsExactMark, IsExactPlace, IsMarked, IsRangeAt, IsRefusedAt, IsValueAt, Locating, Marking, OneAnswer, OneIndex, PlacesOutcomes, PlacesRefusals, range_name, seen_place, wants, IsLocated, end_of}
-use Rattle.time_locating.specs.Misses.{Miss, missed, Wanted, the_end}
+use Rattle.time_locating.specs.Located.{IsErrorAt, IsExactMark, IsExactPlace, IsMarked, IsRangeAt, IsRefusedAt, IsValueAt, Locating, Marking, OneAnswer, OneIndex, PlacesOutcomes, PlacesRefusals, range_name, erased_located, wants, IsLocated, end_of}
+use Rattle.time_locating.specs.Misses.{Miss, missed, Expectation, the_end}
 use Rattle.time_locating.specs.declared.located.Located.{Located}
 use Rattle.time_locating.specs.Marks.{Beginning, LocatesPlace, MarksPlaces, MarksText, is_place_of}
 use Rattle.time_locating.proofs.IsoDates.{Ok-Err}
@@ -102,7 +102,7 @@ module _ (reads : Reading) (locates : Locating) (marks : Marking) (places : IsEx
       let one_own = marked-one marks one name bytes r own same h k in
       range-one name same index other (subst (λ o. IsRangeAt marks bytes r name o index) one_own is) be
 
-  refused-one : (e : Refusal) (p q : Option Located) (index other : Option ℕ) → seen_place p ≡ seen_place q
+  refused-one : (e : Refusal) (p q : Option Located) (index other : Option ℕ) → erased_located p ≡ erased_located q
       → IsRefusedAt marks bytes r e p index → IsRefusedAt marks bytes r e q other → index ≡ other
   refused-one e None None index other is h k = value-one (range_name e) index other h k
   refused-one e None (Some at) index other is h k = absurd (none-some (missed at.index (wants at.expected)) is)
@@ -124,18 +124,18 @@ one_index reads locates marks places one bytes r e index other h k = error-one r
 
 module _ {P N : Type 0} (A : Format P N) (ps : List P) (start : N) where
   -- the rest isn't longer than the bytes
-  pub left-within : (bytes rest : List ℕ) (n : N) → Stand A ps start bytes rest n → length rest ≤ length bytes
+  pub left-within : (bytes rest : List ℕ) (n : N) → MatchesPlaces A ps start bytes rest n → length rest ≤ length bytes
   left-within bytes rest n s =
-      let ends = Stand-ends A ps start n bytes rest s in
+      let ends = MatchesPlaces-ends A ps start n bytes rest s in
       let sum = ap length ends.1 ∙ length-append ends.0 rest in
       omega arith
 
-  module _ (wanted_from : Beginning P) (wanted_at : P → Wanted) (reads : Reading) (begin : Record) (bytes : List ℕ) where
+  module _ (expected_from : Beginning P) (expected_at : P → Expectation) (reads : Reading) (begin : Record) (bytes : List ℕ) where
     -- all places match
-    pub stands-located : (rest : List ℕ) (n : N) (result : Option Located) → Stand A ps start bytes rest n
-        → ((r : Record) → Stand A ps start bytes [] n → (q : Record) × reads bytes r [] q)
-        → seen_place result ≡ end_of (length bytes) rest
-        → IsLocated reads (λ b r m. LocatesPlace A ps start wanted_from wanted_at b m) bytes begin result
+    pub stands-located : (rest : List ℕ) (n : N) (result : Option Located) → MatchesPlaces A ps start bytes rest n
+        → ((r : Record) → MatchesPlaces A ps start bytes [] n → (q : Record) × reads bytes r [] q)
+        → erased_located result ≡ end_of (length bytes) rest
+        → IsLocated reads (λ b r m. LocatesPlace A ps start expected_from expected_at b m) bytes begin result
     stands-located [] n None s whole is = whole begin s
     stands-located [] n (Some at) s whole is = let clash : Some (missed at.index (wants at.expected)) ≡ None = is in cc
     stands-located (b ∷ rest) n None s whole is =
@@ -157,18 +157,18 @@ abbrev pub LeftAfter : {P N S : Type 0} → Format P N → (N → S → Type 0) 
 LeftAfter {P} {N} A Agrees p b known found after =
     (n m : N) (mid : List ℕ) → Agrees n known → Cut (A p n) b mid m → (found ≡ Some mid) × Agrees m after
 
-module _ {P N S : Type 0} (A : Format P N) (wanted_from : Beginning P) (fault : P → Refusal) (name : List ℕ) (Agrees : N → S → Type 0)
+module _ {P N S : Type 0} (A : Format P N) (expected_from : Beginning P) (fault : P → Refusal) (name : List ℕ) (Agrees : N → S → Type 0)
     (all : List P) (start : N) (bytes : List ℕ) where
   -- The places that are left match, and their mark is that of all places.
   pub record Left (left : List P) (b : List ℕ) (known : S) : Type 0 where
     pub numbers : N
     pub end : List ℕ
     pub last : N
-    pub stand : Stand A left numbers b end last
+    pub stand : MatchesPlaces A left numbers b end last
     pub agrees : Agrees numbers known
-    pub marks : (mark : Option ℕ) → MarksPlaces A wanted_from fault name left numbers b mark → MarksPlaces A wanted_from fault name all start bytes mark
+    pub marks : (mark : Option ℕ) → MarksPlaces A expected_from fault name left numbers b mark → MarksPlaces A expected_from fault name all start bytes mark
 
-  pub Left-start : (end : List ℕ) (last : N) (known : S) → Stand A all start bytes end last → Agrees start known → Left all bytes known
+  pub Left-start : (end : List ℕ) (last : N) (known : S) → MatchesPlaces A all start bytes end last → Agrees start known → Left all bytes known
   Left-start end last known s h = record {
     numbers = start;
     end = end;
@@ -183,19 +183,19 @@ module _ {P N S : Type 0} (A : Format P N) (wanted_from : Beginning P) (fault : 
     pub mid : List ℕ
     pub is : found ≡ Some mid
     pub here : is_place_of name (fault p) b mid ≡ true
-        → MarksPlaces A wanted_from fault name all start bytes (Some (length (wanted_from p b)))
+        → MarksPlaces A expected_from fault name all start bytes (Some (length (expected_from p b)))
     pub past : is_place_of name (fault p) b mid ≡ false → Left later mid after
 
   Left-next : (p : P) (later : List P) (b : List ℕ) (known : S) → Left (p ∷ later) b known → (found : Option (List ℕ)) (after : S)
       → LeftAfter A Agrees p b known found after → Next later p b found after
-  unfolding Stand MarksPlaces
+  unfolding MatchesPlaces MarksPlaces
   Left-next p later b known f found after step =
       let s = f.stand in
       let answer = step f.numbers s.1 s.0 f.agrees s.2 in
       record {
         mid = s.0;
         is = answer.0;
-        here = λ yes. f.marks (Some (length (wanted_from p b))) (s.0, s.1, s.2, inl (yes, refl));
+        here = λ yes. f.marks (Some (length (expected_from p b))) (s.0, s.1, s.2, inl (yes, refl));
         past = λ no. record {
           numbers = s.1;
           end = f.end;
@@ -214,30 +214,30 @@ module _ {P N S : Type 0} (A : Format P N) (wanted_from : Beginning P) (fault : 
       rw add-one (Left-next (get_or all i p) (drop (suc i) all) b known here found after step)
 
   -- no place is left
-  pub Left-end : (left : List P) (b : List ℕ) (known : S) → left ≡ [] → Left left b known → MarksPlaces A wanted_from fault name all start bytes None
+  pub Left-end : (left : List P) (b : List ℕ) (known : S) → left ≡ [] → Left left b known → MarksPlaces A expected_from fault name all start bytes None
   unfolding MarksPlaces
-  Left-end left b known is f = f.marks None (subst (λ (ps : List P). MarksPlaces A wanted_from fault name ps f.numbers b None) (sym is) refl)
+  Left-end left b known is f = f.marks None (subst (λ (ps : List P). MarksPlaces A expected_from fault name ps f.numbers b None) (sym is) refl)
 
 -- the expected text of a place begins in the bytes that are left there
 abbrev pub IsWithin : {P : Type 0} → Beginning P → Type 0
-IsWithin {P} wanted_from = (p : P) (b : List ℕ) → length (wanted_from p b) ≤ length b
+IsWithin {P} expected_from = (p : P) (b : List ℕ) → length (expected_from p b) ≤ length b
 
-module _ {P N : Type 0} (A : Format P N) (wanted_from : Beginning P) (within : IsWithin wanted_from) (fault : P → Refusal) (name : List ℕ) where
+module _ {P N : Type 0} (A : Format P N) (expected_from : Beginning P) (within : IsWithin expected_from) (fault : P → Refusal) (name : List ℕ) where
   -- no mark leaves more bytes than there are
-  MarksPlaces-within : (ps : List P) (n : N) (b : List ℕ) (left : ℕ) → MarksPlaces A wanted_from fault name ps n b (Some left) → left ≤ length b
+  MarksPlaces-within : (ps : List P) (n : N) (b : List ℕ) (left : ℕ) → MarksPlaces A expected_from fault name ps n b (Some left) → left ≤ length b
   unfolding MarksPlaces
   MarksPlaces-within [] n b left h = let clash : Some left ≡ None = h in cc
   MarksPlaces-within (p ∷ ps) n b left (mid, m, cut, inl h) =
-      let same : left ≡ length (wanted_from p b) = cc in omega (arith, within p b)
+      let same : left ≡ length (expected_from p b) = cc in omega (arith, within p b)
   MarksPlaces-within (p ∷ ps) n b left (mid, m, cut, inr h) =
       let later = MarksPlaces-within ps m mid left h.1 in
       omega (arith, ap length cut.1, length-append cut.0 mid)
 
   module _ (ps : List P) (start : N) (bytes : List ℕ) (r : Record) where
     -- the index of a mark
-    pub places_marked : (rest : List ℕ) (n : N) (mark : Option ℕ) → Stand A ps start bytes rest n
-        → MarksPlaces A wanted_from fault name ps start bytes mark
-        → IsMarked (λ o b q x. MarksText A wanted_from fault ps start o b x) name bytes r (option_map (λ left. length bytes - left) mark)
+    pub places_marked : (rest : List ℕ) (n : N) (mark : Option ℕ) → MatchesPlaces A ps start bytes rest n
+        → MarksPlaces A expected_from fault name ps start bytes mark
+        → IsMarked (λ o b q x. MarksText A expected_from fault ps start o b x) name bytes r (option_map (λ left. length bytes - left) mark)
     places_marked rest n None s h = inr ((rest, n, s), h)
     places_marked rest n (Some left) s h =
         (left, inr ((rest, n, s), h), omega (arith, MarksPlaces-within ps start bytes left h))

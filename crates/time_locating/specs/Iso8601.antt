@@ -1,13 +1,14 @@
--- The place of a text that ISO 8601 rejects. `Y` is the greatest year.
+-- The place of a text that ISO 8601 rejects.
 --
 -- The text of a date, a time or an offset is one of several rows of pieces. Each row is tried, and misses the first of
 -- its pieces that doesn't match. Misses of later parts precede those of earlier parts.
+use Rattle.time_values.specs.Calendar.{greatest_year}
 use Rattle.std.specs.Prelude.{◌≡◌, ℕ, ◌+◌, List, [], ◌∷◌, ◌++◌, length, map, codes, Bool, true, false, if◌then◌else◌, Option, Some, None, option_map, Result, Ok, Err}
 use Rattle.time_values.specs.Refusal.{Refusal}
 use Rattle.time_readers.specs.IsoPieces.{Found, year, month, weekday, positive, byte}
 use Rattle.time_readers.specs.IsoDates.{IsoDate, calendar, ordinal, week, date_text}
 use Rattle.time_readers.specs.IsoOffsets as offsets
-use Rattle.time_readers.specs.IsoOffsets.{offset_rows, nothing_said}
+use Rattle.time_readers.specs.IsoOffsets.{offset_rows, no_offset_parts}
 use Rattle.time_readers.specs.IsoTimes.{Row, time_rows, time_text, nothing_given}
 use Rattle.time_readers.specs.IsoTimes as times
 use Rattle.time_readers.specs.Readers.{Reader}
@@ -18,7 +19,7 @@ use Rattle.time_record.specs.Record.{Record}
 use Rattle.time_parsing.specs.Iso8601.{date_entries, put_or_fault, reading}
 use Rattle.time_parsing.specs.Rfc3339.{with_leap_second}
 use Rattle.time_locating.specs.Located.{Locating}
-use Rattle.time_locating.specs.Misses.{Miss, Wanted, missed, these_bytes, named, wanted_of, furthest, place_after}
+use Rattle.time_locating.specs.Misses.{Miss, Expectation, missed, these_bytes, named, expected_of, furthest, place_after}
 use Rattle.time_locating.specs.declared.iso8601.Piece.{Piece}
 use Rattle.time_locating.specs.declared.iso8601.Piece.TheVariants as piece
 
@@ -43,41 +44,41 @@ after piece.MinuteAndFraction bytes = rest_of (times.stands times.minute_and_fra
 after piece.Second bytes = rest_of (times.stands times.any_second bytes nothing_given)
 after piece.Colon bytes = byte 58 bytes
 after piece.Zulu bytes = byte 90 bytes
-after piece.Sign bytes = rest_of (offsets.stands offsets.plus_or_minus bytes nothing_said)
-after piece.OffsetHour bytes = rest_of (offsets.stands offsets.hour bytes nothing_said)
-after piece.OffsetMinute bytes = rest_of (offsets.stands offsets.minute bytes nothing_said)
+after piece.Sign bytes = rest_of (offsets.stands offsets.plus_or_minus bytes no_offset_parts)
+after piece.OffsetHour bytes = rest_of (offsets.stands offsets.hour bytes no_offset_parts)
+after piece.OffsetMinute bytes = rest_of (offsets.stands offsets.minute bytes no_offset_parts)
 
 -- what a piece expects: a byte, or the component of that name
-abbrev pub wanted_at : Piece → Wanted
-wanted_at piece.Year = named (codes "year")
-wanted_at piece.Dash = these_bytes (codes "-")
-wanted_at piece.Month = named (codes "month")
-wanted_at piece.Day = named (codes "day")
-wanted_at piece.Ordinal = named (codes "ordinal")
-wanted_at piece.WeekLetter = these_bytes (codes "W")
-wanted_at piece.Week = named (codes "week")
-wanted_at piece.Weekday = named (codes "weekday")
-wanted_at piece.WholeHour = named (codes "hour")
-wanted_at piece.HourAndFraction = named (codes "hour")
-wanted_at piece.WholeMinute = named (codes "minute")
-wanted_at piece.MinuteAndFraction = named (codes "minute")
-wanted_at piece.Second = named (codes "second")
-wanted_at piece.Colon = these_bytes (codes ":")
-wanted_at piece.Zulu = these_bytes (codes "Z")
-wanted_at piece.Sign = named (codes "offset hour")
-wanted_at piece.OffsetHour = named (codes "offset hour")
-wanted_at piece.OffsetMinute = named (codes "offset minute")
+abbrev pub expected_at : Piece → Expectation
+expected_at piece.Year = named (codes "year")
+expected_at piece.Dash = these_bytes (codes "-")
+expected_at piece.Month = named (codes "month")
+expected_at piece.Day = named (codes "day")
+expected_at piece.Ordinal = named (codes "ordinal")
+expected_at piece.WeekLetter = these_bytes (codes "W")
+expected_at piece.Week = named (codes "week")
+expected_at piece.Weekday = named (codes "weekday")
+expected_at piece.WholeHour = named (codes "hour")
+expected_at piece.HourAndFraction = named (codes "hour")
+expected_at piece.WholeMinute = named (codes "minute")
+expected_at piece.MinuteAndFraction = named (codes "minute")
+expected_at piece.Second = named (codes "second")
+expected_at piece.Colon = these_bytes (codes ":")
+expected_at piece.Zulu = these_bytes (codes "Z")
+expected_at piece.Sign = named (codes "offset hour")
+expected_at piece.OffsetHour = named (codes "offset hour")
+expected_at piece.OffsetMinute = named (codes "offset minute")
 
 -- this miss if there is no rest, and otherwise the misses in the rest
-abbrev pub missed_or_later : Miss → (List ℕ → List Miss) → Option (List ℕ) → List Miss
-missed_or_later m later None = m ∷ []
-missed_or_later m later (Some rest) = later rest
+abbrev pub miss_or_rest_misses : Miss → (List ℕ → List Miss) → Option (List ℕ) → List Miss
+miss_or_rest_misses m later None = m ∷ []
+miss_or_rest_misses m later (Some rest) = later rest
 
 -- the miss of a row of pieces, or none if all of them match
 abbrev pub row_misses : List Piece → List ℕ → List Miss
 row_misses [] bytes = []
 row_misses (p ∷ ps) bytes =
-    missed_or_later (missed (length bytes) (wanted_at p)) (row_misses ps) (after p bytes)
+    miss_or_rest_misses (missed (length bytes) (expected_at p)) (row_misses ps) (after p bytes)
 
 -- the misses of rows, in their order
 abbrev pub rows_misses : List (List Piece) → List ℕ → List Miss
@@ -156,19 +157,19 @@ left_at_number kind (week y w d) rest = 3 + rest
 abbrev pub after_date : List ℕ → Found IsoDate → Result Record Refusal → List Miss
 after_date bytes d (Ok q) = from_time true d.kind d.rest
 after_date bytes d (Err e) =
-    missed (left_at_number d.kind d.value (length d.rest)) (wanted_of e) ∷ without_date bytes
+    missed (left_at_number d.kind d.value (length d.rest)) (expected_of e) ∷ without_date bytes
 
 -- the misses of a text, by the date with which it begins
-abbrev pub by_date : ℕ → List ℕ → Record → Result (Found IsoDate) Refusal → List Miss
-by_date Y bytes r (Err e) = rows_misses date_rows bytes ++ without_date bytes
-by_date Y bytes r (Ok d) = after_date bytes d (put_or_fault Y (date_entries d.value) r)
+abbrev pub by_date : List ℕ → Record → Result (Found IsoDate) Refusal → List Miss
+by_date bytes r (Err e) = rows_misses date_rows bytes ++ without_date bytes
+by_date bytes r (Ok d) = after_date bytes d (put_or_fault greatest_year (date_entries d.value) r)
 
 -- the misses of a text that is parsed over the record
-unfoldable pub misses : ℕ → List ℕ → Record → List Miss
-misses Y bytes r = by_date Y bytes r (date_text bytes)
+unfoldable pub misses : List ℕ → Record → List Miss
+misses bytes r = by_date bytes r (date_text bytes)
 
 -- The place of a text over the record: the furthest of its misses, and of the end if bytes remain.
-abbrev pub Locates : ℕ → Locating
-Locates Y bytes r m =
-    place_after (rest_of (reading Y bytes (with_leap_second r)))
-    (furthest (misses Y bytes (with_leap_second r))) ≡ Some m
+abbrev pub Locates : Locating
+Locates bytes r m =
+    place_after (rest_of (reading greatest_year bytes (with_leap_second r)))
+    (furthest (misses bytes (with_leap_second r))) ≡ Some m

@@ -1,7 +1,8 @@
--- Where the components of an ISO 8601 text begin. `Y` is the greatest year.
+-- Where the components of an ISO 8601 text begin.
 --
 -- The date, the time and the offset are each a row of pieces: the first of the allowed rows that ends where the date,
 -- the time or the offset ends.
+use Rattle.time_values.specs.Calendar.{greatest_year}
 use Rattle.std.specs.Prelude.{◌≡◌, ◌==◌, ℕ, List, [], ◌∷◌, length, codes, Bool, true, false, if◌then◌else◌, Option, Some, None, unwrap_or, option_and_then, Result, Ok, Err}
 use Rattle.std.specs.Option.{option_or}
 use Rattle.std.specs.Str.{bytes_eq}
@@ -16,21 +17,21 @@ use Rattle.time_readers.specs.declared.iso8601.TimeNumbers.{TimeNumbers}
 use Rattle.time_record.specs.Record.{Record}
 use Rattle.time_parsing.specs.Iso8601.{date_entries, put_or_fault, reading}
 use Rattle.time_parsing.specs.Rfc3339.{with_leap_second}
-use Rattle.time_locating.specs.Iso8601.{after, date_rows, offset_piece, rest_of, rows_after, time_piece, wanted_at}
+use Rattle.time_locating.specs.Iso8601.{after, date_rows, offset_piece, rest_of, rows_after, time_piece, expected_at}
 use Rattle.time_locating.specs.Located.{Marking}
-use Rattle.time_locating.specs.Misses.{Wanted, named}
+use Rattle.time_locating.specs.Misses.{Expectation, named}
 use Rattle.time_locating.specs.declared.iso8601.Piece.{Piece}
 use Rattle.time_locating.specs.declared.iso8601.Piece.TheVariants as piece
 
 -- a component of that name is expected
-abbrev pub wants_name : List ℕ → Wanted → Bool
-wants_name name (named other) = bytes_eq name other
-wants_name name w = false
+abbrev pub expects_name : List ℕ → Expectation → Bool
+expects_name name (named other) = bytes_eq name other
+expects_name name w = false
 
 -- the piece has a component of that name: `Z` has the hour of an offset
 abbrev pub is_piece_of : List ℕ → Piece → Bool
 is_piece_of name piece.Zulu = bytes_eq name (codes "offset hour")
-is_piece_of name p = wants_name name (wanted_at p)
+is_piece_of name p = expects_name name (expected_at p)
 
 -- the rest after the pieces of a row
 abbrev pub after_row : List Piece → List ℕ → Option (List ℕ)
@@ -82,16 +83,16 @@ after_date name left bytes d (Ok q) =
     (rows_mark name (length d.rest) date_rows bytes)
 
 -- the mark in a text, by the date with which it begins
-abbrev pub by_date : ℕ → List ℕ → ℕ → List ℕ → Record → Result (Found IsoDate) Refusal → Option ℕ
-by_date Y name left bytes r (Err e) = without_date name left bytes
-by_date Y name left bytes r (Ok d) = after_date name left bytes d (put_or_fault Y (date_entries d.value) r)
+abbrev pub by_date : List ℕ → ℕ → List ℕ → Record → Result (Found IsoDate) Refusal → Option ℕ
+by_date name left bytes r (Err e) = without_date name left bytes
+by_date name left bytes r (Ok d) = after_date name left bytes d (put_or_fault greatest_year (date_entries d.value) r)
 
 -- the mark in a text that leaves `left` bytes unread
-unfoldable pub text_mark : ℕ → List ℕ → ℕ → List ℕ → Record → Option ℕ
-text_mark Y name left bytes r = by_date Y name left bytes r (date_text bytes)
+unfoldable pub text_mark : List ℕ → ℕ → List ℕ → Record → Option ℕ
+text_mark name left bytes r = by_date name left bytes r (date_text bytes)
 
 -- The mark of a text over the record, or none if nothing is read.
-abbrev pub Marks : ℕ → Marking
-Marks Y name bytes r mark =
-    mark ≡ option_and_then (λ rest. text_mark Y name (length rest) bytes (with_leap_second r))
-    (rest_of (reading Y bytes (with_leap_second r)))
+abbrev pub Marks : Marking
+Marks name bytes r mark =
+    mark ≡ option_and_then (λ rest. text_mark name (length rest) bytes (with_leap_second r))
+    (rest_of (reading greatest_year bytes (with_leap_second r)))

@@ -20,8 +20,8 @@ year_of (ordinal y d) = y
 year_of (week y w d) = y
 
 -- a record may have that year
-abbrev pub IsYearHeld : IsoDate → Type 0
-IsYearHeld d = IsTrue (nat_le (unsigned_abs (year_of d)) greatest_year)
+abbrev pub IsYearInRange : IsoDate → Type 0
+IsYearInRange d = IsTrue (nat_le (unsigned_abs (year_of d)) greatest_year)
 
 -- The record accepts the date, or rejects it with the name of a component, whose number begins that many bytes before
 -- the date's end.

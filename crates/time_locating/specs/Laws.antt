@@ -1,4 +1,5 @@
--- Laws about misses. `Y` is the greatest year.
+-- Laws about misses.
+use Rattle.time_values.specs.Calendar.{greatest_year}
 use Rattle.std.specs.Prelude.{◌≡◌, ◌<◌, ◌≤◌, ℕ, List, ◌∷◌, ◌++◌, Some, Err, All}
 use Rattle.time_values.specs.Refusal.{Refusal, literal, component, trailing}
 use Rattle.time_components.specs.Tree.{Tree}
@@ -6,16 +7,16 @@ use Rattle.time_record.specs.Reading.{Refuses}
 use Rattle.time_record.specs.Record.{Record}
 use Rattle.time_parsing.specs.Iso8601.{date_over}
 use Rattle.time_locating.specs.Iso8601.{misses}
-use Rattle.time_locating.specs.Misses.{Wanted, these_bytes, named, the_end, Miss, Misses, Telling, furthest}
+use Rattle.time_locating.specs.Misses.{Expectation, these_bytes, named, the_end, Miss, Misses, LiteralReport, furthest}
 
 -- A tree has one list of misses for given bytes and a given record.
 abbrev pub OneList : Type 0
 OneList =
-    (Y : ℕ) (told : Telling) (t : Tree) (bytes : List ℕ) (r : Record) (ms ns : List Miss)
-    → Misses Y told t bytes r ms → Misses Y told t bytes r ns → ms ≡ ns
+    (told : LiteralReport) (t : Tree) (bytes : List ℕ) (r : Record) (ms ns : List Miss)
+    → Misses told t bytes r ms → Misses told t bytes r ns → ms ≡ ns
 
 -- the error of a leaf that expects this
-abbrev pub refusal_by : Wanted → Refusal
+abbrev pub refusal_by : Expectation → Refusal
 refusal_by (these_bytes text) = literal
 refusal_by (named name) = component name
 refusal_by the_end = trailing
@@ -23,8 +24,8 @@ refusal_by the_end = trailing
 -- If a tree is rejected, the list begins with the miss that the error names.
 abbrev pub OwnMissFirst : Type 0
 OwnMissFirst =
-    (Y : ℕ) (told : Telling) (t : Tree) (bytes : List ℕ) (r : Record) (e : Refusal) (ms : List Miss)
-    → Refuses Y t bytes r e → Misses Y told t bytes r ms
+    (told : LiteralReport) (t : Tree) (bytes : List ℕ) (r : Record) (e : Refusal) (ms : List Miss)
+    → Refuses greatest_year t bytes r e → Misses told t bytes r ms
     → (m : Miss) × (others : List Miss) × (ms ≡ m ∷ others) × (refusal_by m.wanted ≡ e)
 
 -- No miss leaves fewer bytes than the furthest, and each miss before it in the list leaves more.
@@ -43,5 +44,5 @@ LeavesLeastSoFar m ms =
 -- bytes. So it is the furthest unless a later one leaves fewer.
 abbrev pub IsoOwnMiss : Type 0
 IsoOwnMiss =
-    (Y : ℕ) (bytes : List ℕ) (r : Record) (e : Refusal) → date_over Y bytes r ≡ Err e
-    → (m : Miss) × LeavesLeastSoFar m (misses Y bytes r) × (refusal_by m.wanted ≡ e)
+    (bytes : List ℕ) (r : Record) (e : Refusal) → date_over greatest_year bytes r ≡ Err e
+    → (m : Miss) × LeavesLeastSoFar m (misses bytes r) × (refusal_by m.wanted ≡ e)

@@ -8,5 +8,6 @@ pub mod Marks
 pub mod Misses
 pub mod Rfc2822
 pub mod Rfc3339
+pub mod Rfc3339Strict
 pub mod StepRows
 pub mod exact

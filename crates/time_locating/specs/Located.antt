@@ -4,22 +4,22 @@ use Rattle.std.specs.Str.{bytes_eq}
 use Rattle.time_values.specs.Refusal.{Refusal, range}
 use Rattle.time_record.specs.Record.{Record}
 use Rattle.time_parsing.specs.Outcome.{IsOutcome, IsWhole, Reading, Refusing, Resolving}
-use Rattle.time_locating.specs.Misses.{Wanted, these_bytes, named, the_end, Miss, missed}
+use Rattle.time_locating.specs.Misses.{Expectation, these_bytes, named, the_end, Miss, missed}
 use Rattle.time_locating.specs.declared.located.Expected.{Expected}
 use Rattle.time_locating.specs.declared.located.Expected.TheVariants.{Literal, Component, End}
 use Rattle.time_locating.specs.declared.located.Located.{Located}
 use Rattle.time_locating.specs.declared.mark.Miss.{Miss as Miss'}
 
 -- what a call expected, viewed without the address of its bytes
-abbrev pub wants : Expected → Wanted
+abbrev pub wants : Expected → Expectation
 wants (Literal text) = these_bytes text.now
 wants (Component name) = named name.now
 wants End = the_end
 
 -- a call's miss, viewed without the address of its bytes
-abbrev pub seen_miss : Option Miss' → Option Miss
-seen_miss None = None
-seen_miss (Some m) = Some (missed m.left (wants m.expected))
+abbrev pub erased_miss : Option Miss' → Option Miss
+erased_miss None = None
+erased_miss (Some m) = Some (missed m.left (wants m.expected))
 
 -- for bytes that a format doesn't read whole over a record: the place, with what was expected there
 abbrev pub Locating : Type 1
@@ -82,9 +82,9 @@ pub record IsExactPlace (reads : Reading) (locates : Locating) : Type 0 where
   pub not_read : (bytes : List ℕ) (r q : Record) (m : Miss) → locates bytes r m → reads bytes r [] q → ⊥
 
 -- a result, viewed without the address of what was expected
-abbrev pub seen_place : Option Located → Option Miss
-seen_place None = None
-seen_place (Some at) = Some (missed at.index (wants at.expected))
+abbrev pub erased_located : Option Located → Option Miss
+erased_located None = None
+erased_located (Some at) = Some (missed at.index (wants at.expected))
 
 -- the result for that miss in a text of `all` bytes
 abbrev pub place_in : ℕ → Option Miss → Option Miss
@@ -101,7 +101,7 @@ abbrev pub OneAnswer : Reading → Locating → Type 0
 OneAnswer reads locates =
     (bytes : List ℕ) (begin : Record) (result other : Option Located)
     → IsLocated reads locates bytes begin result → IsLocated reads locates bytes begin other
-    → seen_place result ≡ seen_place other
+    → erased_located result ≡ erased_located other
 
 -- A text has no place exactly if its outcome is a record, that of the whole text.
 abbrev pub PlacesRefusals : Reading → Refusing → Locating → Type 0

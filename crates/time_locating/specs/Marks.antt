@@ -1,5 +1,6 @@
--- Where the components that a tree reads begin. `Y` is the greatest year. A mark is how many bytes are left at the
+-- Where the components that a tree reads begin. A mark is how many bytes are left at the
 -- start of the last component of a name, or nothing if none of that name is read.
+use Rattle.time_values.specs.Calendar.{greatest_year}
 use Rattle.std.specs.Prelude.{◌≡◌, ℕ, ◌⊎◌, List, length, codes, Bool, false, ◌||◌, Option, None, ◌≢◌, [], ◌∷◌, true, ◌&&◌, nat_lt, Some}
 use Rattle.std.specs.Option.{option_or}
 use Rattle.std.specs.Str.{bytes_eq}
@@ -9,53 +10,53 @@ use Rattle.time_components.specs.declared.format_description.Component.{Componen
 use Rattle.time_components.specs.declared.format_description.Component.TheVariants as named
 use Rattle.time_components.specs.Tree.{Tree, Trees, literal, component, sequence, optional, first_of, none, more}
 use Rattle.time_readers.specs.IsoTimes.{when}
-use Rattle.time_readers.specs.Readers.{Format, Stand, StopsAt}
+use Rattle.time_readers.specs.Readers.{Format, MatchesPlaces, StopsAt}
 use Rattle.time_record.specs.Components.{component_fault}
 use Rattle.time_record.specs.Reading.{Reads, NoReading}
 use Rattle.time_record.specs.Record.{Record}
 use Rattle.time_locating.specs.Located.{Marking}
-use Rattle.time_locating.specs.Misses.{Miss, Wanted, missed, the_end}
+use Rattle.time_locating.specs.Misses.{Miss, Expectation, missed, the_end}
 
 -- the error has that name
-abbrev pub says_name : List ℕ → Refusal → Bool
-says_name name (of_component other) = bytes_eq name other
-says_name name e = false
+abbrev pub has_name : List ℕ → Refusal → Bool
+has_name name (of_component other) = bytes_eq name other
+has_name name e = false
 
 -- The component has that name, which is that of the error of its text. For an ISO 8601 week, the error of its date has
 -- another name.
 abbrev pub is_named : List ℕ → Component → Bool
 is_named name (named.WeekNumberIso m) = bytes_eq name (codes "week number") || bytes_eq name (codes "week")
-is_named name c = says_name name (component_fault c)
+is_named name c = has_name name (component_fault c)
 
 unfoldable mutual
   -- This is the mark, if the tree is read from the bytes over the record.
-  pub Marks : ℕ → List ℕ → Tree → List ℕ → Record → Option ℕ → Type 0
-  Marks Y name (literal t) bytes r mark = mark ≡ None
-  Marks Y name (component whole c) bytes r mark = mark ≡ when (is_named name c) (length bytes)
-  Marks Y name (sequence ts) bytes r mark = MarksAll Y name ts bytes r mark
-  Marks Y name (optional t) bytes r mark =
-      ((rest : List ℕ) × (q : Record) × Reads Y t bytes r rest q × Marks Y name t bytes r mark)
-      ⊎ (NoReading Y t bytes r × (mark ≡ None))
-  Marks Y name (first_of ts) bytes r mark = MarksFirst Y name ts bytes r mark
+  pub Marks : List ℕ → Tree → List ℕ → Record → Option ℕ → Type 0
+  Marks name (literal t) bytes r mark = mark ≡ None
+  Marks name (component whole c) bytes r mark = mark ≡ when (is_named name c) (length bytes)
+  Marks name (sequence ts) bytes r mark = MarksAll name ts bytes r mark
+  Marks name (optional t) bytes r mark =
+      ((rest : List ℕ) × (q : Record) × Reads greatest_year t bytes r rest q × Marks name t bytes r mark)
+      ⊎ (NoReading greatest_year t bytes r × (mark ≡ None))
+  Marks name (first_of ts) bytes r mark = MarksFirst name ts bytes r mark
 
   -- the mark of trees in turn: that of the last one that has one
-  pub MarksAll : ℕ → List ℕ → Trees → List ℕ → Record → Option ℕ → Type 0
-  MarksAll Y name none bytes r mark = mark ≡ None
-  MarksAll Y name (more t ts) bytes r mark =
-      (here : Option ℕ) × Marks Y name t bytes r here
-      × (mid : List ℕ) × (q : Record) × Reads Y t bytes r mid q
-      × (later : Option ℕ) × MarksAll Y name ts mid q later × (mark ≡ option_or later here)
+  pub MarksAll : List ℕ → Trees → List ℕ → Record → Option ℕ → Type 0
+  MarksAll name none bytes r mark = mark ≡ None
+  MarksAll name (more t ts) bytes r mark =
+      (here : Option ℕ) × Marks name t bytes r here
+      × (mid : List ℕ) × (q : Record) × Reads greatest_year t bytes r mid q
+      × (later : Option ℕ) × MarksAll name ts mid q later × (mark ≡ option_or later here)
 
   -- the mark of alternatives: that of the first that matches
-  pub MarksFirst : ℕ → List ℕ → Trees → List ℕ → Record → Option ℕ → Type 0
-  MarksFirst Y name none bytes r mark = mark ≡ None
-  MarksFirst Y name (more t ts) bytes r mark =
-      ((mid : List ℕ) × (q : Record) × Reads Y t bytes r mid q × Marks Y name t bytes r mark)
-      ⊎ (NoReading Y t bytes r × MarksFirst Y name ts bytes r mark)
+  pub MarksFirst : List ℕ → Trees → List ℕ → Record → Option ℕ → Type 0
+  MarksFirst name none bytes r mark = mark ≡ None
+  MarksFirst name (more t ts) bytes r mark =
+      ((mid : List ℕ) × (q : Record) × Reads greatest_year t bytes r mid q × Marks name t bytes r mark)
+      ⊎ (NoReading greatest_year t bytes r × MarksFirst name ts bytes r mark)
 
 -- The mark of a text, if the tree reads a front of it, or nothing.
-abbrev pub MarksTree : ℕ → Tree → Marking
-MarksTree Y t name bytes r mark = Marks Y name (optional t) bytes r mark
+abbrev pub MarksTree : Tree → Marking
+MarksTree t name bytes r mark = Marks name (optional t) bytes r mark
 
 -- ---- The place of a text that a format by places rejects, and the start of a component in one that it reads
 
@@ -71,30 +72,31 @@ at_once p bytes = bytes
 -- The start of what is expected at the first place that doesn't match. If all places match and bytes remain, it is the
 -- end of the text.
 abbrev pub LocatesPlace :
-    {P N : Type 0} → Format P N → List P → N → Beginning P → (P → Wanted) → List ℕ → Miss → Type 0
-LocatesPlace {P} {N} A ps start wanted_from wanted_at bytes m =
+    {P N : Type 0} → Format P N → List P → N → Beginning P → (P → Expectation) → List ℕ → Miss → Type 0
+LocatesPlace {P} {N} A ps start expected_from expected_at bytes m =
     ((p : P) × (stop : StopsAt A ps start bytes p)
-    × (m ≡ missed (length (wanted_from p stop.mid)) (wanted_at p)))
-    ⊎ ((rest : List ℕ) × (n : N) × Stand A ps start bytes rest n × (rest ≢ []) × (m ≡ missed (length rest) the_end))
+    × (m ≡ missed (length (expected_from p stop.mid)) (expected_at p)))
+    ⊎ ((rest : List ℕ) × (n : N) × MatchesPlaces A ps start bytes rest n × (rest ≢ [])
+    × (m ≡ missed (length rest) the_end))
 
 -- whether a place with that error has the name and takes bytes, with `rest` left after it
 abbrev pub is_place_of : List ℕ → Refusal → List ℕ → List ℕ → Bool
-is_place_of name refusal bytes rest = nat_lt (length rest) (length bytes) && says_name name refusal
+is_place_of name refusal bytes rest = nat_lt (length rest) (length bytes) && has_name name refusal
 
 -- The places match, and that many bytes are left at the start of the first place of that name, after what precedes it
 -- there.
 unfoldable pub MarksPlaces :
     {P N : Type 0} → Format P N → Beginning P → (P → Refusal) → List ℕ → List P → N → List ℕ → Option ℕ → Type 0
-MarksPlaces A wanted_from fault name [] n bytes mark = mark ≡ None
-MarksPlaces {P} {N} A wanted_from fault name (p ∷ ps) n bytes mark =
+MarksPlaces A expected_from fault name [] n bytes mark = mark ≡ None
+MarksPlaces {P} {N} A expected_from fault name (p ∷ ps) n bytes mark =
     (mid : List ℕ) × (k : N) × Cut (A p n) bytes mid k
-    × (((is_place_of name (fault p) bytes mid ≡ true) × (mark ≡ Some (length (wanted_from p bytes))))
-    ⊎ ((is_place_of name (fault p) bytes mid ≡ false) × MarksPlaces A wanted_from fault name ps k mid mark))
+    × (((is_place_of name (fault p) bytes mid ≡ true) × (mark ≡ Some (length (expected_from p bytes))))
+    ⊎ ((is_place_of name (fault p) bytes mid ≡ false) × MarksPlaces A expected_from fault name ps k mid mark))
 
 -- The mark of a text: that of the places, or none if they don't all match.
 abbrev pub MarksText :
     {P N : Type 0} → Format P N → Beginning P → (P → Refusal) → List P → N → List ℕ → List ℕ → Option ℕ → Type 0
-MarksText {P} {N} A wanted_from fault ps start name bytes mark =
+MarksText {P} {N} A expected_from fault ps start name bytes mark =
     (((p : P) × StopsAt A ps start bytes p) × (mark ≡ None))
-    ⊎ (((rest : List ℕ) × (n : N) × Stand A ps start bytes rest n)
-    × MarksPlaces A wanted_from fault name ps start bytes mark)
+    ⊎ (((rest : List ℕ) × (n : N) × MatchesPlaces A ps start bytes rest n)
+    × MarksPlaces A expected_from fault name ps start bytes mark)

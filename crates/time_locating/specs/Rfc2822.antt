@@ -2,23 +2,23 @@
 use Rattle.std.specs.Prelude.{ℕ, List, drop, true, codes, unwrap_or}
 use Rattle.time_readers.specs.MailBlanks.{opt_cfws, opt_cfws_colon_opt_cfws}
 use Rattle.time_readers.specs.Readers.{Reader}
-use Rattle.time_readers.specs.Rfc2822.{Asks, places, nothing_read, fault}
+use Rattle.time_readers.specs.Rfc2822.{PlaceSyntax, places, nothing_read, fault}
 use Rattle.time_readers.specs.declared.rfc2822.Place.{Place}
 use Rattle.time_readers.specs.declared.rfc2822.Place.TheVariants.{WeekdayName, DayBlanks, MonthBlanks, YearBlanks, HourColon, Second, TimeBlanks}
 use Rattle.time_locating.specs.Marks.{Beginning, LocatesPlace, MarksText}
 use Rattle.time_locating.specs.Located.{Locating, Marking}
-use Rattle.time_locating.specs.Misses.{Wanted, these_bytes, wanted_of}
+use Rattle.time_locating.specs.Misses.{Expectation, these_bytes, expected_of}
 
 -- what is expected at a place: a comma for a weekday without one, a space for blanks, the colon of the hour, or else
 -- the component that the place's error names
-abbrev pub wanted_at : Place → Wanted
-wanted_at WeekdayName = these_bytes (codes ",")
-wanted_at DayBlanks = these_bytes (codes " ")
-wanted_at MonthBlanks = these_bytes (codes " ")
-wanted_at YearBlanks = these_bytes (codes " ")
-wanted_at HourColon = these_bytes (codes ":")
-wanted_at TimeBlanks = these_bytes (codes " ")
-wanted_at p = wanted_of (fault p)
+abbrev pub expected_at : Place → Expectation
+expected_at WeekdayName = these_bytes (codes ",")
+expected_at DayBlanks = these_bytes (codes " ")
+expected_at MonthBlanks = these_bytes (codes " ")
+expected_at YearBlanks = these_bytes (codes " ")
+expected_at HourColon = these_bytes (codes ":")
+expected_at TimeBlanks = these_bytes (codes " ")
+expected_at p = expected_of (fault p)
 
 -- the rest after a reader, or all bytes if it doesn't match
 abbrev pub past : Reader → List ℕ → List ℕ
@@ -27,18 +27,18 @@ past reader bytes = unwrap_or (reader bytes) bytes
 -- Where the expected text of a place begins: the comma after the blanks and the three letters of a weekday, the hour's
 -- colon after its blanks, and a second after its colon and the blanks beside it. All other texts begin with their
 -- places.
-abbrev pub wanted_from : Beginning Place
-wanted_from WeekdayName bytes = drop 3 (past opt_cfws bytes)
-wanted_from HourColon bytes = past opt_cfws bytes
-wanted_from Second bytes = past opt_cfws_colon_opt_cfws bytes
-wanted_from p bytes = bytes
+abbrev pub expected_from : Beginning Place
+expected_from WeekdayName bytes = drop 3 (past opt_cfws bytes)
+expected_from HourColon bytes = past opt_cfws bytes
+expected_from Second bytes = past opt_cfws_colon_opt_cfws bytes
+expected_from p bytes = bytes
 
 -- The first of the fifteen places that doesn't have its form or whose number is out of its range, whatever the record;
 -- or else the end.
 abbrev pub Locates : Locating
-Locates bytes r m = LocatesPlace (Asks true) places nothing_read wanted_from wanted_at bytes m
+Locates bytes r m = LocatesPlace (PlaceSyntax true) places nothing_read expected_from expected_at bytes m
 
 -- Where the component of that name begins, whatever the record: after a zone name an offset has no minute, and a text
 -- may have no second.
 abbrev pub Marks : Marking
-Marks name bytes r mark = MarksText (Asks true) wanted_from fault places nothing_read name bytes mark
+Marks name bytes r mark = MarksText (PlaceSyntax true) expected_from fault places nothing_read name bytes mark

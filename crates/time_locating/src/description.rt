@@ -26,7 +26,7 @@ fn locate_item<'d, I: Inspect>(
     input: &[u8],
     defaults: Option<Parsed>,
 ) -> Option<Located<'d>>
-    ensures { IsLocated (Reads greatest_year (I.shape item.now)) (LocatesTree greatest_year all_bytes (I.shape item.now))
+    ensures { IsLocated (Reads greatest_year (I.shape item.now)) (LocatesTree all_bytes (I.shape item.now))
         input.now (begun defaults) result }
 {
     let mut parsed = begin(defaults);
@@ -41,7 +41,7 @@ fn locate_steps<'a>(
     defaults: Option<Parsed>,
 ) -> Option<Located<'a>>
     ensures { IsLocated (Reads greatest_year (steps_shape steps.now))
-        (LocatesTree greatest_year first_byte (steps_shape steps.now)) input.now (begun defaults) result }
+        (LocatesTree first_byte (steps_shape steps.now)) input.now (begun defaults) result }
 {
     let mut parsed = begin(defaults);
     let walked = walk_list(steps, &mut parsed, input, "");
@@ -55,7 +55,7 @@ fn locate_in_steps(
     defaults: Option<Parsed>,
     name: &str,
 ) -> Option<usize>
-    ensures { IsMarked (MarksTree greatest_year (steps_shape steps.now)) name.now input.now (begun defaults) result }
+    ensures { IsMarked (MarksTree (steps_shape steps.now)) name.now input.now (begun defaults) result }
 {
     let mut parsed = begin(defaults);
     let walked = walk_list(steps, &mut parsed, input, name);
@@ -69,7 +69,7 @@ fn locate_in_item<I: Inspect>(
     defaults: Option<Parsed>,
     name: &str,
 ) -> Option<usize>
-    ensures { IsMarked (MarksTree greatest_year (I.shape item.now)) name.now input.now (begun defaults) result }
+    ensures { IsMarked (MarksTree (I.shape item.now)) name.now input.now (begun defaults) result }
 {
     let mut parsed = begin(defaults);
     let walked = walk(item, &mut parsed, input, name);
@@ -77,15 +77,15 @@ fn locate_in_item<I: Inspect>(
 }
 
 impl Locate for BorrowedFormatItem<'_> {
-    ghost locates = { λ s. LocatesTree greatest_year all_bytes (borrowed_shape s) };
+    ghost locates = { λ s. LocatesTree all_bytes (borrowed_shape s) };
 
     fn locate<'a>(&'a self, input: &[u8], defaults: Option<Parsed>) -> Option<Located<'a>> {
         locate_item(self, input, defaults)
     }
 
-    ghost exact_place = { λ s. tree_exact_place greatest_year all_bytes (borrowed_shape s) };
+    ghost exact_place = { λ s. tree_exact_place all_bytes (borrowed_shape s) };
 
-    ghost marks = { λ s. MarksTree greatest_year (borrowed_shape s) };
+    ghost marks = { λ s. MarksTree (borrowed_shape s) };
 
     fn locate_component(
         &self,
@@ -96,19 +96,19 @@ impl Locate for BorrowedFormatItem<'_> {
         locate_in_item(self, input, defaults, name)
     }
 
-    ghost exact_mark = { λ s. tree_exact_mark greatest_year (borrowed_shape s) };
+    ghost exact_mark = { λ s. tree_exact_mark (borrowed_shape s) };
 }
 
 impl Locate for OwnedFormatItem {
-    ghost locates = { λ s. LocatesTree greatest_year all_bytes (owned_shape s) };
+    ghost locates = { λ s. LocatesTree all_bytes (owned_shape s) };
 
     fn locate<'a>(&'a self, input: &[u8], defaults: Option<Parsed>) -> Option<Located<'a>> {
         locate_item(self, input, defaults)
     }
 
-    ghost exact_place = { λ s. tree_exact_place greatest_year all_bytes (owned_shape s) };
+    ghost exact_place = { λ s. tree_exact_place all_bytes (owned_shape s) };
 
-    ghost marks = { λ s. MarksTree greatest_year (owned_shape s) };
+    ghost marks = { λ s. MarksTree (owned_shape s) };
 
     fn locate_component(
         &self,
@@ -119,19 +119,19 @@ impl Locate for OwnedFormatItem {
         locate_in_item(self, input, defaults, name)
     }
 
-    ghost exact_mark = { λ s. tree_exact_mark greatest_year (owned_shape s) };
+    ghost exact_mark = { λ s. tree_exact_mark (owned_shape s) };
 }
 
 impl Locate for FormatDescriptionV3<'_> {
-    ghost locates = { λ s. LocatesTree greatest_year all_bytes (v3_shape s.inner) };
+    ghost locates = { λ s. LocatesTree all_bytes (v3_shape s.inner) };
 
     fn locate<'a>(&'a self, input: &[u8], defaults: Option<Parsed>) -> Option<Located<'a>> {
         locate_item(&self.inner, input, defaults)
     }
 
-    ghost exact_place = { λ s. tree_exact_place greatest_year all_bytes (v3_shape s.inner) };
+    ghost exact_place = { λ s. tree_exact_place all_bytes (v3_shape s.inner) };
 
-    ghost marks = { λ s. MarksTree greatest_year (v3_shape s.inner) };
+    ghost marks = { λ s. MarksTree (v3_shape s.inner) };
 
     fn locate_component(
         &self,
@@ -142,19 +142,19 @@ impl Locate for FormatDescriptionV3<'_> {
         locate_in_item(&self.inner, input, defaults, name)
     }
 
-    ghost exact_mark = { λ s. tree_exact_mark greatest_year (v3_shape s.inner) };
+    ghost exact_mark = { λ s. tree_exact_mark (v3_shape s.inner) };
 }
 
 impl<const N: usize> Locate for Description<N> {
-    ghost locates = { λ s. LocatesTree greatest_year first_byte (shape s) };
+    ghost locates = { λ s. LocatesTree first_byte (shape s) };
 
     fn locate<'a>(&'a self, input: &[u8], defaults: Option<Parsed>) -> Option<Located<'a>> {
         locate_steps(self.steps(), input, defaults)
     }
 
-    ghost exact_place = { λ s. tree_exact_place greatest_year first_byte (shape s) };
+    ghost exact_place = { λ s. tree_exact_place first_byte (shape s) };
 
-    ghost marks = { λ s. MarksTree greatest_year (shape s) };
+    ghost marks = { λ s. MarksTree (shape s) };
 
     fn locate_component(
         &self,
@@ -165,19 +165,19 @@ impl<const N: usize> Locate for Description<N> {
         locate_in_steps(self.steps(), input, defaults, name)
     }
 
-    ghost exact_mark = { λ s. tree_exact_mark greatest_year (shape s) };
+    ghost exact_mark = { λ s. tree_exact_mark (shape s) };
 }
 
 impl<const N: usize> Locate for Prepared<N> {
-    ghost locates = { λ s. LocatesTree greatest_year first_byte (steps_shape s) };
+    ghost locates = { λ s. LocatesTree first_byte (steps_shape s) };
 
     fn locate<'a>(&'a self, input: &[u8], defaults: Option<Parsed>) -> Option<Located<'a>> {
         locate_steps(self.steps(), input, defaults)
     }
 
-    ghost exact_place = { λ s. tree_exact_place greatest_year first_byte (steps_shape s) };
+    ghost exact_place = { λ s. tree_exact_place first_byte (steps_shape s) };
 
-    ghost marks = { λ s. MarksTree greatest_year (steps_shape s) };
+    ghost marks = { λ s. MarksTree (steps_shape s) };
 
     fn locate_component(
         &self,
@@ -188,11 +188,11 @@ impl<const N: usize> Locate for Prepared<N> {
         locate_in_steps(self.steps(), input, defaults, name)
     }
 
-    ghost exact_mark = { λ s. tree_exact_mark greatest_year (steps_shape s) };
+    ghost exact_mark = { λ s. tree_exact_mark (steps_shape s) };
 }
 
 impl<'i, I: Inspect> Locate for Items<'i, I> {
-    ghost locates = { λ s. LocatesTree greatest_year all_bytes (sequence (trees (map I.Inspect.shape s.0.now))) };
+    ghost locates = { λ s. LocatesTree all_bytes (sequence (trees (map I.Inspect.shape s.0.now))) };
 
     fn locate<'a>(&'a self, input: &[u8], defaults: Option<Parsed>) -> Option<Located<'a>> {
         let mut parsed = begin(defaults);
@@ -200,9 +200,9 @@ impl<'i, I: Inspect> Locate for Items<'i, I> {
         place(walked.rest, walked.missed, input)
     }
 
-    ghost exact_place = { λ s. tree_exact_place greatest_year all_bytes (sequence (trees (map I.Inspect.shape s.0.now))) };
+    ghost exact_place = { λ s. tree_exact_place all_bytes (sequence (trees (map I.Inspect.shape s.0.now))) };
 
-    ghost marks = { λ s. MarksTree greatest_year (sequence (trees (map I.Inspect.shape s.0.now))) };
+    ghost marks = { λ s. MarksTree (sequence (trees (map I.Inspect.shape s.0.now))) };
 
     fn locate_component(
         &self,
@@ -215,5 +215,5 @@ impl<'i, I: Inspect> Locate for Items<'i, I> {
         index_of(walked.mark, input)
     }
 
-    ghost exact_mark = { λ s. tree_exact_mark greatest_year (sequence (trees (map I.Inspect.shape s.0.now))) };
+    ghost exact_mark = { λ s. tree_exact_mark (sequence (trees (map I.Inspect.shape s.0.now))) };
 }

@@ -4,14 +4,13 @@ mod pieces;
 
 ghost use Rattle.std.specs.Prelude.{◌≡◌, map};
 ghost use Rattle.time_record.specs.Record.{Record};
-ghost use Rattle.time_values.specs.Calendar.{greatest_year};
 ghost use Rattle.time_readers.specs.IsoDates.{iso_date};
 ghost use Rattle.time_readers.specs.IsoOffsets.{offset_rows};
 ghost use Rattle.time_readers.specs.IsoPieces.{byte};
 ghost use Rattle.time_readers.specs.IsoTimes.{time_rows};
 ghost use Rattle.time_locating.specs.Iso8601 as spec;
-ghost use Rattle.time_locating.specs.IsoNumbers.{IsTooGreat, IsYearHeld};
-ghost use Rattle.time_locating.specs.Located.{seen_miss};
+ghost use Rattle.time_locating.specs.IsoNumbers.{IsTooGreat, IsYearInRange};
+ghost use Rattle.time_locating.specs.Located.{erased_miss};
 ghost use Rattle.time_locating.specs.Misses.{furthest};
 
 use crate::iso8601::marks::text_mark;
@@ -161,7 +160,7 @@ const OFFSETS: [&[Piece]; 4] = [UTC, OFFSET_HOUR, OFFSET_MINUTE, OFFSET_COLON_MI
 
 // The miss at the first piece of a row that doesn't match.
 fn row_missed(row: &[Piece], input: &[u8]) -> Option<Miss<'static>>
-    ensures { seen_miss result ≡ furthest (spec.row_misses row.now input.now) }
+    ensures { erased_miss result ≡ furthest (spec.row_misses row.now input.now) }
 {
     let mut rest = input;
     for piece in row {
@@ -176,7 +175,7 @@ fn row_missed(row: &[Piece], input: &[u8]) -> Option<Miss<'static>>
 // The furthest miss of some rows.
 #[tactic(auto, using(crate::proofs::IsoLengths::rows_next))]
 fn rows_missed(rows: &[&[Piece]], input: &[u8]) -> Option<Miss<'static>>
-    ensures { seen_miss result ≡ furthest (spec.rows_misses (map (λ row. row.now) rows.now) input.now) }
+    ensures { erased_miss result ≡ furthest (spec.rows_misses (map (λ row. row.now) rows.now) input.now) }
 {
     let mut missed = None;
     for row in rows {
@@ -208,21 +207,21 @@ fn offsets_of(kind: ExtendedKind) -> &'static [&'static [Piece]]
 
 // The furthest miss of a time of that kind.
 fn time_missed(kind: ExtendedKind, input: &[u8]) -> Option<Miss<'static>>
-    ensures { seen_miss result ≡ furthest (spec.time_misses kind input.now) }
+    ensures { erased_miss result ≡ furthest (spec.time_misses kind input.now) }
 {
     rows_missed(times_of(kind), input)
 }
 
 // The furthest miss of an offset of that kind.
 fn offset_missed(kind: ExtendedKind, input: &[u8]) -> Option<Miss<'static>>
-    ensures { seen_miss result ≡ furthest (spec.offset_misses kind input.now) }
+    ensures { erased_miss result ≡ furthest (spec.offset_misses kind input.now) }
 {
     rows_missed(offsets_of(kind), input)
 }
 
 // The furthest miss of `T`, which is required only if `needs_t`, and of a time of that kind after it.
 fn letter_missed(needs_t: bool, kind: ExtendedKind, input: &[u8]) -> Option<Miss<'static>>
-    ensures { seen_miss result ≡ furthest (spec.after_t needs_t kind input.now (byte 84 input.now)) }
+    ensures { erased_miss result ≡ furthest (spec.after_t needs_t kind input.now (byte 84 input.now)) }
 {
     match past_byte::<b'T'>(input) {
         Some(after) => time_missed(kind, after),
@@ -233,7 +232,7 @@ fn letter_missed(needs_t: bool, kind: ExtendedKind, input: &[u8]) -> Option<Miss
 
 // The furthest miss of a time and of an offset after it.
 fn missed_from_time(needs_t: bool, kind: ExtendedKind, input: &[u8]) -> Option<Miss<'static>>
-    ensures { seen_miss result ≡ furthest (spec.from_time needs_t kind input.now) }
+    ensures { erased_miss result ≡ furthest (spec.from_time needs_t kind input.now) }
 {
     let missed = letter_missed(needs_t, kind, input);
     match time(input, kind, needs_t) {
@@ -244,7 +243,7 @@ fn missed_from_time(needs_t: bool, kind: ExtendedKind, input: &[u8]) -> Option<M
 
 // The furthest miss of a text without a date.
 fn missed_without_date(input: &[u8]) -> Option<Miss<'static>>
-    ensures { seen_miss result ≡ furthest (spec.without_date input.now) }
+    ensures { erased_miss result ≡ furthest (spec.without_date input.now) }
 {
     further(
         missed_from_time(false, ExtendedKind::Unknown, input),
@@ -255,7 +254,7 @@ fn missed_without_date(input: &[u8]) -> Option<Miss<'static>>
 // The number of a date that is greater than a record allows: how many bytes before the date's end the number begins,
 // and the name of its component.
 fn too_great(numbers: DateNumbers, kind: ExtendedKind) -> Option<(usize, &'static str)>
-    ensures { (r : Record) → IsYearHeld (iso_date numbers) → IsTooGreat (iso_date numbers) kind r result }
+    ensures { (r : Record) → IsYearInRange (iso_date numbers) → IsTooGreat (iso_date numbers) kind r result }
 {
     match numbers {
         DateNumbers::Calendar(_, _, day) if day.get() > 31 => Some((2, "day")),
@@ -269,7 +268,7 @@ fn too_great(numbers: DateNumbers, kind: ExtendedKind) -> Option<(usize, &'stati
 
 // The furthest miss of a text.
 fn missed(input: &[u8]) -> Option<Miss<'static>>
-    ensures { (r : Record) → seen_miss result ≡ furthest (spec.misses greatest_year input.now r) }
+    ensures { (r : Record) → erased_miss result ≡ furthest (spec.misses input.now r) }
 {
     let Ok(date) = date(input) else {
         return further(rows_missed(&DATES, input), missed_without_date(input));
@@ -289,7 +288,7 @@ fn missed(input: &[u8]) -> Option<Miss<'static>>
 impl Locate for Iso8601 {
     ghost use Rattle.time_locating.specs.Iso8601.{Locates};
 
-    ghost locates = { λ _. Locates greatest_year };
+    ghost locates = { λ _. Locates };
 
     fn locate<'a>(&'a self, input: &[u8], defaults: Option<Parsed>) -> Option<Located<'a>> {
         let mut parsed = begin(defaults);
@@ -299,11 +298,11 @@ impl Locate for Iso8601 {
 
     ghost use Rattle.time_locating.specs.exact.PlaceLaws.{iso8601_exact_place};
 
-    ghost exact_place = { λ _. iso8601_exact_place greatest_year };
+    ghost exact_place = { λ _. iso8601_exact_place };
 
     ghost use Rattle.time_locating.specs.IsoMarks.{Marks};
 
-    ghost marks = { λ _. Marks greatest_year };
+    ghost marks = { λ _. Marks };
 
     fn locate_component(
         &self,
@@ -320,5 +319,5 @@ impl Locate for Iso8601 {
 
     ghost use Rattle.time_locating.specs.exact.PlaceLaws.{iso8601_exact_mark};
 
-    ghost exact_mark = { λ _. iso8601_exact_mark greatest_year };
+    ghost exact_mark = { λ _. iso8601_exact_mark };
 }

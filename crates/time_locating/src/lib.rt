@@ -9,6 +9,7 @@ mod located;
 mod mark;
 mod rfc2822;
 mod rfc3339;
+mod rfc3339_strict;
 mod walk;
 
 pub use locate::{Locate, locate_error};

@@ -1,7 +1,7 @@
 //! The place at which a text is rejected.
 ghost use Rattle.std.specs.Prelude.{◌≡◌, ◌≤◌, ◌++◌, ℕ, List, Some, length};
 ghost use Rattle.std.specs.Option.{option_copied};
-ghost use Rattle.time_locating.specs.Located.{end_of, seen_place, expected_text};
+ghost use Rattle.time_locating.specs.Located.{end_of, erased_located, expected_text};
 
 use std::fmt;
 
@@ -44,7 +44,7 @@ pub struct Located<'a> {
 /// The place of the error in a text that leaves the bytes `rest` unread, or `None` if there are no such bytes.
 pub(crate) fn after_all<'a>(rest: &[u8], input: &[u8]) -> Option<Located<'a>>
     requires { length rest.now ≤ length input.now }
-    ensures { seen_place result ≡ end_of (length input.now) rest.now }
+    ensures { erased_located result ≡ end_of (length input.now) rest.now }
 {
     if rest.is_empty() {
         return None;

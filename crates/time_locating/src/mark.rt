@@ -7,10 +7,10 @@ ghost use Rattle.time_components.specs.Tree.{Tree};
 ghost use Rattle.time_readers.specs.IsoTimes.{when};
 ghost use Rattle.time_record.specs.Record.{Record};
 ghost use Rattle.time_locating.specs.Marks as places;
-ghost use Rattle.time_locating.specs.Located.{IsMarked, seen_miss, wants, IsLocated, place_in, seen_place};
+ghost use Rattle.time_locating.specs.Located.{IsMarked, erased_miss, wants, IsLocated, place_in, erased_located};
 ghost use Rattle.time_locating.specs.Marks.{MarksTree};
 ghost use Rattle.time_locating.specs.Misses as misses;
-ghost use Rattle.time_locating.specs.Misses.{all_bytes, furthest, literal_misses, IsFurthest, LocatesTree, Misses, Telling, place_after};
+ghost use Rattle.time_locating.specs.Misses.{all_bytes, furthest, literal_misses, IsFurthest, LocatesTree, Misses, LiteralReport, place_after};
 ghost use Rattle.time_record.specs.WalkSteps.{Attempts};
 ghost use Rattle.time_record.specs.Reading.{Reads};
 
@@ -26,7 +26,7 @@ fn is_named(component: Component, name: &str) -> bool
 {
     match component {
         Component::WeekNumberIso(_) => name == "week number" || name == "week",
-        _ => says_name(fault(component), name),
+        _ => has_name(fault(component), name),
     }
 }
 
@@ -42,8 +42,8 @@ pub(crate) fn mark_of(component: Component, name: &str, input: &[u8]) -> Option<
 }
 
 // Whether the error has this name.
-fn says_name(fault: ParseFromDescription, name: &str) -> bool
-    ensures { result ≡ places.says_name name.now (refusal_of_description fault) }
+fn has_name(fault: ParseFromDescription, name: &str) -> bool
+    ensures { result ≡ places.has_name name.now (refusal_of_description fault) }
 {
     match fault {
         ParseFromDescription::InvalidComponent(own) => name == own,
@@ -62,14 +62,14 @@ pub(crate) fn is_place_of(
 ) -> bool
     ensures { result ≡ places.is_place_of name.now (refusal_of_description fault) bytes.now rest.now }
 {
-    rest.len() < bytes.len() && says_name(fault, name)
+    rest.len() < bytes.len() && has_name(fault, name)
 }
 
 /// The index in the text at which that number of bytes is left.
 pub(crate) fn index_of(mark: Option<usize>, input: &[u8]) -> Option<usize>
     ensures text { result ≡ option_map (λ left. length input.now - left) mark }
-    ensures tree { (t : Tree) (name : List ℕ) (r : Record) → MarksTree greatest_year t name input.now r mark
-        → IsMarked (MarksTree greatest_year t) name input.now r result }
+    ensures tree { (t : Tree) (name : List ℕ) (r : Record) → MarksTree t name input.now r mark
+        → IsMarked (MarksTree t) name input.now r result }
 {
     let left = mark?;
     Some(input.len().saturating_sub(left))
@@ -87,7 +87,7 @@ pub(crate) struct Miss<'a> {
 /// The miss of what is expected at the front of these bytes and isn't there.
 #[inline]
 pub(crate) fn missed_at<'a>(expected: Expected<'a>, input: &[u8]) -> Option<Miss<'a>>
-    ensures { seen_miss result ≡ Some (misses.missed (length input.now) (wants expected.entry)) }
+    ensures { erased_miss result ≡ Some (misses.missed (length input.now) (wants expected.entry)) }
 {
     Some(Miss {
         left: input.len(),
@@ -98,7 +98,7 @@ pub(crate) fn missed_at<'a>(expected: Expected<'a>, input: &[u8]) -> Option<Miss
 /// The miss in a literal: its first byte that isn't there, with those of it that follow. `None` if the input begins
 /// with the literal.
 pub(crate) fn missed_in<'a>(text: &'a [u8], input: &[u8]) -> Option<Miss<'a>>
-    ensures { seen_miss result ≡ furthest (literal_misses all_bytes text.now input.now) }
+    ensures { erased_miss result ≡ furthest (literal_misses all_bytes text.now input.now) }
 {
     let mut wanted = text;
     let mut rest = input;
@@ -116,7 +116,7 @@ pub(crate) fn missed_in<'a>(text: &'a [u8], input: &[u8]) -> Option<Miss<'a>>
 
 /// The first miss, or the second if that leaves fewer bytes.
 pub(crate) fn further<'a>(first: Option<Miss<'a>>, second: Option<Miss<'a>>) -> Option<Miss<'a>>
-    ensures { seen_miss result ≡ misses.further (seen_miss first.entry) (seen_miss second.entry) }
+    ensures { erased_miss result ≡ misses.further (erased_miss first.entry) (erased_miss second.entry) }
 {
     match (first, second) {
         (Some(one), Some(other)) if other.left < one.left => Some(other),
@@ -126,8 +126,8 @@ pub(crate) fn further<'a>(first: Option<Miss<'a>>, second: Option<Miss<'a>>) -> 
 }
 
 /// What was expected at a component with that error.
-pub(crate) fn wanted_of(fault: ParseFromDescription) -> Expected<'static>
-    ensures { wants result ≡ misses.wanted_of (refusal_of_description fault) }
+pub(crate) fn expected_of(fault: ParseFromDescription) -> Expected<'static>
+    ensures { wants result ≡ misses.expected_of (refusal_of_description fault) }
 {
     match fault {
         ParseFromDescription::InvalidComponent(name) => Expected::Component(name),
@@ -142,11 +142,11 @@ pub(crate) fn place<'d>(
     missed: Option<Miss<'d>>,
     input: &[u8],
 ) -> Option<Located<'d>>
-    ensures text { seen_place result
-        ≡ place_in (length input.now) (place_after (option_copied unread.entry) (seen_miss missed.entry)) }
-    ensures tree { (told : Telling) (t : Tree) (r q : Record) → Attempts greatest_year t input.now r unread.entry q
-        → IsFurthest (Misses greatest_year told t input.now r) (seen_miss missed.entry)
-        → IsLocated (Reads greatest_year t) (LocatesTree greatest_year told t) input.now r result }
+    ensures text { erased_located result
+        ≡ place_in (length input.now) (place_after (option_copied unread.entry) (erased_miss missed.entry)) }
+    ensures tree { (told : LiteralReport) (t : Tree) (r q : Record) → Attempts greatest_year t input.now r unread.entry q
+        → IsFurthest (Misses told t input.now r) (erased_miss missed.entry)
+        → IsLocated (Reads greatest_year t) (LocatesTree told t) input.now r result }
 {
     match unread {
         Some(rest) => {
@@ -165,7 +165,7 @@ pub(crate) fn place<'d>(
 
 // The place of a miss in the text.
 fn located<'d>(miss: Option<Miss<'d>>, input: &[u8]) -> Option<Located<'d>>
-    ensures { seen_place result ≡ place_in (length input.now) (seen_miss miss.entry) }
+    ensures { erased_located result ≡ place_in (length input.now) (erased_miss miss.entry) }
 {
     match miss {
         Some(miss) => Some(Located {

@@ -1,20 +1,19 @@
 //! Locates the errors of RFC 2822 texts.
 ghost use Rattle.std.specs.Prelude.{◌≡◌, ℕ, ◌++◌, Bool, true, List, length, Option, Some, is_some, option_map};
 ghost use Rattle.std.specs.Option.{option_copied};
-ghost use Rattle.time_values.specs.Calendar.{greatest_year};
 ghost use Rattle.time_values.specs.declared.weekday.Weekday.{Weekday};
 ghost use Rattle.time_digits.specs.Digits.{Cut, IsDigitRun};
-ghost use Rattle.time_readers.specs.Rfc2822.{Asks, FailsAt, HasForm, IsSecond, IsWeekdayPart, IsYear, fault, nothing_read, places};
+ghost use Rattle.time_readers.specs.Rfc2822.{PlaceSyntax, FailsAt, HasForm, IsSecond, IsWeekdayPart, IsYear, fault, nothing_read, places};
 ghost use Rattle.time_readers.specs.declared.rfc2822.Numbers.{Numbers};
 ghost use Rattle.time_readers.specs.declared.rfc2822.Place.TheVariants as place;
 ghost use Rattle.time_locating.specs.Marks.{MarksPlaces};
 ghost use Rattle.time_locating.specs.MailPlaces.{Agrees, rank};
 ghost use Rattle.time_locating.specs.Located.{wants};
 ghost use Rattle.time_locating.specs.Rfc2822 as spec;
-ghost use Rattle.time_locating.specs.Rfc2822.{wanted_at};
+ghost use Rattle.time_locating.specs.Rfc2822.{expected_at};
 
 use crate::located::{after_all, past_bytes};
-use crate::mark::{index_of, is_place_of, wanted_of};
+use crate::mark::{expected_of, index_of, is_place_of};
 use crate::{Expected, Locate, Located};
 use time_parsing::Rfc2822;
 use time_readers::combinator::{ascii_char, exactly_n_digits, one_or_two_digits};
@@ -49,7 +48,7 @@ const PLACES: [Place; 15] = [
 
 // What is expected at a place.
 fn expected_at(place: Place) -> Expected<'static>
-    ensures { wants result ≡ wanted_at place }
+    ensures { wants result ≡ expected_at place }
 {
     match place {
         Place::WeekdayName => Expected::Literal(b","),
@@ -57,13 +56,13 @@ fn expected_at(place: Place) -> Expected<'static>
             Expected::Literal(b" ")
         }
         Place::HourColon => Expected::Literal(b":"),
-        _ => wanted_of(place_fault(place)),
+        _ => expected_of(place_fault(place)),
     }
 }
 
 // The bytes that are left where the expected text should begin, given those that are left at the place's start.
-fn wanted_from(place: Place, input: &[u8]) -> &[u8]
-    ensures { result.now ≡ spec.wanted_from place input.now }
+fn expected_from(place: Place, input: &[u8]) -> &[u8]
+    ensures { result.now ≡ spec.expected_from place input.now }
 {
     match place {
         Place::WeekdayName => opt_cfws(input).0.get(WEEKDAY_LETTERS..).unwrap_or(&[]),
@@ -137,7 +136,7 @@ fn past_second(input: &[u8]) -> Option<&[u8]>
 
 // The rest after a zone name, or after a sign and an hour, and whether there is a sign.
 fn past_offset_hour(input: &[u8]) -> (Option<&[u8]>, bool)
-    ensures { (n m : Numbers) (rest : List ℕ) → Cut (Asks true place.OffsetHour n) input.now rest m
+    ensures { (n m : Numbers) (rest : List ℕ) → Cut (PlaceSyntax true place.OffsetHour n) input.now rest m
         → (option_copied result.0 ≡ Some rest) × (result.1 ≡ is_some m.offset_sign) }
 {
     match zone_literal(input) {
@@ -148,7 +147,7 @@ fn past_offset_hour(input: &[u8]) -> (Option<&[u8]>, bool)
 
 // The rest after a place that matches.
 fn past<'a>(place: Place, input: &'a [u8], passed: &mut Passed) -> Option<&'a [u8]>
-    ensures { (n m : Numbers) (rest : List ℕ) → Agrees n passed.old → Cut (Asks true place n) input.now rest m
+    ensures { (n m : Numbers) (rest : List ℕ) → Agrees n passed.old → Cut (PlaceSyntax true place n) input.now rest m
         → (option_copied result ≡ Some rest) × Agrees m passed.new }
 {
     match place {
@@ -206,7 +205,7 @@ fn rest_before<'a>(place: Place, input: &'a [u8]) -> Option<&'a [u8]>
 // How many bytes are left at the start of the text of this name, if all places match.
 fn mark_of_place(input: &[u8], name: &str) -> Option<usize>
     ensures { (rest : List ℕ) (n : Numbers) → HasForm true input.now rest n
-        → MarksPlaces (Asks true) spec.wanted_from fault name.now places nothing_read input.now result }
+        → MarksPlaces (PlaceSyntax true) spec.expected_from fault name.now places nothing_read input.now result }
 {
     let mut rest = input;
     let mut passed = Passed {
@@ -216,7 +215,7 @@ fn mark_of_place(input: &[u8], name: &str) -> Option<usize>
     for place in &PLACES {
         let after = past(*place, rest, &mut passed)?;
         if is_place_of(place_fault(*place), name, rest, after) {
-            return Some(wanted_from(*place, rest).len());
+            return Some(expected_from(*place, rest).len());
         }
         rest = after;
     }
@@ -234,7 +233,7 @@ impl Locate for Rfc2822 {
             Err(place) => {
                 let rest = rest_before(place, input)?;
                 Some(Located {
-                    index: input.len() - wanted_from(place, rest).len(),
+                    index: input.len() - expected_from(place, rest).len(),
                     expected: expected_at(place),
                 })
             }
@@ -243,7 +242,7 @@ impl Locate for Rfc2822 {
 
     ghost use Rattle.time_locating.specs.exact.PlaceLaws.{rfc2822_exact_place};
 
-    ghost exact_place = { λ _. rfc2822_exact_place greatest_year };
+    ghost exact_place = { λ _. rfc2822_exact_place };
 
     ghost use Rattle.time_locating.specs.Rfc2822.{Marks};
 

@@ -2,16 +2,18 @@
 ghost use Rattle.std.specs.Prelude.{◌≡◌, ◌≤◌, ℕ, ◌+◌, ◌++◌, true, length, List, Option, Some};
 ghost use Rattle.std.specs.Option.{option_copied};
 ghost use Rattle.time_digits.specs.Digits.{Cut};
-ghost use Rattle.time_readers.specs.Rfc3339.{Asks, FailsAt, HasForm, IsSubsecond, fault, nothing_read, places};
+ghost use Rattle.time_readers.specs.Rfc3339.{PlaceSyntax, FailsAt, HasForm, IsSubsecond, fault, nothing_read, places};
 ghost use Rattle.time_readers.specs.declared.rfc3339.Numbers.{Numbers};
 ghost use Rattle.time_readers.specs.declared.rfc3339.Place.TheVariants as place;
 ghost use Rattle.time_values.specs.Calendar.{greatest_year};
 ghost use Rattle.time_locating.specs.Marks.{MarksPlaces, at_once};
-ghost use Rattle.time_locating.specs.Located.{wants};
-ghost use Rattle.time_locating.specs.Rfc3339.{wanted_at};
+ghost use Rattle.time_record.specs.Record.{Record};
+ghost use Rattle.time_parsing.specs.Rfc3339.{Reads};
+ghost use Rattle.time_locating.specs.Located.{IsLocated, wants};
+ghost use Rattle.time_locating.specs.Rfc3339.{expected_at, Locates};
 
 use crate::located::{after_all, past_bytes};
-use crate::mark::{index_of as index_of_mark, is_place_of, wanted_of};
+use crate::mark::{expected_of, index_of as index_of_mark, is_place_of};
 use crate::{Expected, Locate, Located};
 use time_parsing::Rfc3339;
 use time_readers::combinator::{ascii_char_ignore_case, leading_digits};
@@ -42,12 +44,12 @@ const PLACES: [Place; 15] = [
 
 // What is expected at a place.
 fn expected_at(place: Place) -> Expected<'static>
-    ensures { wants result ≡ wanted_at place }
+    ensures { wants result ≡ expected_at place }
 {
     match place {
         Place::YearDash | Place::MonthDash => Expected::Literal(b"-"),
         Place::HourColon | Place::MinuteColon | Place::OffsetColon => Expected::Literal(b":"),
-        _ => wanted_of(place_fault(place)),
+        _ => expected_of(place_fault(place)),
     }
 }
 
@@ -94,7 +96,7 @@ fn index_of(place: Place, input: &[u8]) -> usize
 
 // The rest after an offset's `Z`, or after its sign and hour, and whether the text is then in UTC.
 fn past_offset_hour(input: &[u8], is_utc: bool) -> (Option<&[u8]>, bool)
-    ensures { (n m : Numbers) (rest : List ℕ) → n.is_utc ≡ is_utc → Cut (Asks true place.OffsetHour n) input.now rest m
+    ensures { (n m : Numbers) (rest : List ℕ) → n.is_utc ≡ is_utc → Cut (PlaceSyntax true place.OffsetHour n) input.now rest m
         → (option_copied result.0 ≡ Some rest) × (m.is_utc ≡ result.1) }
 {
     match ascii_char_ignore_case::<b'Z'>(input) {
@@ -105,7 +107,7 @@ fn past_offset_hour(input: &[u8], is_utc: bool) -> (Option<&[u8]>, bool)
 
 // The rest after a place that matches. After `Z` the places of the offset are empty.
 fn past<'a>(place: Place, input: &'a [u8], is_utc: &mut bool) -> Option<&'a [u8]>
-    ensures { (n m : Numbers) (rest : List ℕ) → n.is_utc ≡ is_utc.old → Cut (Asks true place n) input.now rest m
+    ensures { (n m : Numbers) (rest : List ℕ) → n.is_utc ≡ is_utc.old → Cut (PlaceSyntax true place n) input.now rest m
         → (option_copied result ≡ Some rest) × (m.is_utc ≡ is_utc.new) }
 {
     match place {
@@ -132,7 +134,7 @@ fn past<'a>(place: Place, input: &'a [u8], is_utc: &mut bool) -> Option<&'a [u8]
 // How many bytes are left at the start of the place of this name, if it has a text and all places match.
 fn mark_of_place(input: &[u8], name: &str) -> Option<usize>
     ensures { (rest : List ℕ) (n : Numbers) → HasForm true input.now rest n
-        → MarksPlaces (Asks true) at_once fault name.now places nothing_read input.now result }
+        → MarksPlaces (PlaceSyntax true) at_once fault name.now places nothing_read input.now result }
 {
     let mut rest = input;
     let mut is_utc = false;
@@ -146,24 +148,31 @@ fn mark_of_place(input: &[u8], name: &str) -> Option<usize>
     None
 }
 
+// The place of the error in a text, or `None` if it is read whole.
+pub(crate) fn error_place(input: &[u8]) -> Option<Located<'static>>
+    ensures { (begin : Record) → IsLocated (Reads greatest_year) Locates input.now begin result }
+{
+    match read::<true>(input) {
+        Ok(found) => after_all(found.0, input),
+        Err(place) => Some(Located {
+            index: index_of(place, input),
+            expected: expected_at(place),
+        }),
+    }
+}
+
 impl Locate for Rfc3339 {
     ghost use Rattle.time_locating.specs.Rfc3339.{Locates};
 
     ghost locates = { λ _. Locates };
 
     fn locate<'a>(&'a self, input: &[u8], _defaults: Option<Parsed>) -> Option<Located<'a>> {
-        match read::<true>(input) {
-            Ok(found) => after_all(found.0, input),
-            Err(place) => Some(Located {
-                index: index_of(place, input),
-                expected: expected_at(place),
-            }),
-        }
+        error_place(input)
     }
 
     ghost use Rattle.time_locating.specs.exact.PlaceLaws.{rfc3339_exact_place};
 
-    ghost exact_place = { λ _. rfc3339_exact_place greatest_year };
+    ghost exact_place = { λ _. rfc3339_exact_place };
 
     ghost use Rattle.time_locating.specs.Rfc3339.{Marks};
 

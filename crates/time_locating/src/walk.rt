@@ -7,11 +7,11 @@ ghost use Rattle.time_components.specs.Tree as tree;
 ghost use Rattle.time_components.specs.Tree.{first_of, sequence, trees};
 ghost use Rattle.time_record.specs.WalkSteps.{Attempts};
 ghost use Rattle.time_record.specs.Record.{Record};
-ghost use Rattle.time_locating.specs.Located.{seen_miss};
+ghost use Rattle.time_locating.specs.Located.{erased_miss};
 ghost use Rattle.time_locating.specs.Marks.{MarksTree};
 ghost use Rattle.time_locating.specs.Misses.{IsFurthest, Misses, MissesAll, MissesFirst, all_bytes};
 
-use crate::mark::{Miss, further, mark_of, missed_at, missed_in, wanted_of};
+use crate::mark::{Miss, expected_of, further, mark_of, missed_at, missed_in};
 use time_components::{Component, FormatDescriptionV3Inner, Inspect, Node};
 use time_record::Parsed;
 
@@ -36,8 +36,8 @@ pub(crate) fn walk<'a, 'd, I: Inspect>(
     name: &str,
 ) -> Walked<'a, 'd>
     ensures reads { Attempts greatest_year (I.shape item.now) input.now parsed.old result.rest parsed.new }
-    ensures misses { IsFurthest (Misses greatest_year all_bytes (I.shape item.now) input.now parsed.old) (seen_miss result.missed) }
-    ensures marks { MarksTree greatest_year (I.shape item.now) name.now input.now parsed.old result.mark }
+    ensures misses { IsFurthest (Misses all_bytes (I.shape item.now) input.now parsed.old) (erased_miss result.missed) }
+    ensures marks { MarksTree (I.shape item.now) name.now input.now parsed.old result.mark }
 {
     match item.node() {
         Node::Literal(text) => literal(text, input),
@@ -65,9 +65,9 @@ pub(crate) fn walk_all<'a, 'd, I: Inspect>(
     name: &str,
 ) -> Walked<'a, 'd>
     ensures reads { Attempts greatest_year (sequence (trees (map I.shape items.now))) input.now parsed.old result.rest parsed.new }
-    ensures misses { IsFurthest (MissesAll greatest_year all_bytes (trees (map I.shape items.now)) input.now parsed.old)
-        (seen_miss result.missed) }
-    ensures marks { MarksTree greatest_year (sequence (trees (map I.shape items.now))) name.now input.now parsed.old result.mark }
+    ensures misses { IsFurthest (MissesAll all_bytes (trees (map I.shape items.now)) input.now parsed.old)
+        (erased_miss result.missed) }
+    ensures marks { MarksTree (sequence (trees (map I.shape items.now))) name.now input.now parsed.old result.mark }
 {
     let before = *parsed;
     let mut rest = input;
@@ -105,9 +105,9 @@ fn walk_first<'a, 'd, I: Inspect>(
     name: &str,
 ) -> Walked<'a, 'd>
     ensures reads { Attempts greatest_year (first_of (trees (map I.shape items.now))) input.now parsed.old result.rest parsed.new }
-    ensures misses { IsFurthest (MissesFirst greatest_year all_bytes (trees (map I.shape items.now)) input.now parsed.old)
-        (seen_miss result.missed) }
-    ensures marks { MarksTree greatest_year (first_of (trees (map I.shape items.now))) name.now input.now parsed.old result.mark }
+    ensures misses { IsFurthest (MissesFirst all_bytes (trees (map I.shape items.now)) input.now parsed.old)
+        (erased_miss result.missed) }
+    ensures marks { MarksTree (first_of (trees (map I.shape items.now))) name.now input.now parsed.old result.mark }
 {
     let mut furthest = None;
     for item in items {
@@ -138,9 +138,9 @@ fn walk_first<'a, 'd, I: Inspect>(
 // Reads a literal of these bytes.
 fn literal<'a, 'd>(text: &'d [u8], input: &'a [u8]) -> Walked<'a, 'd>
     ensures reads { (r : Record) → Attempts greatest_year (tree.literal text.now) input.now r result.rest r }
-    ensures misses { (r : Record) → IsFurthest (Misses greatest_year all_bytes (tree.literal text.now) input.now r)
-        (seen_miss result.missed) }
-    ensures marks { (r : Record) (name : List ℕ) → MarksTree greatest_year (tree.literal text.now) name input.now r result.mark }
+    ensures misses { (r : Record) → IsFurthest (Misses all_bytes (tree.literal text.now) input.now r)
+        (erased_miss result.missed) }
+    ensures marks { (r : Record) (name : List ℕ) → MarksTree (tree.literal text.now) name input.now r result.mark }
 {
     match Parsed::parse_literal(input, text) {
         Ok(rest) => Walked {
@@ -164,9 +164,9 @@ fn read_component<'a>(
     name: &str,
 ) -> Walked<'a, 'static>
     ensures reads { Attempts greatest_year (tree.component false component) input.now parsed.old result.rest parsed.new }
-    ensures misses { IsFurthest (Misses greatest_year all_bytes (tree.component false component) input.now parsed.old)
-        (seen_miss result.missed) }
-    ensures marks { MarksTree greatest_year (tree.component false component) name.now input.now parsed.old result.mark }
+    ensures misses { IsFurthest (Misses all_bytes (tree.component false component) input.now parsed.old)
+        (erased_miss result.missed) }
+    ensures marks { MarksTree (tree.component false component) name.now input.now parsed.old result.mark }
 {
     match parsed.parse_component(input, component) {
         Ok(rest) => Walked {
@@ -176,7 +176,7 @@ fn read_component<'a>(
         },
         Err(fault) => Walked {
             rest: None,
-            missed: missed_at(wanted_of(fault), input),
+            missed: missed_at(expected_of(fault), input),
             mark: None,
         },
     }
@@ -190,9 +190,9 @@ fn read_whole_component<'a>(
     name: &str,
 ) -> Walked<'a, 'static>
     ensures reads { Attempts greatest_year (tree.component true component) input.now parsed.old result.rest parsed.new }
-    ensures misses { IsFurthest (Misses greatest_year all_bytes (tree.component true component) input.now parsed.old)
-        (seen_miss result.missed) }
-    ensures marks { MarksTree greatest_year (tree.component true component) name.now input.now parsed.old result.mark }
+    ensures misses { IsFurthest (Misses all_bytes (tree.component true component) input.now parsed.old)
+        (erased_miss result.missed) }
+    ensures marks { MarksTree (tree.component true component) name.now input.now parsed.old result.mark }
 {
     match parsed.parse_v3(input, &FormatDescriptionV3Inner::Component(component)) {
         Ok(rest) => Walked {
@@ -202,7 +202,7 @@ fn read_whole_component<'a>(
         },
         Err(fault) => Walked {
             rest: None,
-            missed: missed_at(wanted_of(fault), input),
+            missed: missed_at(expected_of(fault), input),
             mark: None,
         },
     }

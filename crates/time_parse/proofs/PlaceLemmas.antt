@@ -9,7 +9,7 @@ use Rattle.time_components.specs.Tree.{Tree}
 use Rattle.time_record.specs.Record.{empty}
 use Rattle.time_values.specs.Refusal.{Refusal}
 use Rattle.time_parsing.specs.Outcome.{Path, Reading, Refusing}
-use Rattle.time_locating.specs.Located.{IsErrorAt, IsLocated, Locating, Marking, seen_place, wants}
+use Rattle.time_locating.specs.Located.{IsErrorAt, IsLocated, Locating, Marking, erased_located, wants}
 use Rattle.time_locating.specs.Misses.{all_bytes}
 use Rattle.time_locating.specs.declared.located.Located.{Located}
 use Rattle.programs_answers.specs.Output.{Writes}
@@ -26,18 +26,18 @@ printable_more a b c bytes i d h before more =
 
 -- equal trees have equal locations
 pub Writes-tree : {E : Type 0} (r : Result (Unit {0}) E) (tree same : Tree) (target : Target) (bytes : List ℕ) (a b : Option (List ℕ))
-    → tree ≡ same → OnOk r (Writes (IsTreePlace greatest_year all_bytes tree target bytes) a b)
-    → OnOk r (Writes (IsTreePlace greatest_year all_bytes same target bytes) a b)
+    → tree ≡ same → OnOk r (Writes (IsTreePlace all_bytes tree target bytes) a b)
+    → OnOk r (Writes (IsTreePlace all_bytes same target bytes) a b)
 Writes-tree r tree same target bytes a b e h =
-    subst (λ (t : Tree). OnOk r (Writes (IsTreePlace greatest_year all_bytes t target bytes) a b)) e h
+    subst (λ (t : Tree). OnOk r (Writes (IsTreePlace all_bytes t target bytes) a b)) e h
 
 module _ {E : Type 0} (target : Target) (path : Path) (reads : Reading) (refuses : Refusing) (locates : Locating) (marks : Marking)
     (text : List ℕ) where
   -- an index and what was expected there
   pub place_written : (r : Result (Unit {0}) E) (at : Located) (a b c : Option (List ℕ)) (front : List ℕ)
       → IsLocated reads locates text empty (Some at) → Appends a b front → OnOk r (Appends b c (expected_text (wants at.expected)))
-      → front ++ expected_text (wants at.expected) ≡ place_text (seen_place (Some at))
-      → OnOk r (Writes (IsPlace greatest_year target path reads refuses locates marks text) a c)
+      → front ++ expected_text (wants at.expected) ≡ place_text (erased_located (Some at))
+      → OnOk r (Writes (IsPlace target path reads refuses locates marks text) a c)
   place_written (Ok u) at a b c front h before after is = (
     front ++ expected_text (wants at.expected),
     inl (at, h, is),
@@ -47,9 +47,9 @@ module _ {E : Type 0} (target : Target) (path : Path) (reads : Reading) (refuses
 
   -- nothing, or the index of a component
   pub unplaced_written : (r : Result (Unit {0}) E) (a c : Option (List ℕ)) (refusal : Option Refusal)
-      → IsLocated reads locates text empty None → IsRefusalFor greatest_year target path reads refuses text refusal
+      → IsLocated reads locates text empty None → IsRefusalFor target path reads refuses text refusal
       → OnOk r (Writes (IsErrorPlace reads locates marks text refusal) a c)
-      → OnOk r (Writes (IsPlace greatest_year target path reads refuses locates marks text) a c)
+      → OnOk r (Writes (IsPlace target path reads refuses locates marks text) a c)
   unplaced_written (Ok u) a c refusal h k after = (after.0, inr (h, refusal, k, after.1), after.2)
   unplaced_written (Err e) a c refusal h k after = tt
 

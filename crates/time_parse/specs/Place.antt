@@ -1,4 +1,5 @@
--- Where a text is rejected, and how that is printed. `Y` is the greatest year.
+-- Where a text is rejected, and how that is printed.
+use Rattle.time_values.specs.Calendar.{greatest_year}
 use Rattle.std.specs.Prelude.{◌≡◌, ℕ, ◌⊎◌, List, [], ◌++◌, codes, map, Bool, true, false, Option, Some, None, Result, Ok, Err}
 use Rattle.std.specs.Fmt.{decimal}
 use Rattle.time_values.specs.Refusal.{Refusal}
@@ -14,9 +15,9 @@ use Rattle.time_parsing.specs.Rfc2822 as Rfc2822
 use Rattle.time_parsing.specs.Rfc3339 as Rfc3339
 use Rattle.time_locating.specs.Iso8601 as located_iso
 use Rattle.time_locating.specs.IsoMarks as iso_marks
-use Rattle.time_locating.specs.Located.{IsErrorAt, IsLocated, Locating, Marking, seen_place}
+use Rattle.time_locating.specs.Located.{IsErrorAt, IsLocated, Locating, Marking, erased_located}
 use Rattle.time_locating.specs.Marks.{MarksTree}
-use Rattle.time_locating.specs.Misses.{LocatesTree, Miss, Telling, Wanted, all_bytes, first_byte, named, the_end, these_bytes}
+use Rattle.time_locating.specs.Misses.{LocatesTree, Miss, LiteralReport, Expectation, all_bytes, first_byte, named, the_end, these_bytes}
 use Rattle.time_locating.specs.Rfc2822 as located_mail
 use Rattle.time_locating.specs.Rfc3339 as located_rfc3339
 use Rattle.time_locating.specs.declared.located.Located.{Located}
@@ -31,7 +32,7 @@ use Rattle.time_parse.specs.Request as request
 use Rattle.time_parse.specs.declared.request.Version.{Version}
 
 -- What was expected, as text. The bytes of a literal are quoted, with `?` for each that isn't printable ASCII.
-abbrev pub expected_text : Wanted → List ℕ
+abbrev pub expected_text : Expectation → List ℕ
 expected_text (these_bytes bytes) = codes "'" ++ map printable bytes ++ codes "'"
 expected_text (named name) = name
 expected_text the_end = codes "the end"
@@ -58,21 +59,21 @@ IsRefusal {V} resolves reads refuses text refusal =
     (outcome : Result V Refusal) × IsOutcome resolves reads refuses text empty outcome × (refusal ≡ refusal_in outcome)
 
 -- The error for a moment, which a format may parse on a direct path.
-abbrev pub IsMomentRefusal : ℕ → Path → Reading → Refusing → List ℕ → Option Refusal → Type 0
-IsMomentRefusal Y path reads refuses text refusal =
-    (outcome : Result OffsetDateTime Refusal) × IsMomentOutcome Y path reads refuses text None outcome
+abbrev pub IsMomentRefusal : Path → Reading → Refusing → List ℕ → Option Refusal → Type 0
+IsMomentRefusal path reads refuses text refusal =
+    (outcome : Result OffsetDateTime Refusal) × IsMomentOutcome greatest_year path reads refuses text None outcome
     × (refusal ≡ refusal_in outcome)
 
 -- The error for the target.
-abbrev pub IsRefusalFor : ℕ → Target → Path → Reading → Refusing → List ℕ → Option Refusal → Type 0
-IsRefusalFor Y target.Date path = IsRefusal (IsDated Y)
-IsRefusalFor Y target.Time path = IsRefusal IsTimed
-IsRefusalFor Y target.Offset path = IsRefusal IsOffset
-IsRefusalFor Y target.Plain path = IsRefusal (IsPlain Y)
-IsRefusalFor Y target.Utc path = IsRefusal (IsUtcMoment Y)
-IsRefusalFor Y target.DateTime path = IsMomentRefusal Y path
-IsRefusalFor Y target.Staged path = IsRefusal (IsMoment Y)
-IsRefusalFor Y target.Timestamp path = IsRefusal (IsTimestamp Y)
+abbrev pub IsRefusalFor : Target → Path → Reading → Refusing → List ℕ → Option Refusal → Type 0
+IsRefusalFor target.Date path = IsRefusal (IsDated greatest_year)
+IsRefusalFor target.Time path = IsRefusal IsTimed
+IsRefusalFor target.Offset path = IsRefusal IsOffset
+IsRefusalFor target.Plain path = IsRefusal (IsPlain greatest_year)
+IsRefusalFor target.Utc path = IsRefusal (IsUtcMoment greatest_year)
+IsRefusalFor target.DateTime path = IsMomentRefusal path
+IsRefusalFor target.Staged path = IsRefusal (IsMoment greatest_year)
+IsRefusalFor target.Timestamp path = IsRefusal (IsTimestamp greatest_year)
 
 -- The printed location of an error that isn't one of form: the index of the component that it names, if it has one.
 abbrev pub IsErrorPlace : Reading → Locating → Marking → List ℕ → Option Refusal → List ℕ → Type 0
@@ -82,58 +83,62 @@ IsErrorPlace reads locates marks text (Some e) printed =
 
 -- The printed location of a text's error, parsed over an empty record: its index and what was expected there. For a
 -- text that is parsed whole, the index of the component whose range is rejected for the target, or nothing.
-abbrev pub IsPlace : ℕ → Target → Path → Reading → Refusing → Locating → Marking → List ℕ → List ℕ → Type 0
-IsPlace Y target path reads refuses locates marks text printed =
-    ((at : Located) × IsLocated reads locates text empty (Some at) × (printed ≡ place_text (seen_place (Some at))))
+abbrev pub IsPlace : Target → Path → Reading → Refusing → Locating → Marking → List ℕ → List ℕ → Type 0
+IsPlace target path reads refuses locates marks text printed =
+    ((at : Located) × IsLocated reads locates text empty (Some at) × (printed ≡ place_text (erased_located (Some at))))
     ⊎ (IsLocated reads locates text empty None
-    × (refusal : Option Refusal) × IsRefusalFor Y target path reads refuses text refusal
+    × (refusal : Option Refusal) × IsRefusalFor target path reads refuses text refusal
     × IsErrorPlace reads locates marks text refusal printed)
 
-abbrev pub IsTreePlace : ℕ → Telling → Tree → Target → List ℕ → List ℕ → Type 0
-IsTreePlace Y bytes tree target =
-    IsPlace Y target over_record (Description.Reads Y tree) (Description.Refuses Y tree) (LocatesTree Y bytes tree)
-    (MarksTree Y tree)
+abbrev pub IsTreePlace : LiteralReport → Tree → Target → List ℕ → List ℕ → Type 0
+IsTreePlace bytes tree target =
+    IsPlace target over_record (Description.Reads greatest_year tree) (Description.Refuses greatest_year tree)
+    (LocatesTree bytes tree)
+    (MarksTree tree)
 
 -- The printed location by a named format.
-abbrev pub IsNamedPlace : ℕ → Format → Target → List ℕ → List ℕ → Type 0
-IsNamedPlace Y format.Rfc3339 target =
-    IsPlace Y target (direct (RefusesRfc3339 Y)) (Rfc3339.Reads Y) (Rfc3339.Refuses Y) located_rfc3339.Locates
+abbrev pub IsNamedPlace : Format → Target → List ℕ → List ℕ → Type 0
+IsNamedPlace format.Rfc3339 target =
+    IsPlace target (direct (RefusesRfc3339 greatest_year)) (Rfc3339.Reads greatest_year)
+    (Rfc3339.Refuses greatest_year) located_rfc3339.Locates
     located_rfc3339.Marks
-IsNamedPlace Y format.Rfc2822 target =
-    IsPlace Y target (direct (RefusesRfc2822 Y)) (Rfc2822.Reads Y) (Rfc2822.Refuses Y) located_mail.Locates
+IsNamedPlace format.Rfc2822 target =
+    IsPlace target (direct (RefusesRfc2822 greatest_year)) (Rfc2822.Reads greatest_year)
+    (Rfc2822.Refuses greatest_year) located_mail.Locates
     located_mail.Marks
-IsNamedPlace Y format.Iso8601 target =
-    IsPlace Y target over_record (Iso8601.Reads Y) (Iso8601.Refuses Y) (located_iso.Locates Y) (iso_marks.Marks Y)
-IsNamedPlace Y format.Ymd target = IsTreePlace Y all_bytes ymd target
-IsNamedPlace Y format.Clock target = IsTreePlace Y all_bytes clock target
-IsNamedPlace Y format.Unix target = IsTreePlace Y all_bytes unix target
-IsNamedPlace Y format.Local target = IsTreePlace Y all_bytes local target
+IsNamedPlace format.Iso8601 target =
+    IsPlace target over_record (Iso8601.Reads greatest_year) (Iso8601.Refuses greatest_year) located_iso.Locates
+    iso_marks.Marks
+IsNamedPlace format.Ymd target = IsTreePlace all_bytes ymd target
+IsNamedPlace format.Clock target = IsTreePlace all_bytes clock target
+IsNamedPlace format.Unix target = IsTreePlace all_bytes unix target
+IsNamedPlace format.Local target = IsTreePlace all_bytes local target
 
 -- The printed location by a format's meaning.
-abbrev pub IsPlaceBy : ℕ → Meaning → Target → List ℕ → List ℕ → Type 0
-IsPlaceBy Y (request.named format) target = IsNamedPlace Y format target
-IsPlaceBy Y (request.described tree) target = IsTreePlace Y first_byte tree target
+abbrev pub IsPlaceBy : Meaning → Target → List ℕ → List ℕ → Type 0
+IsPlaceBy (request.named format) target = IsNamedPlace format target
+IsPlaceBy (request.described tree) target = IsTreePlace first_byte tree target
 
 -- The answer to a text, followed by the location of its error.
-abbrev pub IsPlacedAnswer : ℕ → Meaning → Target → List ℕ → List ℕ → Type 0
-IsPlacedAnswer Y meaning target text answer =
+abbrev pub IsPlacedAnswer : Meaning → Target → List ℕ → List ℕ → Type 0
+IsPlacedAnswer meaning target text answer =
     (outcome : List ℕ) × (place : List ℕ)
-    × IsAnswer Y meaning target text outcome × IsPlaceBy Y meaning target text place × (answer ≡ outcome ++ place)
+    × IsAnswer meaning target text outcome × IsPlaceBy meaning target text place × (answer ≡ outcome ++ place)
 
 -- The answer to a text, with the error's location if requested.
-abbrev pub IsRequestedAnswer : Bool → ℕ → Meaning → Target → List ℕ → List ℕ → Type 0
+abbrev pub IsRequestedAnswer : Bool → Meaning → Target → List ℕ → List ℕ → Type 0
 IsRequestedAnswer false = IsAnswer
 IsRequestedAnswer true = IsPlacedAnswer
 
 -- The writer's contents are followed by the answers to the lines of the input, by the format and for the target with
 -- that name.
-abbrev pub WritesAnswers : ℕ → Bool → Version → List ℕ → List ℕ → Option (List ℕ) → Option (List ℕ) → List ℕ → Type 0
-WritesAnswers Y prints_places version format target old new input =
+abbrev pub WritesAnswers : Bool → Version → List ℕ → List ℕ → Option (List ℕ) → Option (List ℕ) → List ℕ → Type 0
+WritesAnswers prints_places version format target old new input =
     (meaning : Meaning) × (value : Target)
     × Means version format meaning × (target_named target ≡ Some value)
-    × output.WritesAnswers (IsRequestedAnswer prints_places Y meaning value) old new input
+    × output.WritesAnswers (IsRequestedAnswer prints_places meaning value) old new input
 
--- ---- Laws of answers. `Y` is the greatest year.
+-- ---- Laws of answers.
 
 -- A format means at most one thing.
 abbrev pub OneMeaning : Type 0
@@ -142,15 +147,15 @@ OneMeaning =
     → Means version format meaning → Means version format other → meaning ≡ other
 
 -- A text has at most one answer, with its place or without.
-abbrev pub OneAnswer : ℕ → Type 0
-OneAnswer Y =
+abbrev pub OneAnswer : Type 0
+OneAnswer =
     (prints_places : Bool) (meaning : Meaning) (target : Target) (text answer other : List ℕ)
-    → IsRequestedAnswer prints_places Y meaning target text answer
-    → IsRequestedAnswer prints_places Y meaning target text other → answer ≡ other
+    → IsRequestedAnswer prints_places meaning target text answer
+    → IsRequestedAnswer prints_places meaning target text other → answer ≡ other
 
 -- After the answers to one input, a writer of known contents holds at most one text.
-abbrev pub OneWriting : ℕ → Type 0
-OneWriting Y =
+abbrev pub OneWriting : Type 0
+OneWriting =
     (prints_places : Bool) (version : Version) (format target input before new other : List ℕ)
-    → WritesAnswers Y prints_places version format target (Some before) (Some new) input
-    → WritesAnswers Y prints_places version format target (Some before) (Some other) input → new ≡ other
+    → WritesAnswers prints_places version format target (Some before) (Some new) input
+    → WritesAnswers prints_places version format target (Some before) (Some other) input → new ≡ other

@@ -1,4 +1,4 @@
--- The requests that the arguments make. `Y` is the greatest year.
+-- The requests that the arguments make.
 use Rattle.std.specs.Prelude.{◌≡◌, ℕ, List, [], ◌++◌, codes, map, replicate, Option, Some, IfSome, ◌&&◌, nat_le, if◌then◌else◌, ◌⊎◌, ◌==◌, None, Bool, ◌∷◌, true, false}
 use Rattle.std.specs.Option.{option_map}
 use Rattle.std.specs.List.{list_any}
@@ -126,9 +126,9 @@ IsFault version format target reason =
     × (reason ≡ unknown_target target))
 
 -- The answer to a text: its outcome by the format's meaning, for the target.
-abbrev pub IsAnswer : ℕ → Meaning → Target → List ℕ → List ℕ → Type 0
-IsAnswer Y (named format) target = IsParsed Y format target
-IsAnswer Y (described tree) target = IsDescribed Y tree target
+abbrev pub IsAnswer : Meaning → Target → List ℕ → List ℕ → Type 0
+IsAnswer (named format) target = IsParsed format target
+IsAnswer (described tree) target = IsDescribed tree target
 
 -- ---- The words of the command line
 

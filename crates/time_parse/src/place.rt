@@ -3,7 +3,6 @@ ghost use Rattle.std.specs.Prelude.{OnOk, codes, map, ◌++◌, ◌≡◌};
 ghost use Rattle.std.specs.Fmt.{decimal};
 ghost use Rattle.std.specs.Io.KnownBytes.{Appends};
 ghost use Rattle.std.specs.Option.{option_map};
-ghost use Rattle.time_values.specs.Calendar.{greatest_year};
 ghost use Rattle.time_values.specs.Refusal.{refusal_of};
 ghost use Rattle.time_parsing.specs.Outcome.{seen};
 ghost use Rattle.byte_streams.specs.Faults.{HasCause};
@@ -77,7 +76,7 @@ fn error_of<V: Drop>(outcome: Result<V, Parse>) -> Option<Parse>
 
 // The error of the text for the target by the format, or `None` where it has a value.
 fn refusal<F: Parsable>(format: &F, target: Target, text: &[u8]) -> Option<Parse>
-    ensures { IsRefusalFor greatest_year target (F.path format.now) (F.reads format.now) (F.refuses format.now) text.now
+    ensures { IsRefusalFor target (F.path format.now) (F.reads format.now) (F.refuses format.now) text.now
         (option_map refusal_of result) }
 {
     match target {
@@ -151,7 +150,7 @@ fn write_place<F: Locate, W: Sink>(
     out: &mut W,
 ) -> Result<(), Unwritten>
     ensures bytes { OnOk result (Writes
-        (IsPlace greatest_year target (F.path format.now) (F.reads format.now) (F.refuses format.now) (F.locates format.now)
+        (IsPlace target (F.path format.now) (F.reads format.now) (F.refuses format.now) (F.locates format.now)
         (F.marks format.now) text.now) (W.contents out.old) (W.contents out.new)) }
     ensures cause { HasCause result (W.faults out.old) (W.faults out.new) }
     ensures through { W.through out.new ≡ W.through out.old }
@@ -165,7 +164,7 @@ fn write_place<F: Locate, W: Sink>(
 
 // Writes the location by a description of a date.
 fn write_ymd_place<W: Sink>(target: Target, text: &[u8], out: &mut W) -> Result<(), Unwritten>
-    ensures bytes { OnOk result (Writes (IsTreePlace greatest_year all_bytes formats.ymd target text.now)
+    ensures bytes { OnOk result (Writes (IsTreePlace all_bytes formats.ymd target text.now)
         (W.contents out.old) (W.contents out.new)) }
     ensures cause { HasCause result (W.faults out.old) (W.faults out.new) }
     ensures through { W.through out.new ≡ W.through out.old }
@@ -176,7 +175,7 @@ fn write_ymd_place<W: Sink>(target: Target, text: &[u8], out: &mut W) -> Result<
 
 // Writes the location by a description of a time on a clock of 12 hours.
 fn write_clock_place<W: Sink>(target: Target, text: &[u8], out: &mut W) -> Result<(), Unwritten>
-    ensures bytes { OnOk result (Writes (IsTreePlace greatest_year all_bytes formats.clock target text.now)
+    ensures bytes { OnOk result (Writes (IsTreePlace all_bytes formats.clock target text.now)
         (W.contents out.old) (W.contents out.new)) }
     ensures cause { HasCause result (W.faults out.old) (W.faults out.new) }
     ensures through { W.through out.new ≡ W.through out.old }
@@ -191,7 +190,7 @@ fn write_clock_place<W: Sink>(target: Target, text: &[u8], out: &mut W) -> Resul
 
 // Writes the location by a description of a date, time and offset, or of a year and its day.
 fn write_local_place<W: Sink>(target: Target, text: &[u8], out: &mut W) -> Result<(), Unwritten>
-    ensures bytes { OnOk result (Writes (IsTreePlace greatest_year all_bytes formats.local target text.now)
+    ensures bytes { OnOk result (Writes (IsTreePlace all_bytes formats.local target text.now)
         (W.contents out.old) (W.contents out.new)) }
     ensures cause { HasCause result (W.faults out.old) (W.faults out.new) }
     ensures through { W.through out.new ≡ W.through out.old }
@@ -209,7 +208,7 @@ fn write_named_place<W: Sink>(
     text: &[u8],
     out: &mut W,
 ) -> Result<(), Unwritten>
-    ensures bytes { OnOk result (Writes (IsNamedPlace greatest_year format target text.now) (W.contents out.old) (W.contents out.new)) }
+    ensures bytes { OnOk result (Writes (IsNamedPlace format target text.now) (W.contents out.old) (W.contents out.new)) }
     ensures cause { HasCause result (W.faults out.old) (W.faults out.new) }
     ensures through { W.through out.new ≡ W.through out.old }
 {
@@ -231,7 +230,7 @@ fn write_chosen_place<W: Sink>(
     text: &[u8],
     out: &mut W,
 ) -> Result<(), Unwritten>
-    ensures bytes { OnOk result (Writes (IsPlaceBy greatest_year (meaning_of chosen.now) target text.now)
+    ensures bytes { OnOk result (Writes (IsPlaceBy (meaning_of chosen.now) target text.now)
         (W.contents out.old) (W.contents out.new)) }
     ensures cause { HasCause result (W.faults out.old) (W.faults out.new) }
     ensures through { W.through out.new ≡ W.through out.old }
@@ -243,7 +242,7 @@ fn write_chosen_place<W: Sink>(
 }
 
 impl LineHandler for Placing {
-    ghost is_answer = { λ placing. IsPlacedAnswer greatest_year (meaning_of placing.request.chosen) placing.request.target };
+    ghost is_answer = { λ placing. IsPlacedAnswer (meaning_of placing.request.chosen) placing.request.target };
 
     fn write_answer<W: Sink>(&self, line: &[u8], out: &mut W) -> Result<(), Unwritten> {
         self.request.write_answer(line, out)?;

@@ -35,14 +35,14 @@ pub enum Version {
     Two,
 }
 
-/// How a format is written.
+/// What the argument for a format is: a name, or a description in one of two syntaxes.
 #[derive(Clone, Copy, Debug)]
 pub enum Writing {
-    /// By its name.
+    /// The name of a format.
     Name(Format),
-    /// As a description in brackets.
+    /// A description in brackets.
     Brackets,
-    /// As a description of strftime.
+    /// A description in strftime's syntax.
     Strftime,
     /// Neither a name nor a description.
     Unknown,
@@ -180,7 +180,7 @@ fn write_staged<W: Sink>(
     text: &[u8],
     out: &mut W,
 ) -> Result<(), Unwritten>
-    ensures bytes { OnOk result (Writes (IsDescribed greatest_year (steps_shape prepared.now) Target.Staged text.now)
+    ensures bytes { OnOk result (Writes (IsDescribed (steps_shape prepared.now) Target.Staged text.now)
         (W.contents out.old) (W.contents out.new)) }
     ensures cause { HasCause result (W.faults out.old) (W.faults out.new) }
     ensures through { W.through out.new ≡ W.through out.old }
@@ -199,7 +199,7 @@ fn write_described<W: Sink>(
     text: &[u8],
     out: &mut W,
 ) -> Result<(), Unwritten>
-    ensures bytes { OnOk result (Writes (IsDescribed greatest_year (steps_shape prepared.now) target text.now)
+    ensures bytes { OnOk result (Writes (IsDescribed (steps_shape prepared.now) target text.now)
         (W.contents out.old) (W.contents out.new)) }
     ensures cause { HasCause result (W.faults out.old) (W.faults out.new) }
     ensures through { W.through out.new ≡ W.through out.old }
@@ -217,7 +217,7 @@ fn write_described<W: Sink>(
 }
 
 impl LineHandler for Request {
-    ghost is_answer = { λ request. IsAnswer greatest_year (meaning_of request.chosen) request.target };
+    ghost is_answer = { λ request. IsAnswer (meaning_of request.chosen) request.target };
 
     #[inline(always)]
     fn write_answer<W: Sink>(&self, line: &[u8], out: &mut W) -> Result<(), Unwritten> {

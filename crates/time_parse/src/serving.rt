@@ -35,7 +35,7 @@ fn serve_request<R: Source, W: Sink>(
     out: &mut BufferedSink<W>,
 ) -> Result<(), Stop>
     ensures ok { OnOk result (IfSome (R.remaining input.old)
-        (λ bytes. output.WritesAnswers (IsRequestedAnswer prints_places greatest_year (meaning_of request.chosen)
+        (λ bytes. output.WritesAnswers (IsRequestedAnswer prints_places (meaning_of request.chosen)
         request.target)
         (W.contents out.old.sink) (W.contents out.new.sink) bytes)) }
     ensures unread { result ≡ Err Stop.Unread → out.new ≡ out.old }
@@ -62,7 +62,7 @@ pub fn serve<'a, R: Source, W: Sink>(
     out: &mut BufferedSink<W>,
 ) -> Result<(), Failure<'a>>
     ensures ok { OnOk result (IfSome (R.remaining input.old)
-        (λ bytes. WritesAnswers greatest_year question.entry.prints_places question.entry.version
+        (λ bytes. WritesAnswers question.entry.prints_places question.entry.version
         question.entry.format.now question.entry.target.now
         (W.contents out.old.sink) (W.contents out.new.sink) bytes)) }
     ensures fault { (f : Fault_) → result ≡ Err (failure.Arguments f)

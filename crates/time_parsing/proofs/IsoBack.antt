@@ -8,7 +8,7 @@ use Rattle.time_values.specs.Moments.{offset_date, offset_time, offset_of}
 use Rattle.time_values.specs.Names.{month_number}
 use Rattle.time_values.specs.Offsets as Offsets
 use Rattle.time_values.specs.Offsets.{HasOffset, IsUtc, offset_refusal}
-use Rattle.time_values.specs.Shown.{fixed, fraction_shown}
+use Rattle.time_values.specs.DisplayTexts.{fixed, fraction_display}
 use Rattle.time_values.specs.Sign.{signed_by}
 use Rattle.time_values.specs.Times as Times
 use Rattle.time_values.specs.declared.offset_date_time.OffsetDateTime.{OffsetDateTime}
@@ -27,7 +27,7 @@ use Rattle.time_readers.specs.declared.iso8601.OffsetNumbers.TheVariants.{Zulu, 
 use Rattle.time_readers.specs.Direct.{IsDirectRfc3339, RefusesRfc3339}
 use Rattle.time_record.specs.Record.{empty}
 use Rattle.time_record.specs.Resolution.{IsConstructed, IsMoment}
-use Rattle.time_parsing.specs.Iso8601.{Reads, Refuses, date_said, time_said, IsOffsetSaid}
+use Rattle.time_parsing.specs.Iso8601.{Reads, Refuses, iso_date_of, time_numbers_of, IsOffsetOfNumbers}
 use Rattle.time_parsing.specs.Outcome.{IsOutcome, over_record, direct}
 use Rattle.time_parsing.specs.Written.{kept, IsCut, written, ReadsBack, ReadsBasicBack, canonical_text, HasCanonicalText, ReadsCanonicalBack}
 use Rattle.time_parsing.specs.Rfc3339.{Reads as Rfc3339Reads, Refuses as Rfc3339Refuses}
@@ -47,13 +47,13 @@ module _ (k : ℕ) (few : k ≤ 9) (v w : OffsetDateTime) (cut : IsCut k v w)
     (whole : Offsets.seconds (offset_of v) ≡ pos 0) where
   -- the numbers of the text are the moment's
   date_is : calendar (pos (unsigned_abs (Dates.year (offset_date v)))) (Dates.month (offset_date v)) (Dates.day (offset_date v))
-      ≡ date_said (offset_date w)
+      ≡ iso_date_of (offset_date w)
   date_is =
       ap (λ y. calendar y (Dates.month (offset_date v)) (Dates.day (offset_date v))) (sym (year-said (Dates.year (offset_date v)) year))
-      ∙ ap date_said (sym cut.date)
+      ∙ ap iso_date_of (sym cut.date)
 
   time_is : clock (Times.hour (offset_time v)) (Times.minute (offset_time v)) (Times.second (offset_time v)) (kept k (Times.nanosecond (offset_time v)))
-      ≡ time_said (offset_time w)
+      ≡ time_numbers_of (offset_time w)
   time_is = λ i. record {
     hour = sym cut.clock.0 i;
     minute = sym cut.clock.1 i;
@@ -61,7 +61,7 @@ module _ (k : ℕ) (few : k ≤ 9) (v w : OffsetDateTime) (cut : IsCut k v w)
     subsecond = sym cut.clock.3 i;
   }
 
-  zulu_is : is_none (offset_of v) ≡ true → IsOffsetSaid Zulu (offset_of w)
+  zulu_is : is_none (offset_of v) ≡ true → IsOffsetOfNumbers Zulu (offset_of w)
   zulu_is none =
       let parts = none-is (Offsets.hours (offset_of v)) (Offsets.minutes (offset_of v)) none in
       subst IsUtc (sym cut.offset) (parts.0, parts.1, whole)
@@ -70,7 +70,7 @@ module _ (k : ℕ) (few : k ≤ 9) (v w : OffsetDateTime) (cut : IsCut k v w)
   abbrev sign : Sign
   sign = sign_of (is_behind (offset_of v))
 
-  numeric_is : IsOffsetSaid (Numeric (with_sign sign (unsigned_abs (Offsets.hours (offset_of v))))
+  numeric_is : IsOffsetOfNumbers (Numeric (with_sign sign (unsigned_abs (Offsets.hours (offset_of v))))
       (with_sign sign (unsigned_abs (Offsets.minutes (offset_of v))))) (offset_of w)
   numeric_is =
       let o = offset_of v in
@@ -82,9 +82,9 @@ module _ (k : ℕ) (few : k ≤ 9) (v w : OffsetDateTime) (cut : IsCut k v w)
       ap (λ b. signed_by b (pos (unsigned_abs m))) (is_negative-sign_of (is_behind o)) ∙ sym (signed_minutes h m o.one_sign.0) in
       let taken = offset-taken h m (omega (arith, hours-below h hours)) (minutes-below m o.minutes_in) in
       let parts : HasOffset h m (pos 0) o = (refl, o.one_sign.0, whole ∙ no_second h m) in
-      subst (IsOffsetSaid (Numeric (with_sign sign (unsigned_abs h)) (with_sign sign (unsigned_abs m)))) (sym cut.offset)
-      (subst (λ x. IsOffsetSaid (Numeric x (with_sign sign (unsigned_abs m))) o) (sym hour)
-      (subst (λ x. IsOffsetSaid (Numeric h x) o) (sym minute)
+      subst (IsOffsetOfNumbers (Numeric (with_sign sign (unsigned_abs h)) (with_sign sign (unsigned_abs m)))) (sym cut.offset)
+      (subst (λ x. IsOffsetOfNumbers (Numeric x (with_sign sign (unsigned_abs m))) o) (sym hour)
+      (subst (λ x. IsOffsetOfNumbers (Numeric h x) o) (sym minute)
       (subst (λ r. IsConstructed r (HasOffset h m (pos 0)) (Ok o)) (sym taken) parts)))
 
   abbrev IsBack : List ℕ → Type 0
@@ -95,7 +95,7 @@ module _ (k : ℕ) (few : k ≤ 9) (v w : OffsetDateTime) (cut : IsCut k v w)
   with_offset offset =
       bytes (unsigned_abs (Dates.year (offset_date v))) (month_number (Dates.month (offset_date v))) (Dates.day (offset_date v))
       (Times.hour (offset_time v)) (Times.minute (offset_time v)) (Times.second (offset_time v))
-      (said k (Times.nanosecond (offset_time v))) (fraction_shown k (Times.nanosecond (offset_time v))) offset
+      (said k (Times.nanosecond (offset_time v))) (fraction_display k (Times.nanosecond (offset_time v))) offset
 
   -- the basic one, with that fraction
   abbrev basic_bytes : List ℕ → List ℕ → List ℕ
@@ -105,11 +105,11 @@ module _ (k : ℕ) (few : k ≤ 9) (v w : OffsetDateTime) (cut : IsCut k v w)
       ++ (fixed 2 (Times.minute (offset_time v)) ++ (fixed 2 (Times.second (offset_time v)) ++ (fraction ++ offset)))))))
 
   abbrev basic_with : List ℕ → List ℕ
-  basic_with offset = basic_bytes (fraction_shown k (Times.nanosecond (offset_time v))) offset
+  basic_with offset = basic_bytes (fraction_display k (Times.nanosecond (offset_time v))) offset
 
-  module _ (offset : List ℕ) (n : OffsetNumbers) (is : IsOffsetSaid n (offset_of w)) (digit : NoDigitFirst offset) (point : NoPointFirst offset) where
+  module _ (offset : List ℕ) (n : OffsetNumbers) (is : IsOffsetOfNumbers n (offset_of w)) (digit : NoDigitFirst offset) (point : NoPointFirst offset) where
     abbrev seconds : List ℕ
-    seconds = fixed 2 (Times.second (offset_time v)) ++ (fraction_shown k (Times.nanosecond (offset_time v)) ++ offset)
+    seconds = fixed 2 (Times.second (offset_time v)) ++ (fraction_display k (Times.nanosecond (offset_time v)) ++ offset)
 
     second-stands : SecondStands k (Times.second (offset_time v)) (Times.nanosecond (offset_time v)) offset
     second-stands =
@@ -145,7 +145,7 @@ module _ (k : ℕ) (few : k ≤ 9) (v w : OffsetDateTime) (cut : IsCut k v w)
         (clock (Times.hour t) (Times.minute t) (Times.second t) (kept k (Times.nanosecond t))) n plain_of (offset_of w)
         (basic_date y (Dates.month d) (Dates.day d) between (year-below (Dates.year d) year) (some_day d) (day_below d))
         (basic_time (Times.hour t) (Times.minute t) (Times.second t) (kept k (Times.nanosecond t)) second-stands.0 seconds offset
-        (omega (arith, h)) (omega (arith, m)) (no_point-digits (Times.second t) (fraction_shown k (Times.nanosecond t) ++ offset))
+        (omega (arith, h)) (omega (arith, m)) (no_point-digits (Times.second t) (fraction_display k (Times.nanosecond t) ++ offset))
         second-stands.1 second-stands.2)
         text date_is time_is is in
         (whole.0, whole.1, whole.3 w refl refl refl)
@@ -190,14 +190,14 @@ module _ (k : ℕ) (few : k ≤ 9) (v w : OffsetDateTime) (cut : IsCut k v w)
   extended_back : IsBack (moment_text k v)
   extended_back =
       subst IsBack (sym (flat (fixed 4 _) (codes "-") (fixed 2 _) (codes "-") (fixed 2 _) (codes "T") (fixed 2 _) (codes ":")
-      (fixed 2 _) (codes ":") (fixed 2 _) (fraction_shown k (Times.nanosecond (offset_time v))) (Texts.offset_text (offset_of v))))
+      (fixed 2 _) (codes ":") (fixed 2 _) (fraction_display k (Times.nanosecond (offset_time v))) (Texts.offset_text (offset_of v))))
       (by_none (is_none (offset_of v)) refl)
 
   basic_text_back : k ≡ 0 → IsBack (basic_text v)
   basic_text_back none =
       subst IsBack (sym (flat_basic (fixed 4 _) (fixed 2 _) (fixed 2 _) (codes "T") (fixed 2 _) (fixed 2 _) (fixed 2 _) (basic_offset_text (offset_of v))))
       (subst (λ text. IsBack (basic_bytes text (basic_offset_text (offset_of v))))
-      (ap (λ i. fraction_shown i (Times.nanosecond (offset_time v))) none) (basic_by_none (is_none (offset_of v)) refl))
+      (ap (λ i. fraction_display i (Times.nanosecond (offset_time v))) none) (basic_by_none (is_none (offset_of v)) refl))
 
 pub iso_read_back : ReadsBack greatest_year over_record (Reads greatest_year) (Refuses greatest_year)
 iso_read_back digits v w none cut =
@@ -215,13 +215,13 @@ basic_read_back v w none cut =
 -- ---- A canonical text parses back
 
 -- all nine digits are those of a fraction
-nine-digits : (n : ℕ) → codes "." ++ fixed 9 n ≡ fraction_shown 9 n
+nine-digits : (n : ℕ) → codes "." ++ fixed 9 n ≡ fraction_display 9 n
 nine-digits n =
     let long = fixed-length 9 n in
     ap (λ digits. codes "." ++ digits) (sym (take_all 9 (fixed 9 n) (omega (arith, long))))
 
 -- the digits follow what is before them
-fraction-joined : (front offset : List ℕ) (n : ℕ) → front ++ codes "." ++ fixed 9 n ++ offset ≡ front ++ fraction_shown 9 n ++ offset
+fraction-joined : (front offset : List ℕ) (n : ℕ) → front ++ codes "." ++ fixed 9 n ++ offset ≡ front ++ fraction_display 9 n ++ offset
 fraction-joined front offset n =
     ap (λ text. text ++ offset) (append_assoc front (codes ".") (fixed 9 n) ∙ ap (λ text. front ++ text) (nine-digits n))
 
@@ -234,7 +234,7 @@ canonical-back v is =
     let joined = fraction-joined (date_text d ++ codes "T" ++ clock_text t) (numeric_text o) (Times.nanosecond t) in
     let pieces = flat (fixed 4 (unsigned_abs (Dates.year d))) (codes "-") (fixed 2 (month_number (Dates.month d))) (codes "-")
     (fixed 2 (Dates.day d)) (codes "T") (fixed 2 (Times.hour t)) (codes ":") (fixed 2 (Times.minute t)) (codes ":")
-    (fixed 2 (Times.second t)) (fraction_shown 9 (Times.nanosecond t)) (numeric_text o) in
+    (fixed 2 (Times.second t)) (fraction_display 9 (Times.nanosecond t)) (numeric_text o) in
     subst (λ text. IsDirectRfc3339 greatest_year text v) (sym (joined ∙ pieces))
     (numeric-back 9 few v v (all_digits v) is.year is.hours is.whole_minutes)
 

@@ -5,7 +5,7 @@ use Rattle.std.proofs.lemmas.Bool.{le-leb, lt-ltb, ne_eqb}
 use Rattle.std.proofs.lemmas.List.{take_all, length-take-le}
 use Rattle.std.proofs.lemmas.Nat.{pow-add}
 use Rattle.time_values.specs.Names.{month_number}
-use Rattle.time_values.specs.Shown.{fixed, fraction_shown}
+use Rattle.time_values.specs.DisplayTexts.{fixed, fraction_display}
 use Rattle.time_values.specs.declared.month.Month.{Month}
 use Rattle.time_values.proofs.NumberLemmas.{month_number_in}
 use Rattle.time_digits.specs.Digits.{sign_byte, IsFraction, NoDigitFirst, digits_value}
@@ -13,7 +13,7 @@ use Rattle.time_digits.specs.declared.Sign.{Sign}
 use Rattle.time_digits.specs.declared.Sign.TheVariants.{Negative, Positive}
 use Rattle.time_readers.specs.IsoPieces.{Found, NoPointFirst, Number, plain, fraction, number, year, month, positive, digits, up_to, byte, sign, with_sign}
 use Rattle.time_readers.specs.IsoDates.{date_text, forms, calendar}
-use Rattle.time_readers.specs.IsoGrammar.{SaysSecond, offset_by_pieces, offset_minute}
+use Rattle.time_readers.specs.IsoGrammar.{IsSecondOfTime, offset_by_pieces, offset_minute}
 use Rattle.time_readers.specs.IsoTimes.{round_of, when, time_text}
 use Rattle.time_readers.specs.IsoOffsets.{offset_found}
 use Rattle.time_readers.specs.declared.iso8601.ExtendedKind.{ExtendedKind}
@@ -119,7 +119,7 @@ abbrev pub clock : ℕ → ℕ → ℕ → ℕ → TimeNumbers
 clock h m s n = record { hour = h; minute = m; second = s; subsecond = n }
 
 module _ (h m s nanoseconds : ℕ) (n : Number) (seconds rest : List ℕ) (hour : h ≤ 23) (minute : m ≤ 59)
-    (found : number seconds ≡ Some (rest, n)) (second : SaysSecond n s nanoseconds) where
+    (found : number seconds ≡ Some (rest, n)) (second : IsSecondOfTime n s nanoseconds) where
   pub extended_time : time_text true Extended (84 ∷ (fixed 2 h ++ (58 ∷ (fixed 2 m ++ (58 ∷ seconds)))))
       ≡ Some (record { rest = rest; value = clock h m s nanoseconds; kind = Extended })
   extended_time =
@@ -136,7 +136,7 @@ module _ (h m s nanoseconds : ℕ) (n : Number) (seconds rest : List ℕ) (hour 
       ) refl
 
 module _ (h m s nanoseconds : ℕ) (n : Number) (seconds rest : List ℕ) (hour : h ≤ 23) (minute : m ≤ 59) (point : NoPointFirst seconds)
-    (found : number seconds ≡ Some (rest, n)) (second : SaysSecond n s nanoseconds) where
+    (found : number seconds ≡ Some (rest, n)) (second : IsSecondOfTime n s nanoseconds) where
   pub basic_time : time_text true Basic (84 ∷ (fixed 2 h ++ (fixed 2 m ++ seconds)))
       ≡ Some (record { rest = rest; value = clock h m s nanoseconds; kind = Basic })
   basic_time =
@@ -150,7 +150,7 @@ module _ (h m s nanoseconds : ℕ) (n : Number) (seconds rest : List ℕ) (hour 
 
 -- a second without a fraction
 pub plain_second : (s : ℕ) (rest : List ℕ) → s < 60 → NoPointFirst rest
-    → (number (fixed 2 s ++ rest) ≡ Some (rest, plain s)) × SaysSecond (plain s) s 0
+    → (number (fixed 2 s ++ rest) ≡ Some (rest, plain s)) × IsSecondOfTime (plain s) s 0
 plain_second s rest small point =
     (number_there s rest (omega (arith, small)) point, λ h m. rw (le-leb s 60 (omega (arith, small))) refl)
 
@@ -182,7 +182,7 @@ fraction-rounded text rest m few f =
     let power : 10 ^ (9 - long) * 10 ^ long ≡ 10 ^ 9 = power_parts long few in
     rounded text m (ap (λ i. i * 10 ^ long) is ∙ mul_assoc w (10 ^ (9 - long)) (10 ^ long) ∙ ap (λ i. w * i) power)
 
-says_fraction : (s : ℕ) (text : List ℕ) (m : ℕ) → s < 60 → m < 1_000_000_000 → m ≡ round_of text 1_000_000_000 → SaysSecond (fraction s text) s m
+says_fraction : (s : ℕ) (text : List ℕ) (m : ℕ) → s < 60 → m < 1_000_000_000 → m ≡ round_of text 1_000_000_000 → IsSecondOfTime (fraction s text) s m
 says_fraction s text m small less is =
     λ h mi.
     subst (λ r. ◌≡◌ {A = Option TimeNumbers} (when (nat_le s 60 && nat_lt r 1_000_000_000) (clock h mi s r)) (Some (clock h mi s m))) is
@@ -190,7 +190,7 @@ says_fraction s text m small less is =
 
 -- a second with a fraction
 fraction_second : (s : ℕ) (text rest : List ℕ) (m : ℕ) → s < 60 → m < 1_000_000_000 → length text ≤ 9 → IsFraction text rest m
-    → (number (fixed 2 s ++ ((46 ∷ text) ++ rest)) ≡ Some (rest, fraction s text)) × SaysSecond (fraction s text) s m
+    → (number (fixed 2 s ++ ((46 ∷ text) ++ rest)) ≡ Some (rest, fraction s text)) × IsSecondOfTime (fraction s text) s m
 fraction_second s text rest m small less few f = (
   number-found (fixed 2 s ++ ((46 ∷ text) ++ rest)) rest (fraction s text) (
     fixed 2 s ++ (46 ∷ text),
@@ -212,13 +212,13 @@ fraction_second s text rest m small less few f = (
 -- a second with k digits of its fraction has their value
 abbrev pub SecondStands : ℕ → ℕ → ℕ → List ℕ → Type 0
 SecondStands k s n rest =
-    (x : Number) × (number (fixed 2 s ++ (fraction_shown k n ++ rest)) ≡ Some (rest, x)) × SaysSecond x s (kept k n)
+    (x : Number) × (number (fixed 2 s ++ (fraction_display k n ++ rest)) ≡ Some (rest, x)) × IsSecondOfTime x s (kept k n)
 
 pub second_stands : (k s n : ℕ) (rest : List ℕ) → k ≤ 9 → s < 60 → n < 10 ^ 9 → NoDigitFirst rest → NoPointFirst rest → SecondStands k s n rest
 second_stands zero s n rest few small below digit point =
     let none : 0 ≡ kept 0 n = omega (arith, below) in
     let both = plain_second s rest small point in
-    (plain s, both.0, subst (SaysSecond (plain s) s) none both.1)
+    (plain s, both.0, subst (IsSecondOfTime (plain s) s) none both.1)
 second_stands (suc k) s n rest few small below digit point =
     let stands = written-fraction (suc k) n rest (omega arith) few below digit in
     let long = length-take-le (suc k) (fixed 9 n) (omega (arith, few, fixed-length 9 n)) in

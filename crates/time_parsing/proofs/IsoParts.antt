@@ -31,11 +31,11 @@ use Rattle.time_readers.specs.declared.iso8601.OffsetNumbers.TheVariants.{Zulu, 
 use Rattle.time_readers.specs.declared.iso8601.TimeNumbers.{TimeNumbers}
 use Rattle.time_readers.proofs.IsoTimes.{offset_by_pieces_is}
 use Rattle.time_record.specs.Record.{Record, empty}
-use Rattle.time_record.specs.Resolution.{IsDated, IsTimed, IsOffset, IsPlain, IsMoment, IsMomentOfParts, stand_in}
-use Rattle.time_parsing.specs.Iso8601.{date_over, time_over, offset_over, reading, Reads, date_said, time_said, IsOffsetSaid}
+use Rattle.time_record.specs.Resolution.{IsDated, IsTimed, IsOffset, IsPlain, IsMoment, IsMomentOfParts, replace_leap_second}
+use Rattle.time_parsing.specs.Iso8601.{date_over, time_over, offset_over, reading, Reads, iso_date_of, time_numbers_of, IsOffsetOfNumbers}
 use Rattle.time_parsing.specs.IsoSteps.{after_time, answer}
 use Rattle.time_parsing.specs.Rfc3339.{with_leap_second}
-use Rattle.time_parsing.specs.exact.ToldMoment.{given, month_short, offset_accepted}
+use Rattle.time_parsing.specs.exact.MomentOfNumbers.{given, month_short, offset_accepted}
 
 Ok-Err : {A : Type 0} (a : A) (e : Refusal) → ◌≡◌ {A = Result A Refusal} (Err e) (Ok a) → ⊥
 Ok-Err a e h = cc
@@ -161,7 +161,7 @@ no_bytes (b ∷ bytes) e = absurd (omega (arith, eqb-true (length (b ∷ bytes))
 parts_put : (bytes between rest : List ℕ) (k l : ExtendedKind) (x : IsoDate) (y : TimeNumbers) (d : Date) (t : Time)
     → date_text bytes ≡ Ok (record { rest = between; value = x; kind = k })
     → time_text true k between ≡ Some (record { rest = rest; value = y; kind = l })
-    → x ≡ date_said d → y ≡ time_said t
+    → x ≡ iso_date_of d → y ≡ time_numbers_of t
     → answer greatest_year bytes (with_leap_second empty)
     ≡ Ok (after_time greatest_year l rest (recorded d t None None None))
 unfolding answer date_over time_over
@@ -194,7 +194,7 @@ timed d t h m s =
       le-leb (Times.nanosecond t) 999999999 (omega (arith, t.nanosecond_in)),
     ) (refl, refl, refl, refl)
 
-stood_in : (d : Date) (t : Time) (h m s : Option ℤ) → IsTimed (stand_in (recorded d t h m s)) (Ok t)
+stood_in : (d : Date) (t : Time) (h m s : Option ℤ) → IsTimed (replace_leap_second (recorded d t h m s)) (Ok t)
 stood_in d t h m s = rw (no_leap t) (timed d t h m s)
 
 no_offset : (l : ExtendedKind) → offset_text l [] ≡ None
@@ -236,7 +236,7 @@ pub plain-whole : (bytes between rest : List ℕ) (k l : ExtendedKind) (x : IsoD
     → date_text bytes ≡ Ok (record { rest = between; value = x; kind = k })
     → time_text true k between ≡ Some (record { rest = rest; value = y; kind = l })
     → rest ≡ []
-    → x ≡ date_said (plain_date p) → y ≡ time_said (plain_time p)
+    → x ≡ iso_date_of (plain_date p) → y ≡ time_numbers_of (plain_time p)
     → IsWholeText bytes p None
 plain-whole bytes between rest k l x y p date time end said told =
     let d = plain_date p in
@@ -264,7 +264,7 @@ found_text l after rest n h = with_its_kind l after rest n (offset_text l after)
 
 -- the offset is stored after them, in components that resolve to it
 offset_put : (l k : ExtendedKind) (after rest : List ℕ) (n : OffsetNumbers) (o : UtcOffset)
-    → offset_text l after ≡ Some (record { rest = rest; value = n; kind = k }) → IsOffsetSaid n o
+    → offset_text l after ≡ Some (record { rest = rest; value = n; kind = k }) → IsOffsetOfNumbers n o
     → (h m s : Option ℤ)
     × ((d : Date) (t : Time) → after_time greatest_year l after (recorded d t None None None) ≡ (rest, recorded d t h m s))
     × ((d : Date) (t : Time) → IsOffset (recorded d t h m s) (Ok o))
@@ -287,7 +287,7 @@ pub moment-whole : (bytes between after : List ℕ) (k l : ExtendedKind) (x : Is
     → date_text bytes ≡ Ok (record { rest = between; value = x; kind = k })
     → time_text true k between ≡ Some (record { rest = after; value = y; kind = l })
     → offset_found l after ≡ Some ([], n)
-    → x ≡ date_said (plain_date p) → y ≡ time_said (plain_time p) → IsOffsetSaid n o
+    → x ≡ iso_date_of (plain_date p) → y ≡ time_numbers_of (plain_time p) → IsOffsetOfNumbers n o
     → IsWholeText bytes p (Some o)
 moment-whole bytes between after k l x y n p o date time offset said told shown =
     let d = plain_date p in

@@ -10,3 +10,4 @@ pub mod KeptIsoTexts
 mod StandardFacts
 mod IsoFacts
 mod OutcomeFacts
+pub mod StrictTexts

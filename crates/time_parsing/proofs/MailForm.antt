@@ -8,7 +8,7 @@ use Rattle.time_values.specs.declared.month.Month.{Month}
 use Rattle.time_values.specs.declared.month.Month.TheVariants.{January, February, March, April, May, June, July, August, September, October, November, December}
 use Rattle.time_values.specs.declared.weekday.Weekday.{Weekday}
 use Rattle.time_values.specs.declared.weekday.Weekday.TheVariants.{Monday, Tuesday, Wednesday, Thursday, Friday, Saturday, Sunday}
-use Rattle.time_values.specs.Shown.{fixed}
+use Rattle.time_values.specs.DisplayTexts.{fixed}
 use Rattle.time_values.specs.Calendar.{IsBetween, greatest_year}
 use Rattle.time_values.specs.Dates as Dates
 use Rattle.time_values.specs.Moments.{offset_date, offset_time, offset_of}
@@ -23,8 +23,8 @@ use Rattle.time_digits.specs.Digits.{sign_byte, is_negative, IsDigitRun}
 use Rattle.time_digits.specs.declared.Sign.{Sign}
 use Rattle.time_digits.specs.declared.Sign.TheVariants.{Negative, Positive}
 use Rattle.time_readers.specs.MailBlanks.{fws, cfws, opt_cfws, opt_cfws_colon_opt_cfws, zone_literal}
-use Rattle.time_readers.specs.Readers.{Stand}
-use Rattle.time_readers.specs.Rfc2822.{Asks, HasForm, nothing_read, time_places, offset_places}
+use Rattle.time_readers.specs.Readers.{MatchesPlaces}
+use Rattle.time_readers.specs.Rfc2822.{PlaceSyntax, HasForm, nothing_read, time_places, offset_places}
 use Rattle.time_readers.specs.declared.rfc2822.Numbers.{Numbers}
 use Rattle.time_readers.specs.declared.rfc2822.Place.TheVariants.{WeekdayName, Day, DayBlanks, MonthName, MonthBlanks, Year as PlaceYear, YearBlanks, Hour, HourColon, Minute, Second, TimeBlanks, OffsetHour, OffsetMinute, EndBlanks}
 use Rattle.time_readers.specs.Direct.{IsMade, IsDirectRfc2822, RefusesRfc2822}
@@ -34,7 +34,7 @@ use Rattle.time_parsing.specs.Outcome.{direct}
 use Rattle.time_parsing.specs.exact.RecordedRfc2822.{direct-value}
 use Rattle.time_parsing.specs.Rfc2822.{Reads, Refuses}
 use Rattle.time_parsing.specs.Written.{kept, IsCut, ReadsMailBack}
-use Rattle.time_parsing.proofs.WrittenBack.{fixed-run, Stand-text, Stand-none}
+use Rattle.time_parsing.proofs.WrittenBack.{fixed-run, MatchesPlaces-text, MatchesPlaces-none}
 use Rattle.time_parsing.proofs.Told.{made, sign_of, signed_hours, signed_minutes, sign_byte-sign_of, is_negative-sign_of, year-below, all_hours-below, minutes-below, day_below}
 
 -- a text begins with a byte that is no blank and begins no comment
@@ -146,9 +146,9 @@ module _ (w : Weekday) (d : ℕ) (month : Month) (y h mi s : ℕ) (sign : Sign) 
       ++ ((32 ∷ []) ++ time_bytes))))))
 
   module _ (hours : oh ≤ 25) (minutes : om < 10 ^ 2) where
-    offset-stands : Stand (Asks false) offset_places timed offset_bytes [] mail_numbers
+    offset-stands : MatchesPlaces (PlaceSyntax false) offset_places timed offset_bytes [] mail_numbers
     offset-stands =
-        Stand-text (Asks false) OffsetHour _ timed signed _ (sign_byte sign ∷ fixed 2 oh) _ []
+        MatchesPlaces-text (PlaceSyntax false) OffsetHour _ timed signed _ (sign_byte sign ∷ fixed 2 oh) _ []
         (inr (record {
           no_zone = no_zone sign _;
           sign = sign;
@@ -162,22 +162,22 @@ module _ (w : Weekday) (d : ℕ) (month : Month) (y h mi s : ℕ) (sign : Sign) 
           );
           says = refl;
         }))
-        (Stand-text (Asks false) OffsetMinute _ signed mail_numbers _ (fixed 2 om) [] []
+        (MatchesPlaces-text (PlaceSyntax false) OffsetMinute _ signed mail_numbers _ (fixed 2 om) [] []
         (om, (fixed-run 2 om [] minutes, tt), refl)
-        (Stand-text (Asks false) EndBlanks [] mail_numbers mail_numbers _ [] [] [] (opt_cfws-empty [] refl, refl)
-        (Stand-none (Asks false) mail_numbers [])))
+        (MatchesPlaces-text (PlaceSyntax false) EndBlanks [] mail_numbers mail_numbers _ [] [] [] (opt_cfws-empty [] refl, refl)
+        (MatchesPlaces-none (PlaceSyntax false) mail_numbers [])))
 
     module _ (clock : (h < 10 ^ 2) × (mi < 10 ^ 2) × (s < 10 ^ 2)) where
-      time-stands : Stand (Asks false) (time_places ++ offset_places) dated time_bytes [] mail_numbers
+      time-stands : MatchesPlaces (PlaceSyntax false) (time_places ++ offset_places) dated time_bytes [] mail_numbers
       time-stands =
-          Stand-text (Asks false) Hour _ dated (record dated { hour = h }) _ (fixed 2 h) _ [] (h, (fixed-run 2 h _ clock.0, tt), refl)
-          (Stand-text (Asks false) HourColon _ (record dated { hour = h }) (record dated { hour = h }) _ (58 ∷ []) _ []
+          MatchesPlaces-text (PlaceSyntax false) Hour _ dated (record dated { hour = h }) _ (fixed 2 h) _ [] (h, (fixed-run 2 h _ clock.0, tt), refl)
+          (MatchesPlaces-text (PlaceSyntax false) HourColon _ (record dated { hour = h }) (record dated { hour = h }) _ (58 ∷ []) _ []
           (colon-at _ (digits-plain mi _), refl)
-          (Stand-text (Asks false) Minute _ (record dated { hour = h }) (record dated { hour = h; minute = mi }) _ (fixed 2 mi) _ []
+          (MatchesPlaces-text (PlaceSyntax false) Minute _ (record dated { hour = h }) (record dated { hour = h; minute = mi }) _ (fixed 2 mi) _ []
           (mi, (fixed-run 2 mi _ clock.1, tt), refl)
-          (Stand-text (Asks false) Second _ (record dated { hour = h; minute = mi }) timed _ (58 ∷ fixed 2 s) _ []
+          (MatchesPlaces-text (PlaceSyntax false) Second _ (record dated { hour = h; minute = mi }) timed _ (58 ∷ fixed 2 s) _ []
           (Some s, (58 ∷ [], fixed 2 s, refl, colon-at _ (digits-plain s _), (fixed-run 2 s _ clock.2, tt)), refl)
-          (Stand-text (Asks false) TimeBlanks _ timed timed _ (32 ∷ []) _ [] (
+          (MatchesPlaces-text (PlaceSyntax false) TimeBlanks _ timed timed _ (32 ∷ []) _ [] (
             blank-at _ (sign-plain sign (fixed 2 oh ++ (fixed 2 om
                 ++ []))),
             refl,
@@ -185,18 +185,19 @@ module _ (w : Weekday) (d : ℕ) (month : Month) (y h mi s : ℕ) (sign : Sign) 
 
       pub mail_form : d < 10 ^ 2 → y < 10 ^ 4 → 1900 ≤ y → HasForm false mail_bytes [] mail_numbers
       mail_form day year late =
-          Stand-text (Asks false) WeekdayName _ nothing_read named _ (short_weekday w ++ (44 ∷ 32 ∷ [])) _ []
+          MatchesPlaces-text (PlaceSyntax false) WeekdayName _ nothing_read named _ (short_weekday w ++ (44 ∷ 32 ∷ [])) _ []
           (Some w, ([], short_weekday w, 32 ∷ [], refl, none-at _ (letters-plain w _), refl, one-at _ (digits-plain d _)), refl)
-          (Stand-text (Asks false) Day _ named (record named { day = d }) _ (fixed 2 d) _ [] (d, day-run d _ day, tt, refl)
-          (Stand-text (Asks false) DayBlanks _ (record named { day = d }) (record named { day = d }) _ (32 ∷ []) _ []
+          (MatchesPlaces-text (PlaceSyntax false) Day _ named (record named { day = d }) _ (fixed 2 d) _ [] (d, day-run d _ day, tt, refl)
+          (MatchesPlaces-text (PlaceSyntax false) DayBlanks _ (record named { day = d }) (record named { day = d }) _ (32 ∷ []) _ []
           (blank-at _ (month-plain month _), refl)
-          (Stand-text (Asks false) MonthName _ (record named { day = d }) (record named { day = d; month = month }) _ (short_month month) _ []
+          (MatchesPlaces-text (PlaceSyntax false) MonthName _ (record named { day = d }) (record named { day = d; month = month }) _ (short_month month) _ []
           (month, refl, refl)
-          (Stand-text (Asks false) MonthBlanks _ (record named { day = d; month = month }) (record named { day = d; month = month }) _ (32 ∷ []) _ []
+          (MatchesPlaces-text (PlaceSyntax false) MonthBlanks _ (record named { day = d; month = month }) (record named { day = d; month = month }) _
+          (32 ∷ []) _ []
           (blank-at _ (year-plain y _), refl)
-          (Stand-text (Asks false) PlaceYear _ (record named { day = d; month = month }) dated _ (fixed 4 y) _ []
+          (MatchesPlaces-text (PlaceSyntax false) PlaceYear _ (record named { day = d; month = month }) dated _ (fixed 4 y) _ []
           (true, y, (fixed-run 4 y _ year, late), refl)
-          (Stand-text (Asks false) YearBlanks _ dated dated _ (32 ∷ []) time_bytes [] (fold-at _ (digits-plain h _), refl) time-stands))))))
+          (MatchesPlaces-text (PlaceSyntax false) YearBlanks _ dated dated _ (32 ∷ []) time_bytes [] (fold-at _ (digits-plain h _), refl) time-stands))))))
 
 -- ---- A written mail date parses back
 

@@ -7,7 +7,7 @@ use Rattle.time_values.specs.Moments.{offset_time, offset_date}
 use Rattle.time_values.specs.declared.offset_date_time.OffsetDateTime.{OffsetDateTime}
 use Rattle.time_values.specs.Dates as Dates
 use Rattle.time_values.specs.Names.{month_number}
-use Rattle.time_values.specs.Shown.{fixed}
+use Rattle.time_values.specs.DisplayTexts.{fixed}
 use Rattle.time_formatting.specs.declared.parts.FractionDigits.TheVariants.{Auto, Exactly}
 use Rattle.time_formatting.specs.WellKnown.{moment_text, basic_text}
 use Rattle.time_components.specs.declared.format_description.Component.{Component}
@@ -26,7 +26,7 @@ use Rattle.time_parsing.specs.Written.{IsCut, written, OneText, OneShortText, On
 use Rattle.time_parsing.specs.exact.Laws.{rfc3339_exact, iso8601_exact, rfc2822_exact}
 use Rattle.time_parsing.specs.Iso8601 as Iso8601
 use Rattle.time_parsing.specs.Rfc2822 as Rfc2822
-use Rattle.time_parsing.specs.TreeLaws.{AlikeOn, WholeCharacters}
+use Rattle.time_parsing.specs.TreeLaws.{AreEquivalentOn, WholeCharacters}
 use Rattle.time_parsing.proofs.WrittenBack.{read_back, auto-keeps, all_digits}
 use Rattle.time_parsing.proofs.IsoBack.{basic_read_back}
 use Rattle.time_parsing.proofs.MailForm.{mail_read_back}
@@ -287,7 +287,7 @@ module _ (Y : ℕ) where
     fault_all-marked (tree_more t ts) b r clean e (inr (mid, m, h, hs)) =
         inr (mid, m, read-marked t b r clean.0 mid m h, fault_all-marked ts mid m (clean.1 mid m h) e hs)
 
-  alike-unmarked : (t : Tree) (b : List ℕ) (r : Record) → Clean Y (unmarked t) b r → AlikeOn Y t (unmarked t) b r
+  alike-unmarked : (t : Tree) (b : List ℕ) (r : Record) → Clean Y (unmarked t) b r → AreEquivalentOn Y t (unmarked t) b r
   alike-unmarked t b r clean = record {
     reads = λ rest q. (read-unmarked t b r clean rest q, read-marked t b r clean rest q);
     refuses = λ e. (
@@ -304,4 +304,4 @@ module _ (Y : ℕ) where
 
   pub whole_characters : WholeCharacters Y
   whole_characters t u b r is clean =
-      subst (λ s. AlikeOn Y t s b r) is (alike-unmarked t b r (subst (λ s. Clean Y s b r) (sym is) clean))
+      subst (λ s. AreEquivalentOn Y t s b r) is (alike-unmarked t b r (subst (λ s. Clean Y s b r) (sym is) clean))

@@ -9,16 +9,16 @@ use Rattle.time_values.specs.Moments.{offset_date, offset_time, offset_of}
 use Rattle.time_values.specs.Names.{month_number}
 use Rattle.time_values.specs.Offsets.{HasOffset, minutes, seconds}
 use Rattle.time_values.specs.Refusal.{Refusal, component, range, trailing}
-use Rattle.time_values.specs.Shown.{fixed}
+use Rattle.time_values.specs.DisplayTexts.{fixed}
 use Rattle.time_values.specs.Times.{HasClock}
 use Rattle.time_values.specs.declared.date.Date.{Date}
 use Rattle.time_values.specs.declared.month.Month.TheVariants.{January, April, December}
 use Rattle.time_values.specs.declared.offset_date_time.OffsetDateTime.{OffsetDateTime}
 use Rattle.time_values.specs.declared.utc_offset.UtcOffset.{UtcOffset}
 use Rattle.time_digits.specs.declared.Sign.TheVariants.{Positive}
-use Rattle.time_readers.specs.Direct.{HasDate, LeapSecondMayStand, RefusesRfc3339, said_rfc3339}
+use Rattle.time_readers.specs.Direct.{HasDate, IsLeapSecondValid, RefusesRfc3339, rfc3339_numbers}
 use Rattle.time_readers.specs.IsoPieces.{month, year}
-use Rattle.time_readers.specs.Rfc3339.{Asks, HasForm, nothing_read}
+use Rattle.time_readers.specs.Rfc3339.{PlaceSyntax, HasForm, nothing_read}
 use Rattle.time_readers.specs.declared.rfc3339.Numbers.{Numbers}
 use Rattle.time_readers.specs.declared.rfc3339.Place.TheVariants.{Year, YearDash, Month, MonthDash, Day, Separator, Hour, HourColon, Minute}
 use Rattle.time_readers.specs.declared.rfc3339.Place.TheVariants.{MinuteColon, Second, Subsecond, OffsetHour, OffsetColon, OffsetMinute}
@@ -31,7 +31,7 @@ use Rattle.time_parsing.specs.Written.{HasCanonicalText, canonical_text}
 use Rattle.time_parsing.specs.exact.Laws.{rfc3339_exact, rfc3339_exact_path}
 use Rattle.time_parsing.specs.exact.RecordedRfc3339.{direct-value}
 use Rattle.time_parsing.proofs.OneOutcome.{one_moment_outcome}
-use Rattle.time_parsing.proofs.WrittenBack.{Stand-none, Stand-text, fixed-run, numeric, numeric-stands, written_form, zulu, zulu-stands}
+use Rattle.time_parsing.proofs.WrittenBack.{MatchesPlaces-none, MatchesPlaces-text, fixed-run, numeric, numeric-stands, written_form, zulu, zulu-stands}
 use Rattle.time_parsing.proofs.StandardFacts.{after_2021, after_example, behind_five, example, example_form, example_is_read, example_numbers}
 use Rattle.time_parsing.proofs.StandardFacts.{month_13_is_refused, no_fraction, offset_ahead_is_read}
 
@@ -59,22 +59,22 @@ thirteenth_form_x =
     let m : Numbers = record y { month = 13 } in
     let d : Numbers = record m { day = 1 } in
     let all : Numbers = record d { is_utc = true } in
-    Stand-text (Asks false) Year _ nothing_read y _ (codes "2021") _ x (2021, fixed-run 4 2021 _ (omega arith), refl)
-    (Stand-text (Asks false) YearDash _ y y _ (codes "-") _ x (refl, refl)
-    (Stand-text (Asks false) Month _ y m _ (codes "13") _ x (13, (fixed-run 2 13 _ (omega arith), tt), (λ e. omega (arith, e)), refl)
-    (Stand-text (Asks false) MonthDash _ m m _ (codes "-") _ x (refl, refl)
-    (Stand-text (Asks false) Day _ m d _ (codes "01") _ x (1, (fixed-run 2 1 _ (omega arith), tt), refl)
-    (Stand-text (Asks false) Separator _ d d _ (codes "T") _ x (refl, refl)
-    (Stand-text (Asks false) Hour _ d d _ (codes "00") _ x (0, (fixed-run 2 0 _ (omega arith), tt), refl)
-    (Stand-text (Asks false) HourColon _ d d _ (codes ":") _ x (refl, refl)
-    (Stand-text (Asks false) Minute _ d d _ (codes "00") _ x (0, (fixed-run 2 0 _ (omega arith), tt), refl)
-    (Stand-text (Asks false) MinuteColon _ d d _ (codes ":") _ x (refl, refl)
-    (Stand-text (Asks false) Second _ d d _ (codes "00") _ x (0, (fixed-run 2 0 _ (omega arith), tt), refl)
-    (Stand-text (Asks false) Subsecond _ d d _ [] _ x (None, no_fraction x 90 (λ e. omega (arith, e)), refl)
-    (Stand-text (Asks false) OffsetHour _ d all _ (codes "Z") _ x (inl ((90, refl, refl), refl))
-    (Stand-text (Asks false) OffsetColon _ all all _ [] _ x (refl, refl)
-    (Stand-text (Asks false) OffsetMinute [] all all _ [] _ x (refl, refl)
-    (Stand-none (Asks false) all x)))))))))))))))
+    MatchesPlaces-text (PlaceSyntax false) Year _ nothing_read y _ (codes "2021") _ x (2021, fixed-run 4 2021 _ (omega arith), refl)
+    (MatchesPlaces-text (PlaceSyntax false) YearDash _ y y _ (codes "-") _ x (refl, refl)
+    (MatchesPlaces-text (PlaceSyntax false) Month _ y m _ (codes "13") _ x (13, (fixed-run 2 13 _ (omega arith), tt), (λ e. omega (arith, e)), refl)
+    (MatchesPlaces-text (PlaceSyntax false) MonthDash _ m m _ (codes "-") _ x (refl, refl)
+    (MatchesPlaces-text (PlaceSyntax false) Day _ m d _ (codes "01") _ x (1, (fixed-run 2 1 _ (omega arith), tt), refl)
+    (MatchesPlaces-text (PlaceSyntax false) Separator _ d d _ (codes "T") _ x (refl, refl)
+    (MatchesPlaces-text (PlaceSyntax false) Hour _ d d _ (codes "00") _ x (0, (fixed-run 2 0 _ (omega arith), tt), refl)
+    (MatchesPlaces-text (PlaceSyntax false) HourColon _ d d _ (codes ":") _ x (refl, refl)
+    (MatchesPlaces-text (PlaceSyntax false) Minute _ d d _ (codes "00") _ x (0, (fixed-run 2 0 _ (omega arith), tt), refl)
+    (MatchesPlaces-text (PlaceSyntax false) MinuteColon _ d d _ (codes ":") _ x (refl, refl)
+    (MatchesPlaces-text (PlaceSyntax false) Second _ d d _ (codes "00") _ x (0, (fixed-run 2 0 _ (omega arith), tt), refl)
+    (MatchesPlaces-text (PlaceSyntax false) Subsecond _ d d _ [] _ x (None, no_fraction x 90 (λ e. omega (arith, e)), refl)
+    (MatchesPlaces-text (PlaceSyntax false) OffsetHour _ d all _ (codes "Z") _ x (inl ((90, refl, refl), refl))
+    (MatchesPlaces-text (PlaceSyntax false) OffsetColon _ all all _ [] _ x (refl, refl)
+    (MatchesPlaces-text (PlaceSyntax false) OffsetMinute [] all all _ [] _ x (refl, refl)
+    (MatchesPlaces-none (PlaceSyntax false) all x)))))))))))))))
 
 pub byte_that_remains_is_refused_first : RefusesRfc3339 Y (codes "2021-13-01T00:00:00Zx") trailing
 byte_that_remains_is_refused_first = inr (codes "x", (zulu 2021 13 1 0 0 0 None, thirteenth_form_x, refl))
@@ -114,9 +114,9 @@ no_month_before_the_minute h =
 module _ (v : OffsetDateTime) (date : HasParts (pos 1985) April 12 (offset_date v)) (clock : HasClock 23 20 50 520_000_000 (offset_time v))
     (offset : HasOffset (pos 0) (pos 0) (pos 0) (offset_of v)) where
   pub example_is_a_moment : IsMomentOutcome Y (direct (RefusesRfc3339 Y)) (Reads Y) (Refuses Y) example None (Ok v)
-  unfolding LeapSecondMayStand
+  unfolding IsLeapSecondValid
   example_is_a_moment =
-      let parts : HasDate (said_rfc3339 example_numbers) (offset_date v) = record { year = date.0; month = ap month_number date.1; day = date.2 } in
+      let parts : HasDate (rfc3339_numbers example_numbers) (offset_date v) = record { year = date.0; month = ap month_number date.1; day = date.2 } in
       direct-value example v (
         example_numbers,
         example_form,

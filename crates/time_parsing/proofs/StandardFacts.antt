@@ -3,7 +3,7 @@
 use Rattle.std.proofs.Common.{◌≡◌, ◌≢◌, ℕ, List, [], ◌∷◌, ◌++◌, length, pos, neg_ℤ, true, false, Some, None, codes, refl, sym, ap, inl, arith}
 use Rattle.time_values.specs.Calendar.{greatest_year}
 use Rattle.time_values.specs.Refusal.{component, literal, range}
-use Rattle.time_values.specs.Shown.{fixed}
+use Rattle.time_values.specs.DisplayTexts.{fixed}
 use Rattle.time_values.specs.declared.month.Month.TheVariants.{January, April, November}
 use Rattle.time_values.specs.declared.weekday.Weekday.TheVariants.{Monday, Saturday}
 use Rattle.time_digits.specs.Digits.{IsDigitRun}
@@ -11,7 +11,7 @@ use Rattle.time_digits.specs.declared.Sign.TheVariants.{Negative, Positive}
 use Rattle.time_digits.proofs.Runs.{IsDigitRun-unique}
 use Rattle.time_readers.specs.IsoPieces.{digits, month, weekday, year}
 use Rattle.time_readers.specs.Rfc2822 as mail
-use Rattle.time_readers.specs.Rfc3339.{Asks, HasForm, InRanges, IsSubsecond, nothing_read, offset_places, time_places}
+use Rattle.time_readers.specs.Rfc3339.{PlaceSyntax, HasForm, InRanges, IsSubsecond, nothing_read, offset_places, time_places}
 use Rattle.time_readers.specs.declared.rfc2822.Numbers.{Numbers as MailNumbers}
 use Rattle.time_readers.specs.declared.rfc2822.Place.TheVariants as mail_place
 use Rattle.time_readers.specs.declared.rfc3339.Numbers.{Numbers}
@@ -25,7 +25,7 @@ use Rattle.time_parsing.specs.Rfc2822 as Rfc2822
 use Rattle.time_parsing.specs.Rfc3339.{Reads, Refuses}
 use Rattle.time_parsing.specs.exact.Laws.{rfc2822_exact, rfc3339_exact}
 use Rattle.time_parsing.proofs.MailForm.{mail_form, mail_numbers}
-use Rattle.time_parsing.proofs.WrittenBack.{Stand-none, Stand-text, fixed-run, numeric, numeric-stands, written_form, zulu, zulu-stands}
+use Rattle.time_parsing.proofs.WrittenBack.{MatchesPlaces-none, MatchesPlaces-text, fixed-run, numeric, numeric-stands, written_form, zulu, zulu-stands}
 
 abbrev Y : ℕ
 Y = greatest_year
@@ -163,8 +163,9 @@ module _ (r : Record) where
           mid = codes "13" ++ tail;
           numbers = y;
           stand =
-              Stand-text (Asks true) Year _ nothing_read y _ (codes "2021") _ (codes "13" ++ tail) (2021, fixed-run 4 2021 _ (omega arith), refl)
-              (Stand-text (Asks true) YearDash [] y y _ (codes "-") _ (codes "13" ++ tail) (refl, refl) (Stand-none (Asks true) y (codes "13" ++ tail)));
+              MatchesPlaces-text (PlaceSyntax true) Year _ nothing_read y _ (codes "2021") _ (codes "13" ++ tail) (2021, fixed-run 4 2021 _ (omega arith), refl)
+              (MatchesPlaces-text (PlaceSyntax true) YearDash [] y y _ (codes "-") _ (codes "13" ++ tail) (refl, refl) (MatchesPlaces-none (PlaceSyntax true) y
+              (codes "13" ++ tail)));
           stops = λ text after m e asked.
               let is = IsDigitRun-unique 2 2 2 text (codes "13") after tail asked.0 13 asked.1.0 (fixed-run 2 13 tail (omega arith)) (sym e) in
               omega (arith, is.2, asked.1.1.1);
@@ -269,7 +270,7 @@ module _ (r : Record) where
           mid = codes "00 " ++ tail;
           numbers = named;
           stand =
-              Stand-text (mail.Asks true) mail_place.WeekdayName [] mail.nothing_read named _ (codes "Mon, ") _ (codes "00 " ++ tail) (
+              MatchesPlaces-text (mail.PlaceSyntax true) mail_place.WeekdayName [] mail.nothing_read named _ (codes "Mon, ") _ (codes "00 " ++ tail) (
                 Some Monday,
                 (
                   [],
@@ -282,7 +283,7 @@ module _ (r : Record) where
                 ),
                 refl,
               )
-              (Stand-none (mail.Asks true) named (codes "00 " ++ tail));
+              (MatchesPlaces-none (mail.PlaceSyntax true) named (codes "00 " ++ tail));
           stops = λ text after m e asked.
               let zero : IsDigitRun 1 2 (codes "00") (codes " " ++ tail) 0 = record {
                 digits = ((omega arith, omega arith), ((omega arith, omega arith), tt));

@@ -21,12 +21,12 @@ use Rattle.time_values.specs.declared.offset_date_time.OffsetDateTime.{OffsetDat
 use Rattle.time_values.specs.declared.time.Time.{Time}
 use Rattle.time_values.proofs.NumberLemmas.{month_number_in}
 use Rattle.time_digits.specs.Digits.{sign_byte, is_negative}
-use Rattle.time_readers.specs.Direct.{shown_second, shown_nanosecond, first_refusal, LeapSecondMayStand, IsMoment, IsMade}
+use Rattle.time_readers.specs.Direct.{moment_second, moment_nanosecond, first_refusal, IsLeapSecondValid, IsMoment, IsMade}
 use Rattle.time_digits.specs.declared.Sign.{Sign}
 use Rattle.time_digits.specs.declared.Sign.TheVariants.{Negative, Positive}
-use Rattle.time_readers.specs.declared.direct.Said.{Said}
+use Rattle.time_readers.specs.declared.direct.MomentNumbers.{MomentNumbers}
 use Rattle.time_parsing.specs.Written.{kept, IsCut}
-use Rattle.time_parsing.specs.exact.ToldMoment.{month_short}
+use Rattle.time_parsing.specs.exact.MomentOfNumbers.{month_short}
 
 -- no part of a date that exists is rejected
 no_date_refusal : (d : Date) → calendar_date_refusal greatest_year (Dates.year d) (month_number (Dates.month d)) (Dates.day d) ≡ None
@@ -79,7 +79,7 @@ sign_byte-sign_of true = refl
 sign_byte-sign_of false = refl
 
 -- The numbers in the text of a moment with k digits of its fraction.
-abbrev pub told : ℕ → OffsetDateTime → Said
+abbrev pub told : ℕ → OffsetDateTime → MomentNumbers
 told k v = record {
   year = unsigned_abs (Dates.year (offset_date v));
   month = month_number (Dates.month (offset_date v));
@@ -95,10 +95,10 @@ told k v = record {
 not_sixty : (n : ℕ) → n < 60 → (n == 60) ≡ false
 not_sixty n h = grind (arith, nat_tests)
 
-shown-second : (k : ℕ) (v : OffsetDateTime) → shown_second (told k v) ≡ Times.second (offset_time v)
+shown-second : (k : ℕ) (v : OffsetDateTime) → moment_second (told k v) ≡ Times.second (offset_time v)
 shown-second k v = rw (not_sixty (Times.second (offset_time v)) (offset_time v).second_in) refl
 
-shown-nanosecond : (k : ℕ) (v : OffsetDateTime) → shown_nanosecond (told k v) ≡ kept k (Times.nanosecond (offset_time v))
+shown-nanosecond : (k : ℕ) (v : OffsetDateTime) → moment_nanosecond (told k v) ≡ kept k (Times.nanosecond (offset_time v))
 shown-nanosecond k v = rw (not_sixty (Times.second (offset_time v)) (offset_time v).second_in) refl
 
 pub year-said : (y : ℤ) → IsBetween (pos 0) (pos 9999) y → y ≡ pos (unsigned_abs y)
@@ -182,8 +182,8 @@ module _ (k : ℕ) (v w : OffsetDateTime) (cut : IsCut k v w)
     );
   }
 
-  no_leap_second : LeapSecondMayStand greatest_year (told k v) w
-  unfolding LeapSecondMayStand
+  no_leap_second : IsLeapSecondValid greatest_year (told k v) w
+  unfolding IsLeapSecondValid
   no_leap_second leap = let below = (offset_time v).second_in in absurd (omega (arith, below, leap))
 
   pub made : IsMade greatest_year (told k v) w

@@ -8,7 +8,7 @@ use Rattle.time_record.specs.Record.{Record, Entry, in_range, put, put_here, put
 use Rattle.time_record.specs.Reading.{Reads, ReadsAll, IsFault, IsFaultAll, Refuses, RefusesAll, Answers, ReadsSome}
 use Rattle.time_record.proofs.Unique.{RefusesAll-here, RefusesAll-more, Refuses-unique, Reads-unrefused, Reads-unique}
 use Rattle.time_parsing.specs.Rfc3339.{without_offset_sign, with_leap_second}
-use Rattle.time_parsing.specs.TreeLaws.{JoinedReads, JoinedRefuses, JoinedLeaves, Flattens, OptionalAsFirst, told, AnswersAlike, LeavesSuffix}
+use Rattle.time_parsing.specs.TreeLaws.{JoinedReads, JoinedRefuses, JoinedLeaves, Flattens, OptionalAsFirst, told, HaveEqualResults, LeavesSuffix}
 
 -- ---- Entries stored in a record in turn. `Y` is the greatest year.
 
@@ -263,7 +263,7 @@ module _ (Y : ℕ) where
   one_answer t b r (Err e) (Err f) q p h k =
       (ap Err (Refuses-unique Y t b r (refusal_of_description e) (refusal_of_description f) h.0 k.0), h.1 ∙ sym k.1)
 
-  pub answers_alike : (t u : Tree) → AnswersAlike Y t u
+  pub answers_alike : (t u : Tree) → HaveEqualResults Y t u
   answers_alike t u b r result other q p is h k = one_answer t b r result other q p h (subst (λ s. Answers Y s b r other p) (sym is) k)
 
   abbrev Suffix : List ℕ → List ℕ → Type 0

@@ -4,7 +4,7 @@ use Rattle.std.specs.Ordering.{int_eq}
 use Rattle.std.proofs.Common.{◌≡◌, ◌≢◌, ◌≤◌, ◌<◌, ◌+◌, ◌-◌, ◌*◌, ◌^◌, ◌/◌, ◌%◌, ℕ, zero, suc, List, [], ◌∷◌, ◌++◌, take, false, true, Option, Some, None, refl, sym, ap, subst, ◌∙◌, inl, inr, arith, codes, append-nil, rules, ℤ, pos, neg_ℤ, unsigned_abs, Bool, append_assoc}
 use Rattle.std.proofs.lemmas.Bool.Decides.{nat_tests}
 use Rattle.std.proofs.lemmas.List.{take_all}
-use Rattle.time_values.specs.Shown.{fixed, fraction_shown}
+use Rattle.time_values.specs.DisplayTexts.{fixed, fraction_display}
 use Rattle.time_values.specs.Calendar.{IsBetween, greatest_year}
 use Rattle.time_values.specs.Dates as Dates
 use Rattle.time_values.specs.Moments.{offset_date, offset_time, offset_of}
@@ -25,11 +25,11 @@ use Rattle.time_digits.specs.Digits.{sign_byte, is_negative, AllDigits, digits_v
 use Rattle.time_digits.specs.declared.Sign.{Sign}
 use Rattle.time_digits.specs.declared.Sign.TheVariants.{Negative, Positive}
 use Rattle.time_digits.proofs.Runs.{AllDigits-push, digits_value-push}
-use Rattle.time_readers.specs.Readers.{Format, Stand}
-use Rattle.time_readers.specs.Rfc3339.{Asks, HasForm, IsSubsecond, NoDotFirst, nothing_read, time_places, offset_places}
+use Rattle.time_readers.specs.Readers.{Format, MatchesPlaces}
+use Rattle.time_readers.specs.Rfc3339.{PlaceSyntax, HasForm, IsSubsecond, NoDotFirst, nothing_read, time_places, offset_places}
 use Rattle.time_readers.specs.declared.rfc3339.Numbers.{Numbers}
 use Rattle.time_readers.specs.declared.rfc3339.Place.TheVariants.{Year as PlaceYear, YearDash, Month, MonthDash, Day, Separator, Hour, HourColon, Minute, MinuteColon, Second, Subsecond, OffsetHour as PlaceOffsetHour, OffsetColon, OffsetMinute}
-use Rattle.time_readers.specs.Direct.{IsMade, IsDirectRfc3339, RefusesRfc3339, said_rfc3339}
+use Rattle.time_readers.specs.Direct.{IsMade, IsDirectRfc3339, RefusesRfc3339, rfc3339_numbers}
 use Rattle.time_readers.proofs.MailRanges.{minute_stands}
 use Rattle.time_parsing.specs.Written.{kept, IsCut, written, ReadsBack, KeepsAll}
 use Rattle.time_parsing.specs.Outcome.{direct}
@@ -90,20 +90,20 @@ pub not_zero : (k : ℕ) → (suc k == 0) ≡ false
 not_zero k = grind (arith, nat_tests)
 
 pub fraction-stands : (k n : ℕ) (rest : List ℕ) → k ≤ 9 → n < 10 ^ 9 → NoDigitFirst rest → NoDotFirst rest
-    → IsSubsecond (fraction_shown k n) rest (said k n)
+    → IsSubsecond (fraction_display k n) rest (said k n)
 fraction-stands zero n rest few below ends point = (refl, point)
 fraction-stands (suc k) n rest few below ends point =
     rw (not_zero k) (take (suc k) (fixed 9 n), refl, written-fraction (suc k) n rest (omega arith) few below ends)
 
 -- a place whose text precedes those of the later places
-pub Stand-text : {P N : Type 0} (A : Format P N) (p : P) (ps : List P) (n k m : N) (text after rest : List ℕ) →
-    A p n text after k → Stand A ps k after rest m → Stand A (p ∷ ps) n (text ++ after) rest m
-unfolding Stand
-Stand-text A p ps n k m text after rest h s = (after, k, (text, refl, h), s)
+pub MatchesPlaces-text : {P N : Type 0} (A : Format P N) (p : P) (ps : List P) (n k m : N) (text after rest : List ℕ) →
+    A p n text after k → MatchesPlaces A ps k after rest m → MatchesPlaces A (p ∷ ps) n (text ++ after) rest m
+unfolding MatchesPlaces
+MatchesPlaces-text A p ps n k m text after rest h s = (after, k, (text, refl, h), s)
 
-pub Stand-none : {P N : Type 0} (A : Format P N) (n : N) (bytes : List ℕ) → Stand A [] n bytes bytes n
-unfolding Stand
-Stand-none A n bytes = (refl, refl)
+pub MatchesPlaces-none : {P N : Type 0} (A : Format P N) (n : N) (bytes : List ℕ) → MatchesPlaces A [] n bytes bytes n
+unfolding MatchesPlaces
+MatchesPlaces-none A n bytes = (refl, refl)
 
 module _ (y mo d h mi s : ℕ) (subsecond : Option ℕ) where
   -- the numbers after the month, the date, and the time
@@ -126,16 +126,16 @@ module _ (y mo d h mi s : ℕ) (subsecond : Option ℕ) where
   abbrev pub numeric : Sign → ℕ → ℕ → Numbers
   numeric sign oh om = record timed { offset_is_negative = is_negative sign; offset_hour = oh; offset_minute = om }
 
-  pub zulu-stands : Stand (Asks false) offset_places timed (codes "Z") [] zulu
+  pub zulu-stands : MatchesPlaces (PlaceSyntax false) offset_places timed (codes "Z") [] zulu
   zulu-stands =
-      Stand-text (Asks false) PlaceOffsetHour _ timed zulu _ (codes "Z") _ [] (inl ((90, refl, refl), refl))
-      (Stand-text (Asks false) OffsetColon _ zulu zulu _ [] _ [] (refl, refl)
-      (Stand-text (Asks false) OffsetMinute [] zulu zulu _ [] [] [] (refl, refl) (Stand-none (Asks false) zulu [])))
+      MatchesPlaces-text (PlaceSyntax false) PlaceOffsetHour _ timed zulu _ (codes "Z") _ [] (inl ((90, refl, refl), refl))
+      (MatchesPlaces-text (PlaceSyntax false) OffsetColon _ zulu zulu _ [] _ [] (refl, refl)
+      (MatchesPlaces-text (PlaceSyntax false) OffsetMinute [] zulu zulu _ [] [] [] (refl, refl) (MatchesPlaces-none (PlaceSyntax false) zulu [])))
 
   pub numeric-stands : (sign : Sign) (oh om : ℕ) → oh ≤ 23 → om < 10 ^ 2 →
-      Stand (Asks false) offset_places timed ((sign_byte sign ∷ fixed 2 oh) ++ (codes ":" ++ fixed 2 om)) [] (numeric sign oh om)
+      MatchesPlaces (PlaceSyntax false) offset_places timed ((sign_byte sign ∷ fixed 2 oh) ++ (codes ":" ++ fixed 2 om)) [] (numeric sign oh om)
   numeric-stands sign oh om hours minutes =
-      Stand-text (Asks false) PlaceOffsetHour _ timed (signed sign oh) _ (sign_byte sign ∷ fixed 2 oh) _ []
+      MatchesPlaces-text (PlaceSyntax false) PlaceOffsetHour _ timed (signed sign oh) _ (sign_byte sign ∷ fixed 2 oh) _ []
       (inr (record {
         sign = sign;
         digits = fixed 2 oh;
@@ -147,10 +147,10 @@ module _ (y mo d h mi s : ℕ) (subsecond : Option ℕ) where
         );
         says = refl;
       }))
-      (Stand-text (Asks false) OffsetColon _ (signed sign oh) (signed sign oh) _ (codes ":") _ [] (refl, refl)
-      (subst (λ text. Stand (Asks false) (OffsetMinute ∷ []) (signed sign oh) text [] (numeric sign oh om)) (append-nil (fixed 2 om))
-      (Stand-text (Asks false) OffsetMinute [] (signed sign oh) (numeric sign oh om) _ (fixed 2 om) [] []
-      (om, (fixed-run 2 om [] minutes, tt), refl) (Stand-none (Asks false) (numeric sign oh om) []))))
+      (MatchesPlaces-text (PlaceSyntax false) OffsetColon _ (signed sign oh) (signed sign oh) _ (codes ":") _ [] (refl, refl)
+      (subst (λ text. MatchesPlaces (PlaceSyntax false) (OffsetMinute ∷ []) (signed sign oh) text [] (numeric sign oh om)) (append-nil (fixed 2 om))
+      (MatchesPlaces-text (PlaceSyntax false) OffsetMinute [] (signed sign oh) (numeric sign oh om) _ (fixed 2 om) [] []
+      (om, (fixed-run 2 om [] minutes, tt), refl) (MatchesPlaces-none (PlaceSyntax false) (numeric sign oh om) []))))
 
   module _ (fraction offset : List ℕ) where
     abbrev pub time_bytes : List ℕ
@@ -159,30 +159,33 @@ module _ (y mo d h mi s : ℕ) (subsecond : Option ℕ) where
     abbrev pub bytes : List ℕ
     bytes = fixed 4 y ++ (codes "-" ++ (fixed 2 mo ++ (codes "-" ++ (fixed 2 d ++ time_bytes))))
 
-    module _ (all : Numbers) (stands : IsSubsecond fraction offset subsecond) (ends : Stand (Asks false) offset_places timed offset [] all)
+    module _ (all : Numbers) (stands : IsSubsecond fraction offset subsecond) (ends : MatchesPlaces (PlaceSyntax false) offset_places timed offset [] all)
         (clock : (h < 10 ^ 2) × (mi < 10 ^ 2) × (s < 10 ^ 2)) where
-      time-stands : Stand (Asks false) (time_places ++ offset_places) dated time_bytes [] all
+      time-stands : MatchesPlaces (PlaceSyntax false) (time_places ++ offset_places) dated time_bytes [] all
       time-stands =
-          Stand-text (Asks false) Separator _ dated dated _ (codes "T") _ [] (refl, refl)
-          (Stand-text (Asks false) Hour _ dated (record dated { hour = h }) _ (fixed 2 h) _ [] (h, (fixed-run 2 h _ clock.0, tt), refl)
-          (Stand-text (Asks false) HourColon _ (record dated { hour = h }) (record dated { hour = h }) _ (codes ":") _ [] (refl, refl)
-          (Stand-text (Asks false) Minute _ (record dated { hour = h }) (record dated { hour = h; minute = mi }) _ (fixed 2 mi) _ []
+          MatchesPlaces-text (PlaceSyntax false) Separator _ dated dated _ (codes "T") _ [] (refl, refl)
+          (MatchesPlaces-text (PlaceSyntax false) Hour _ dated (record dated { hour = h }) _ (fixed 2 h) _ [] (h, (fixed-run 2 h _ clock.0, tt), refl)
+          (MatchesPlaces-text (PlaceSyntax false) HourColon _ (record dated { hour = h }) (record dated { hour = h }) _ (codes ":") _ [] (refl, refl)
+          (MatchesPlaces-text (PlaceSyntax false) Minute _ (record dated { hour = h }) (record dated { hour = h; minute = mi }) _ (fixed 2 mi) _ []
           (mi, (fixed-run 2 mi _ clock.1, tt), refl)
-          (Stand-text (Asks false) MinuteColon _ (record dated { hour = h; minute = mi }) (record dated { hour = h; minute = mi }) _ (codes ":") _ []
+          (MatchesPlaces-text (PlaceSyntax false) MinuteColon _ (record dated { hour = h; minute = mi }) (record dated { hour = h; minute = mi }) _
+          (codes ":") _ []
           (refl, refl)
-          (Stand-text (Asks false) Second _ (record dated { hour = h; minute = mi }) (record dated { hour = h; minute = mi; second = s }) _ (fixed 2 s) _ []
+          (MatchesPlaces-text (PlaceSyntax false) Second _ (record dated { hour = h; minute = mi }) (record dated { hour = h; minute = mi; second = s }) _
+          (fixed 2 s) _ []
           (s, (fixed-run 2 s _ clock.2, tt), refl)
-          (Stand-text (Asks false) Subsecond _ (record dated { hour = h; minute = mi; second = s }) timed _ fraction offset []
+          (MatchesPlaces-text (PlaceSyntax false) Subsecond _ (record dated { hour = h; minute = mi; second = s }) timed _ fraction offset []
           (subsecond, stands, refl) ends))))))
 
       pub written_form : y < 10 ^ 4 → mo ≢ 0 → mo < 10 ^ 2 → d < 10 ^ 2 → HasForm false bytes [] all
       written_form year some_month month day =
-          Stand-text (Asks false) PlaceYear _ nothing_read (record nothing_read { year = y }) _ (fixed 4 y) _ [] (y, fixed-run 4 y _ year, refl)
-          (Stand-text (Asks false) YearDash _ (record nothing_read { year = y }) (record nothing_read { year = y }) _ (codes "-") _ [] (refl, refl)
-          (Stand-text (Asks false) Month _ (record nothing_read { year = y }) numbered _ (fixed 2 mo) _ []
+          MatchesPlaces-text (PlaceSyntax false) PlaceYear _ nothing_read (record nothing_read { year = y }) _ (fixed 4 y) _ [] (y, fixed-run 4 y _ year, refl)
+          (MatchesPlaces-text (PlaceSyntax false) YearDash _ (record nothing_read { year = y }) (record nothing_read { year = y }) _ (codes "-") _ []
+          (refl, refl)
+          (MatchesPlaces-text (PlaceSyntax false) Month _ (record nothing_read { year = y }) numbered _ (fixed 2 mo) _ []
           (mo, (fixed-run 2 mo _ month, tt), some_month, refl)
-          (Stand-text (Asks false) MonthDash _ numbered numbered _ (codes "-") _ [] (refl, refl)
-          (Stand-text (Asks false) Day _ numbered dated _ (fixed 2 d) time_bytes [] (d, (fixed-run 2 d _ day, tt), refl) time-stands))))
+          (MatchesPlaces-text (PlaceSyntax false) MonthDash _ numbered numbered _ (codes "-") _ [] (refl, refl)
+          (MatchesPlaces-text (PlaceSyntax false) Day _ numbered dated _ (fixed 2 d) time_bytes [] (d, (fixed-run 2 d _ day, tt), refl) time-stands))))
 
 -- no error applies to a text
 pub writable : (y h s : ℤ) →
@@ -230,21 +233,21 @@ module _ (k : ℕ) (few : k ≤ 9) (v w : OffsetDateTime) (cut : IsCut k v w)
   with_offset offset =
       bytes (unsigned_abs (Dates.year (offset_date v))) (month_number (Dates.month (offset_date v))) (Dates.day (offset_date v))
       (Times.hour (offset_time v)) (Times.minute (offset_time v)) (Times.second (offset_time v))
-      (said k (Times.nanosecond (offset_time v))) (fraction_shown k (Times.nanosecond (offset_time v))) offset
+      (said k (Times.nanosecond (offset_time v))) (fraction_display k (Times.nanosecond (offset_time v))) offset
 
   -- it is the moment of the offset's numbers
   stands-with : (offset : List ℕ) (all : Numbers) → NoDigitFirst offset → NoDotFirst offset →
-      Stand (Asks false) offset_places (timed (unsigned_abs (Dates.year (offset_date v))) (month_number (Dates.month (offset_date v)))
+      MatchesPlaces (PlaceSyntax false) offset_places (timed (unsigned_abs (Dates.year (offset_date v))) (month_number (Dates.month (offset_date v)))
       (Dates.day (offset_date v)) (Times.hour (offset_time v)) (Times.minute (offset_time v)) (Times.second (offset_time v))
       (said k (Times.nanosecond (offset_time v)))) offset [] all →
-      all.offset_minute ≤ 59 → said_rfc3339 all ≡ told k v → IsDirectRfc3339 greatest_year (with_offset offset) w
+      all.offset_minute ≤ 59 → rfc3339_numbers all ≡ told k v → IsDirectRfc3339 greatest_year (with_offset offset) w
   stands-with offset all digit point ends minute is =
       let d = offset_date v in
       let t = offset_time v in
       let month = month_number_in (Dates.month d) in
       let h = t.hour_in in let m = t.minute_in in let s = t.second_in in
       let form = written_form (unsigned_abs (Dates.year d)) (month_number (Dates.month d)) (Dates.day d)
-      (Times.hour t) (Times.minute t) (Times.second t) (said k (Times.nanosecond t)) (fraction_shown k (Times.nanosecond t)) offset all
+      (Times.hour t) (Times.minute t) (Times.second t) (said k (Times.nanosecond t)) (fraction_display k (Times.nanosecond t)) offset all
       (fraction-stands k (Times.nanosecond t) offset few t.nanosecond_in digit point) ends
       (omega (arith, h), omega (arith, m), omega (arith, s))
       (year-below (Dates.year d) year) (some_month d) (omega (arith, month)) (day_below d) in
@@ -306,7 +309,7 @@ module _ (k : ℕ) (few : k ≤ 9) (v w : OffsetDateTime) (cut : IsCut k v w)
   written-back =
       subst (λ text. IsDirectRfc3339 greatest_year text w) (sym (flat (fixed 4 _) (codes "-") (fixed 2 _) (codes "-") (fixed 2 _) (codes "T")
       (fixed 2 _) (codes ":")
-      (fixed 2 _) (codes ":") (fixed 2 _) (fraction_shown k (Times.nanosecond (offset_time v))) (offset_text (offset_of v))))
+      (fixed 2 _) (codes ":") (fixed 2 _) (fraction_display k (Times.nanosecond (offset_time v))) (offset_text (offset_of v))))
       (by_none (is_none (offset_of v)) refl)
 
 pub read_back : ReadsBack greatest_year (direct (RefusesRfc3339 greatest_year)) (Reads greatest_year) (Refuses greatest_year)

@@ -109,12 +109,12 @@ Refuses Y bytes r e =
 -- ---- The numbers that an ISO 8601 text has for a value, which the short forms need
 
 -- a date, by its year, month and day
-abbrev pub date_said : Date → IsoDate
-date_said d = calendar (Dates.year d) (Dates.month d) (Dates.day d)
+abbrev pub iso_date_of : Date → IsoDate
+iso_date_of d = calendar (Dates.year d) (Dates.month d) (Dates.day d)
 
 -- a time
-abbrev pub time_said : Time → TimeNumbers
-time_said t = record {
+abbrev pub time_numbers_of : Time → TimeNumbers
+time_numbers_of t = record {
   hour = Times.hour t;
   minute = Times.minute t;
   second = Times.second t;
@@ -122,7 +122,7 @@ time_said t = record {
 }
 
 -- the offset of these numbers
-abbrev pub IsOffsetSaid : OffsetNumbers → UtcOffset → Type 0
-IsOffsetSaid Zulu o = IsUtc o
-IsOffsetSaid (Numeric hour minute) o =
+abbrev pub IsOffsetOfNumbers : OffsetNumbers → UtcOffset → Type 0
+IsOffsetOfNumbers Zulu o = IsUtc o
+IsOffsetOfNumbers (Numeric hour minute) o =
     IsConstructed (offset_refusal hour minute (pos 0)) (HasOffset hour minute (pos 0)) (Ok o)

@@ -49,9 +49,9 @@ IsOutcome resolves reads refuses bytes begin (Err e) =
     IsWhole reads refuses bytes begin (Err e) ⊎ ((r : Record) × reads bytes begin [] r × resolves r (Err e))
 
 -- the result of a parse of a front, its error viewed without the address of its text
-abbrev pub seen_front : {V : Type 0} → Result (V × Bor (List ℕ)) Parse → Result (V × List ℕ) Refusal
-seen_front (Ok x) = Ok (x.0, x.1.now)
-seen_front (Err e) = Err (refusal_of e)
+abbrev pub erased_prefix_result : {V : Type 0} → Result (V × Bor (List ℕ)) Parse → Result (V × List ℕ) Refusal
+erased_prefix_result (Ok x) = Ok (x.0, x.1.now)
+erased_prefix_result (Err e) = Err (refusal_of e)
 
 -- The outcome of a parse of a front: the value to which the record of a front of the bytes resolves, with the rest of
 -- the bytes; or the error of the reading, or that of the record that was read. Bytes that remain are no error.

@@ -30,24 +30,24 @@ JoinedRefuses Y =
     → Refuses Y (sequence (trees (xs ++ ys))) bytes r e ↔ EitherRefuses Y xs ys bytes r e
 
 -- the trees have equal readings and equal errors for these bytes and this record
-pub record AlikeOn (Y : ℕ) (t u : Tree) (bytes : List ℕ) (r : Record) : Type 0 where
+pub record AreEquivalentOn (Y : ℕ) (t u : Tree) (bytes : List ℕ) (r : Record) : Type 0 where
   pub reads : (rest : List ℕ) (q : Record) → Reads Y t bytes r rest q ↔ Reads Y u bytes r rest q
   pub refuses : (e : Refusal) → Refuses Y t bytes r e ↔ Refuses Y u bytes r e
 
 -- the trees have equal readings and equal errors for all bytes and records
-abbrev pub Alike : ℕ → Tree → Tree → Type 0
-Alike Y t u = (bytes : List ℕ) (r : Record) → AlikeOn Y t u bytes r
+abbrev pub AreEquivalent : ℕ → Tree → Tree → Type 0
+AreEquivalent Y t u = (bytes : List ℕ) (r : Record) → AreEquivalentOn Y t u bytes r
 
 -- A list inside a list may be flattened.
 abbrev pub Flattens : ℕ → Type 0
 Flattens Y =
     (before inside behind : List Tree)
-    → Alike Y (sequence (trees (before ++ sequence (trees inside) ∷ behind)))
+    → AreEquivalent Y (sequence (trees (before ++ sequence (trees inside) ∷ behind)))
     (sequence (trees (before ++ (inside ++ behind))))
 
 -- An optional tree is a choice of it and the empty list.
 abbrev pub OptionalAsFirst : ℕ → Type 0
-OptionalAsFirst Y = (t : Tree) → Alike Y (optional t) (first_of (trees (t ∷ sequence none ∷ [])))
+OptionalAsFirst Y = (t : Tree) → AreEquivalent Y (optional t) (first_of (trees (t ∷ sequence none ∷ [])))
 
 -- an item's result, viewed without its address
 abbrev pub told : Result (Bor (List ℕ)) ParseFromDescription → Result (List ℕ) Refusal
@@ -63,8 +63,8 @@ JoinedLeaves Y =
     → (told result ≡ Err e) × (new ≡ old)
 
 -- Equal trees give equal results, and leave equal records.
-abbrev pub AnswersAlike : ℕ → Tree → Tree → Type 0
-AnswersAlike Y t u =
+abbrev pub HaveEqualResults : ℕ → Tree → Tree → Type 0
+HaveEqualResults Y t u =
     (bytes : List ℕ) (old : Record) (result other : Result (Bor (List ℕ)) ParseFromDescription) (new other_new : Record)
     → t ≡ u → Answers Y t bytes old result new → Answers Y u bytes old other other_new
     → (told result ≡ told other) × (new ≡ other_new)
@@ -72,7 +72,7 @@ AnswersAlike Y t u =
 -- If no `Ignore` ends inside a character, a mark to end between characters makes no difference.
 abbrev pub WholeCharacters : ℕ → Type 0
 WholeCharacters Y =
-    (t u : Tree) (bytes : List ℕ) (r : Record) → unmarked t ≡ u → Clean Y u bytes r → AlikeOn Y t u bytes r
+    (t u : Tree) (bytes : List ℕ) (r : Record) → unmarked t ≡ u → Clean Y u bytes r → AreEquivalentOn Y t u bytes r
 
 -- What is left is a suffix of the bytes.
 abbrev pub LeavesSuffix : ℕ → Type 0

@@ -7,7 +7,7 @@ use Rattle.time_values.specs.Calendar.{IsBetween}
 use Rattle.time_values.specs.Dates as Dates
 use Rattle.time_values.specs.Dates.{IsDateWithin}
 use Rattle.time_values.specs.Offsets as Offsets
-use Rattle.time_values.specs.Shown.{fixed}
+use Rattle.time_values.specs.DisplayTexts.{fixed}
 use Rattle.time_values.specs.declared.utc_date_time.UtcDateTime.{UtcDateTime}
 use Rattle.time_formatting.specs.WellKnown.{count_of, moment_text, unwritable_3339, unwritable_2822, IsMailText, date_text, clock_text, numeric_text, basic_text}
 use Rattle.time_formatting.specs.declared.parts.FractionDigits.{FractionDigits}

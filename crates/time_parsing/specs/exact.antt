@@ -3,4 +3,4 @@
 pub mod Laws
 pub mod RecordedRfc2822
 pub mod RecordedRfc3339
-pub mod ToldMoment
+pub mod MomentOfNumbers

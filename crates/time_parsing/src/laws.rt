@@ -5,10 +5,11 @@ ghost use Rattle.time_descriptions.specs.Description.{shape};
 ghost use Rattle.time_readers.specs.Direct.{IsDirectRfc3339, IsDirectRfc2822, RefusesRfc3339, RefusesRfc2822};
 ghost use Rattle.time_parsing.specs.Written.{ReadsCanonicalBack, OneMailText, OneExtendedText, OneBasicText, ExtendedOrBasic, ReadsBack, ReadsMailBack, KeepsAll, OneText, OneShortText, ReadsBasicBack, ReadsUtcBack, ReadsBasicUtcBack, ReadsMailUtcBack};
 ghost use Rattle.time_parsing.specs.Iso8601 as Iso8601;
-ghost use Rattle.time_parsing.specs.TreeLaws.{KeepsReadings, KeepsRecords, KeepsTexts, JoinedReads, JoinedRefuses, JoinedLeaves, Flattens, OptionalAsFirst, AnswersAlike, WholeCharacters, LeavesSuffix};
+ghost use Rattle.time_parsing.specs.TreeLaws.{KeepsReadings, KeepsRecords, KeepsTexts, JoinedReads, JoinedRefuses, JoinedLeaves, Flattens, OptionalAsFirst, HaveEqualResults, WholeCharacters, LeavesSuffix};
 ghost use Rattle.time_parsing.specs.Outcome.{OneFront, OneOutcome, OneMomentOutcome, SameMoments, direct, over_record};
 ghost use Rattle.time_parsing.specs.Rfc2822 as Rfc2822;
 ghost use Rattle.time_parsing.specs.Rfc3339 as Rfc3339;
+ghost use Rattle.time_parsing.specs.Rfc3339Strict as Strict;
 ghost use Rattle.time_formatting.specs.declared.parts.FractionDigits.TheVariants.{Auto, Exactly};
 
 use crate::Parsable;
@@ -37,6 +38,12 @@ pub fn law_two_paths()
         (IsDirectRfc2822 greatest_year) }
 {}
 
+/// [`Rfc3339Strict`](crate::Rfc3339Strict) reads the texts of [`Rfc3339`](crate::Rfc3339) whose byte 10 is `T`, `t` or a
+/// space, with equal rests and records.
+pub fn law_strict_texts()
+    ensures { Strict.StrictTexts greatest_year }
+{}
+
 /// A list that joins two lists reads as the first, and then as the second on what the first leaves. It is rejected if
 /// either is, with that error, and the record is then unchanged, as after every error.
 pub fn law_joined_lists()
@@ -59,12 +66,12 @@ pub fn law_optional_as_first()
 
 /// Two items of one shape, whatever their types, give the same results, and leave the same record.
 pub fn law_equal_shapes<I: AnyFormatItem, J: AnyFormatItem>(item: &I, other: &J)
-    ensures { AnswersAlike greatest_year (I.shape item.now) (J.shape other.now) }
+    ensures { HaveEqualResults greatest_year (I.shape item.now) (J.shape other.now) }
 {}
 
 /// A description that was parsed from a text and an item of its shape give the same results, and leave the same record.
 pub fn law_equal_described<const N: usize, I: AnyFormatItem>(description: &Description<N>, item: &I)
-    ensures { AnswersAlike greatest_year (shape description.now) (I.shape item.now) }
+    ensures { HaveEqualResults greatest_year (shape description.now) (I.shape item.now) }
 {}
 
 /// A version-3 description parses as the same description of another type, if no `Ignore` that is visited ends inside a
@@ -81,12 +88,15 @@ pub fn law_suffix()
 {}
 
 /// The text that [`text_3339`](time_formatting::text_3339) writes of a moment parses back by [`Rfc3339`](crate::Rfc3339)
-/// as that moment except for the digits that aren't written, without defaults, directly and over a record. As many
+/// and [`Rfc3339Strict`](crate::Rfc3339Strict) as that moment except for the digits that aren't written, without
+/// defaults, directly and over a record. As many
 /// digits as the fraction has, or nine, keep all of it. The canonical text, which [`text_3339`] of this module writes,
 /// parses back as the whole moment.
 pub fn law_read_back()
     ensures text { ReadsBack greatest_year (direct (RefusesRfc3339 greatest_year)) (Rfc3339.Reads greatest_year)
         (Rfc3339.Refuses greatest_year) }
+    ensures strict { ReadsBack greatest_year (direct (Strict.RefusesDirectly greatest_year)) (Strict.Reads greatest_year)
+        (Strict.Refuses greatest_year) }
     ensures auto { KeepsAll Auto }
     ensures nine { KeepsAll (Exactly 9) }
     ensures canonical { ReadsCanonicalBack greatest_year (direct (RefusesRfc3339 greatest_year))

@@ -15,6 +15,7 @@ pub mod laws;
 mod parsable;
 mod rfc2822;
 mod rfc3339;
+mod rfc3339_strict;
 mod target;
 
 pub use description::Items;
@@ -22,4 +23,5 @@ pub use iso8601::Iso8601;
 pub use parsable::{Parsable, begin, value_before};
 pub use rfc2822::Rfc2822;
 pub use rfc3339::Rfc3339;
+pub use rfc3339_strict::{Rfc3339Strict, has_separator, strict_text};
 pub use target::Target;

@@ -4,7 +4,7 @@ ghost use Rattle.time_values.specs.Calendar.{greatest_year};
 ghost use Rattle.time_values.specs.Refusal.{refusal_of, refusal_of_parsed, trailing};
 ghost use Rattle.time_values.specs.declared.error.TryFromParsed.{TryFromParsed as TryFromParsed_};
 ghost use Rattle.time_record.specs.Resolution.{IsDated, IsTimed, IsOffset, IsPlain, IsUtcMoment, IsMoment, IsTimestamp};
-ghost use Rattle.time_parsing.specs.Outcome.{Reading, Refusing, begun, seen, ParsesInto, IsWhole, IsOutcome, seen_front, IsFront, IsExact, Path, over_record, IsMomentOutcome, IsExactPath};
+ghost use Rattle.time_parsing.specs.Outcome.{Reading, Refusing, begun, seen, ParsesInto, IsWhole, IsOutcome, erased_prefix_result, IsFront, IsExact, Path, over_record, IsMomentOutcome, IsExactPath};
 
 use std::convert::TryFrom;
 use time_record::Parsed;
@@ -134,7 +134,7 @@ pub trait Parsable {
         defaults: Option<Parsed>,
     ) -> Result<(OffsetDateTime, &'a [u8]), Parse>
         ensures { IsFront (IsMoment greatest_year) (reads self.now) (refuses self.now) input.now
-            (begun defaults) (seen_front result) }
+            (begun defaults) (erased_prefix_result result) }
     {
         let mut parsed = begin(defaults);
         let rest = self.parse_into(input, &mut parsed)?;

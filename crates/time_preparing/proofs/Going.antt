@@ -1,4 +1,4 @@
--- How the result of a sequence follows from those of its beginnings. `Y` is the greatest year.
+-- How the result of a sequence follows from those of its beginnings.
 use Rattle.std.specs.Option.{option_or}
 use Rattle.std.specs.Prelude.{MatchOption}
 use Rattle.std.proofs.Common.{◌≡◌, ℕ, List, refl, sym, ◌∙◌, subst, Option, Some, None, inl, inr, Result, Ok, Err, Bor, zero, suc, ◌+◌, ◌-◌, ◌≤◌, ◌<◌, [], ◌∷◌, ◌++◌, length, take, drop, get_or, length-drop, ap, arith, append_assoc}
@@ -12,156 +12,158 @@ use Rattle.time_components.specs.declared.inspect.Step.TheVariants as step
 use Rattle.time_record.specs.Reading.{Reads, ReadsSome, Refuses, Answers, ReadsAll, IsFault, IsFaultAll, RefusesAll}
 use Rattle.time_record.specs.Record.{Record}
 use Rattle.time_record.proofs.Unique.{first_of-some, IsKept, IsKept-more, NoReadingSome, NoReadingSome-more, NoReadingSome-none, ReadsSome-here, ReadsSome-later, Reads-first_of_none, some-first_of, RefusesAll-here, RefusesAll-more}
-use Rattle.time_preparing.specs.Walk.{followed_by, Goes, Tells, leaves, MayReadAll, MayReadFront, ReadsFront}
-use Rattle.time_preparing.specs.Forms.{Fits, parts, Says}
+use Rattle.time_preparing.specs.Walk.{followed_by, Resumes, ParsesTree, leaves, MayReadAll, MayReadFront, ReadsFront}
+use Rattle.time_preparing.specs.Forms.{Fits, parts, BeginsWithParts}
 use Rattle.time_preparing.specs.declared.joined.Joined.{Joined}
 use Rattle.time_preparing.proofs.Rows.{AllPlain, drop_further, further_plain, plain_row, says_at}
 
--- ---- How the result of alternatives follows from those of their beginnings. `Y` is the greatest year.
+-- ---- How the result of alternatives follows from those of their beginnings.
 
 -- The result of the alternatives that are left is that of all of them: none before them matches, and the first one's
 -- error is kept.
-pub record Chooses (Y : ℕ) (all left : Trees) (b : List ℕ) (r : Record) (kept : Option ParseFromDescription) : Type 0 where
-  pub reads : (rest : List ℕ) (q : Record) → ReadsSome Y left b r rest q → ReadsSome Y all b r rest q
-  pub unread : NoReadingSome Y left b r → NoReadingSome Y all b r
-  pub fault : IsKept Y left all b r kept
+pub record Chooses (all left : Trees) (b : List ℕ) (r : Record) (kept : Option ParseFromDescription) : Type 0 where
+  pub reads : (rest : List ℕ) (q : Record) → ReadsSome greatest_year left b r rest q → ReadsSome greatest_year all b r rest q
+  pub unread : NoReadingSome greatest_year left b r → NoReadingSome greatest_year all b r
+  pub fault : IsKept greatest_year left all b r kept
 
-pub Chooses-start : (Y : ℕ) (all : Trees) (b : List ℕ) (r : Record) → Chooses Y all all b r None
-Chooses-start Y all b r = record { reads = λ rest q h. h; unread = λ h. h; fault = refl }
+pub Chooses-start : (all : Trees) (b : List ℕ) (r : Record) → Chooses all all b r None
+Chooses-start all b r = record { reads = λ rest q h. h; unread = λ h. h; fault = refl }
 
-module _ {Y : ℕ} {all left : Trees} {b : List ℕ} {r : Record} {kept : Option ParseFromDescription} (k : Chooses Y all left b r kept) where
+module _ {all left : Trees} {b : List ℕ} {r : Record} {kept : Option ParseFromDescription} (k : Chooses all left b r kept) where
   module _ (t : Tree) (ts : Trees) (is : left ≡ more t ts) where
     -- the next one matches
-    pub Chooses-reads : (rest : List ℕ) (q : Record) → Reads Y t b r rest q → Reads Y (first_of all) b r rest q
+    pub Chooses-reads : (rest : List ℕ) (q : Record) → Reads greatest_year t b r rest q → Reads greatest_year (first_of all) b r rest q
     Chooses-reads rest q h =
-        let some = ReadsSome-here Y t ts b r rest q h in
-        first_of-some Y b r all rest q (k.reads rest q (subst (λ us. ReadsSome Y us b r rest q) (sym is) some))
+        let some = ReadsSome-here greatest_year t ts b r rest q h in
+        first_of-some greatest_year b r all rest q (k.reads rest q (subst (λ us. ReadsSome greatest_year us b r rest q) (sym is) some))
 
     -- the next one is rejected
     pub Chooses-refused : {kept' : Option ParseFromDescription} (e : ParseFromDescription) →
-        Refuses Y t b r (refusal_of_description e) → kept' ≡ option_or kept (Some e) → Chooses Y all ts b r kept'
+        Refuses greatest_year t b r (refusal_of_description e) → kept' ≡ option_or kept (Some e) → Chooses all ts b r kept'
     Chooses-refused e h more_kept =
         rw more_kept (record {
           reads = λ rest q x.
-              let some = ReadsSome-later Y t ts b r rest q h.unread x in
-              k.reads rest q (subst (λ us. ReadsSome Y us b r rest q) (sym is) some);
-          unread = λ x. k.unread (subst (λ us. NoReadingSome Y us b r) (sym is) (NoReadingSome-more Y t ts b r h.unread x));
-          fault = IsKept-more Y t ts all b r kept e (rw is at k.fault) h.fault;
+              let some = ReadsSome-later greatest_year t ts b r rest q h.unread x in
+              k.reads rest q (subst (λ us. ReadsSome greatest_year us b r rest q) (sym is) some);
+          unread = λ x. k.unread (subst (λ us. NoReadingSome greatest_year us b r) (sym is) (NoReadingSome-more greatest_year t ts b r h.unread x));
+          fault = IsKept-more greatest_year t ts all b r kept e (rw is at k.fault) h.fault;
         })
 
   -- none is left, and there was one
-  pub Chooses-fault : (e : ParseFromDescription) → left ≡ tree_none → kept ≡ Some e → Refuses Y (first_of all) b r (refusal_of_description e)
+  pub Chooses-fault : (e : ParseFromDescription) → left ≡ tree_none → kept ≡ Some e → Refuses greatest_year (first_of all) b r (refusal_of_description e)
   Chooses-fault e end is =
       let fault = rw is at k.fault in
-      let unread = k.unread (subst (λ us. NoReadingSome Y us b r) (sym end) (NoReadingSome-none Y b r)) in
-      record { unread = λ rest q h. unread rest q (some-first_of Y b r all rest q (refusal_of_description e) fault h); fault = fault }
+      let unread = k.unread (subst (λ us. NoReadingSome greatest_year us b r) (sym end) (NoReadingSome-none greatest_year b r)) in
+      record { unread = λ rest q h. unread rest q (some-first_of greatest_year b r all rest q (refusal_of_description e) fault h); fault = fault }
 
   -- there was no alternative
-  pub Chooses-nothing : left ≡ tree_none → kept ≡ None → Reads Y (first_of all) b r b r
+  pub Chooses-nothing : left ≡ tree_none → kept ≡ None → Reads greatest_year (first_of all) b r b r
   Chooses-nothing end is =
       let empty : tree_none ≡ all = sym end ∙ rw is at k.fault in
-      subst (λ a. Reads Y (first_of a) b r b r) empty (Reads-first_of_none Y b r)
+      subst (λ a. Reads greatest_year (first_of a) b r b r) empty (Reads-first_of_none greatest_year b r)
 
-module _ (Y : ℕ) (us : Trees) where
+module _ (us : Trees) where
   pub reads_later : (ts : Trees) (b : List ℕ) (r : Record) (mid : List ℕ) (m : Record) (rest : List ℕ) (q : Record) →
-      ReadsAll Y ts b r mid m → ReadsAll Y us mid m rest q → ReadsAll Y (followed_by ts us) b r rest q
+      ReadsAll greatest_year ts b r mid m → ReadsAll greatest_year us mid m rest q → ReadsAll greatest_year (followed_by ts us) b r rest q
   unfolding ReadsAll
   reads_later tree_none b r mid m rest q h k = rw (sym h.0, sym h.1) k
   reads_later (more t ts) b r mid m rest q h k = (h.0, h.1, h.2, reads_later ts h.0 h.1 mid m rest q h.3 k)
 
   refused_later : (ts : Trees) (b : List ℕ) (r : Record) (mid : List ℕ) (m : Record) (e : Refusal) →
-      ReadsAll Y ts b r mid m → RefusesAll Y us mid m e → RefusesAll Y (followed_by ts us) b r e
+      ReadsAll greatest_year ts b r mid m → RefusesAll greatest_year us mid m e → RefusesAll greatest_year (followed_by ts us) b r e
   unfolding ReadsAll
   refused_later tree_none b r mid m e h k = rw (sym h.0, sym h.1) k
   refused_later (more t ts) b r mid m e h k =
-      RefusesAll-more Y t (followed_by ts us) b r h.0 h.1 e h.2 (refused_later ts h.0 h.1 mid m e h.3 k)
+      RefusesAll-more greatest_year t (followed_by ts us) b r h.0 h.1 e h.2 (refused_later ts h.0 h.1 mid m e h.3 k)
 
 -- nothing was read yet
-pub Goes-start : (Y : ℕ) (all : Trees) (b : List ℕ) (r : Record) → Goes Y all b r all b r
-Goes-start Y all b r = record { reads = λ rest q h. h; refuses = λ e h. h }
+pub Resumes-start : (all : Trees) (b : List ℕ) (r : Record) → Resumes all b r all b r
+Resumes-start all b r = record { reads = λ rest q h. h; refuses = λ e h. h }
 
 -- two advances, one after the other
-pub Goes-further : {Y : ℕ} {all : Trees} {b0 : List ℕ} {r0 : Record} {left : Trees} {b : List ℕ} {r : Record}
-    {least : Trees} {c : List ℕ} {s : Record} → Goes Y all b0 r0 left b r → Goes Y left b r least c s → Goes Y all b0 r0 least c s
-Goes-further g h = record { reads = λ rest q k. g.reads rest q (h.reads rest q k); refuses = λ e k. g.refuses e (h.refuses e k) }
+pub Resumes-further : {all : Trees} {b0 : List ℕ} {r0 : Record} {left : Trees} {b : List ℕ} {r : Record}
+    {least : Trees} {c : List ℕ} {s : Record} → Resumes all b0 r0 left b r → Resumes left b r least c s → Resumes all b0 r0 least c s
+Resumes-further g h = record { reads = λ rest q k. g.reads rest q (h.reads rest q k); refuses = λ e k. g.refuses e (h.refuses e k) }
 
-module _ {Y : ℕ} {all : Trees} {b0 : List ℕ} {r0 : Record} {left : Trees} {b : List ℕ} {r : Record} (g : Goes Y all b0 r0 left b r) where
+module _ {all : Trees} {b0 : List ℕ} {r0 : Record} {left : Trees} {b : List ℕ} {r : Record} (g : Resumes all b0 r0 left b r) where
   -- equal trees by another term
-  pub Goes-as : (left' : Trees) → left' ≡ left → Goes Y all b0 r0 left' b r
-  Goes-as left' is = subst (λ ts. Goes Y all b0 r0 ts b r) (sym is) g
+  pub Resumes-as : (left' : Trees) → left' ≡ left → Resumes all b0 r0 left' b r
+  Resumes-as left' is = subst (λ ts. Resumes all b0 r0 ts b r) (sym is) g
 
   -- trees before the ones that are left are read
-  pub Goes-reads : (ts us : Trees) → left ≡ followed_by ts us → {mid : List ℕ} {m : Record} → ReadsAll Y ts b r mid m → Goes Y all b0 r0 us mid m
-  Goes-reads ts us is {mid} {m} h = record {
-    reads = λ rest q k. g.reads rest q (subst (λ ts. ReadsAll Y ts b r rest q) (sym is) (reads_later Y us ts b r mid m rest q h k));
-    refuses = λ e k. g.refuses e (subst (λ ts. RefusesAll Y ts b r e) (sym is) (refused_later Y us ts b r mid m e h k));
+  pub Resumes-reads : (ts us : Trees) → left ≡ followed_by ts us → {mid : List ℕ} {m : Record} → ReadsAll greatest_year ts b r mid m
+      → Resumes all b0 r0 us mid m
+  Resumes-reads ts us is {mid} {m} h = record {
+    reads = λ rest q k. g.reads rest q (subst (λ ts. ReadsAll greatest_year ts b r rest q) (sym is) (reads_later us ts b r mid m rest q h k));
+    refuses = λ e k. g.refuses e (subst (λ ts. RefusesAll greatest_year ts b r e) (sym is) (refused_later us ts b r mid m e h k));
   }
 
   -- the next tree is read
-  pub Goes-item : (t : Tree) (us : Trees) → left ≡ more t us → {mid : List ℕ} {m : Record} → Reads Y t b r mid m → Goes Y all b0 r0 us mid m
+  pub Resumes-item : (t : Tree) (us : Trees) → left ≡ more t us → {mid : List ℕ} {m : Record} → Reads greatest_year t b r mid m → Resumes all b0 r0 us mid m
   unfolding ReadsAll
-  Goes-item t us is {mid} {m} h = Goes-reads (more t tree_none) us is (mid, m, h, (refl, refl))
+  Resumes-item t us is {mid} {m} h = Resumes-reads (more t tree_none) us is (mid, m, h, (refl, refl))
 
   -- the next tree is rejected
-  pub Goes-refused : (t : Tree) (us : Trees) → left ≡ more t us → {e : Refusal} → Refuses Y t b r e → Refuses Y (sequence all) b0 r0 e
+  pub Resumes-refused : (t : Tree) (us : Trees) → left ≡ more t us → {e : Refusal} → Refuses greatest_year t b r e → Refuses greatest_year
+      (sequence all) b0 r0 e
   unfolding Reads IsFault
-  Goes-refused t us is {e} h =
-      let refused = g.refuses e (subst (λ ts. RefusesAll Y ts b r e) (sym is) (RefusesAll-here Y t us b r e h)) in
+  Resumes-refused t us is {e} h =
+      let refused = g.refuses e (subst (λ ts. RefusesAll greatest_year ts b r e) (sym is) (RefusesAll-here greatest_year t us b r e h)) in
       record { unread = refused.unread; fault = refused.fault }
 
   -- no tree is left
-  pub Goes-end : left ≡ tree_none → Reads Y (sequence all) b0 r0 b r
+  pub Resumes-end : left ≡ tree_none → Reads greatest_year (sequence all) b0 r0 b r
   unfolding Reads ReadsAll
-  Goes-end is = g.reads b r (subst (λ ts. ReadsAll Y ts b r b r) (sym is) (refl, refl))
+  Resumes-end is = g.reads b r (subst (λ ts. ReadsAll greatest_year ts b r b r) (sym is) (refl, refl))
 
--- a result by `Answers` is one by `Tells`
-pub answered : (Y : ℕ) (t : Tree) (b : List ℕ) (r : Record) (result : Result (Bor (List ℕ)) ParseFromDescription) (q : Record) →
-    Answers Y t b r result q → Tells Y t b r result q
-answered Y t b r (Ok rest) q h = h
-answered Y t b r (Err e) q h = h.0
+-- a result by `Answers` is one by `ParsesTree`
+pub answered : (t : Tree) (b : List ℕ) (r : Record) (result : Result (Bor (List ℕ)) ParseFromDescription) (q : Record) →
+    Answers greatest_year t b r result q → ParsesTree t b r result q
+answered t b r (Ok rest) q h = h
+answered t b r (Err e) q h = h.0
 
 -- the result of a list of one tree
-one_tree : (Y : ℕ) (t : Tree) (b : List ℕ) (r : Record) (rest : List ℕ) (q : Record) →
-    Reads Y (sequence (more t tree_none)) b r rest q → Reads Y t b r rest q
+one_tree : (t : Tree) (b : List ℕ) (r : Record) (rest : List ℕ) (q : Record) →
+    Reads greatest_year (sequence (more t tree_none)) b r rest q → Reads greatest_year t b r rest q
 unfolding Reads ReadsAll
-one_tree Y t b r rest q (mid, m, h, same) =
-    subst (λ x. Reads Y t b r x q) (sym same.0) (subst (λ p. Reads Y t b r mid p) (sym same.1) h)
+one_tree t b r rest q (mid, m, h, same) =
+    subst (λ x. Reads greatest_year t b r x q) (sym same.0) (subst (λ p. Reads greatest_year t b r mid p) (sym same.1) h)
 
-pub one_reads : (Y : ℕ) (t : Tree) (ts : Trees) (b : List ℕ) (r : Record) (rest : List ℕ) (q : Record) → ts ≡ more t tree_none →
-    Reads Y (sequence ts) b r rest q → Reads Y t b r rest q
-one_reads Y t ts b r rest q is h = one_tree Y t b r rest q (subst (λ us. Reads Y (sequence us) b r rest q) is h)
+pub one_reads : (t : Tree) (ts : Trees) (b : List ℕ) (r : Record) (rest : List ℕ) (q : Record) → ts ≡ more t tree_none →
+    Reads greatest_year (sequence ts) b r rest q → Reads greatest_year t b r rest q
+one_reads t ts b r rest q is h = one_tree t b r rest q (subst (λ us. Reads greatest_year (sequence us) b r rest q) is h)
 
-one_fault : (Y : ℕ) (t : Tree) (b : List ℕ) (r : Record) (e : Refusal) → IsFault Y (sequence (more t tree_none)) b r e → IsFault Y t b r e
+one_fault : (t : Tree) (b : List ℕ) (r : Record) (e : Refusal) → IsFault greatest_year (sequence (more t tree_none)) b r e → IsFault greatest_year t b r e
 unfolding IsFault IsFaultAll
-one_fault Y t b r e (inl h) = h.1
-one_fault Y t b r e (inr (mid, m, h, k)) = absurd k
+one_fault t b r e (inl h) = h.1
+one_fault t b r e (inr (mid, m, h, k)) = absurd k
 
-pub one_as_list : (Y : ℕ) (t : Tree) (b : List ℕ) (r : Record) (rest : List ℕ) (q : Record) →
-    Reads Y t b r rest q → Reads Y (sequence (more t tree_none)) b r rest q
+pub one_as_list : (t : Tree) (b : List ℕ) (r : Record) (rest : List ℕ) (q : Record) →
+    Reads greatest_year t b r rest q → Reads greatest_year (sequence (more t tree_none)) b r rest q
 unfolding Reads ReadsAll
-one_as_list Y t b r rest q h = (rest, q, h, (refl, refl))
+one_as_list t b r rest q h = (rest, q, h, (refl, refl))
 
-pub one_refused : (Y : ℕ) (t : Tree) (ts : Trees) (b : List ℕ) (r : Record) (e : Refusal) → ts ≡ more t tree_none →
-    Refuses Y (sequence ts) b r e → Refuses Y t b r e
-one_refused Y t ts b r e is h =
-    let k = subst (λ us. Refuses Y (sequence us) b r e) is h in
+pub one_refused : (t : Tree) (ts : Trees) (b : List ℕ) (r : Record) (e : Refusal) → ts ≡ more t tree_none →
+    Refuses greatest_year (sequence ts) b r e → Refuses greatest_year t b r e
+one_refused t ts b r e is h =
+    let k = subst (λ us. Refuses greatest_year (sequence us) b r e) is h in
     record {
-      unread = λ rest q reads. k.unread rest q (one_as_list Y t b r rest q reads);
-      fault = one_fault Y t b r e k.fault;
+      unread = λ rest q reads. k.unread rest q (one_as_list t b r rest q reads);
+      fault = one_fault t b r e k.fault;
     }
 
-one_list_fault : (Y : ℕ) (t : Tree) (b : List ℕ) (r : Record) (e : Refusal) → Refuses Y t b r e → IsFault Y (sequence (more t tree_none)) b r e
+one_list_fault : (t : Tree) (b : List ℕ) (r : Record) (e : Refusal) → Refuses greatest_year t b r e → IsFault greatest_year (sequence (more t tree_none)) b r e
 unfolding IsFault IsFaultAll
-one_list_fault Y t b r e h = inl (h.unread, h.fault)
+one_list_fault t b r e h = inl (h.unread, h.fault)
 
 -- a tree's result is that of a list of it alone
-pub one_told : (Y : ℕ) (t : Tree) (ts : Trees) (b : List ℕ) (r : Record) (result : Result (Bor (List ℕ)) ParseFromDescription) (q : Record) →
-    ts ≡ more t tree_none → Tells Y t b r result q → Tells Y (sequence ts) b r result q
-one_told Y t ts b r (Ok rest) q is h = rw is (one_as_list Y t b r rest.now q h)
-one_told Y t ts b r (Err e) q is h =
+pub one_told : (t : Tree) (ts : Trees) (b : List ℕ) (r : Record) (result : Result (Bor (List ℕ)) ParseFromDescription) (q : Record) →
+    ts ≡ more t tree_none → ParsesTree t b r result q → ParsesTree (sequence ts) b r result q
+one_told t ts b r (Ok rest) q is h = rw is (one_as_list t b r rest.now q h)
+one_told t ts b r (Err e) q is h =
     rw is (record {
-      unread = λ rest p reads. h.unread rest p (one_tree Y t b r rest p reads);
-      fault = one_list_fault Y t b r _ h;
+      unread = λ rest p reads. h.unread rest p (one_tree t b r rest p reads);
+      fault = one_list_fault t b r _ h;
     })
 
 -- ---- Joined steps in front of others
@@ -196,32 +198,32 @@ plain_front j p n within b mid r q h = λ after e.
     let whole : xs ++ after ≡ take n xs ++ left = ap (λ ys. ys ++ after) (sym (take-append-drop n xs)) ∙ append_assoc (take n xs) (drop n xs) after in
     let row : steps_trees (xs ++ after) ≡ followed_by (leaves (take n xs)) (steps_trees left) =
     ap steps_trees whole ∙ plain_row (take n xs) left (plain_take n xs p) (further_plain (drop n xs) after (plain_drop n xs p) e) in
-    Goes-as (Goes-reads (Goes-start greatest_year (steps_trees (xs ++ after)) b r) (leaves (take n xs)) (steps_trees left) row h)
+    Resumes-as (Resumes-reads (Resumes-start (steps_trees (xs ++ after)) b r) (leaves (take n xs)) (steps_trees left) row h)
     (steps_trees (drop n (xs ++ after))) (ap steps_trees (drop_part n xs after within))
 
 -- none of them is read
 pub no_front : (j : Joined) (n : ℕ) (b rest : List ℕ) (r : Record) → n ≡ 0 → rest ≡ b → ReadsFront j n b r rest r
 no_front j n b rest r none same = λ after e.
-    rw (none, same) (Goes-start greatest_year (steps_trees (parts j ++ after)) b r)
+    rw (none, same) (Resumes-start (steps_trees (parts j ++ after)) b r)
 
 -- all of them are read as these trees, or none is
 pub whole_front : (j : Joined) (ts : Trees) (k n : ℕ) (b rest : List ℕ) (r q : Record) (o : Option (Bor (List ℕ))) →
     ((after : List Step) → further after ≡ [] → steps_trees (parts j ++ after) ≡ followed_by ts (steps_trees (drop k (parts j ++ after)))) →
-    MayReadAll greatest_year ts b r o q → MatchOption o ((n ≡ 0) × (rest ≡ b)) (λ x. (n ≡ k) × (rest ≡ x.now)) → ReadsFront j n b r rest q
+    MayReadAll ts b r o q → MatchOption o ((n ≡ 0) × (rest ≡ b)) (λ x. (n ≡ k) × (rest ≡ x.now)) → ReadsFront j n b r rest q
 whole_front j ts k n b rest r q (Some x) row h is = λ after e.
-    rw (is.0, is.1) (Goes-reads (Goes-start greatest_year (steps_trees (parts j ++ after)) b r) ts (steps_trees (drop k (parts j ++ after))) (row after e) h)
+    rw (is.0, is.1) (Resumes-reads (Resumes-start (steps_trees (parts j ++ after)) b r) ts (steps_trees (drop k (parts j ++ after))) (row after e) h)
 whole_front j ts k n b rest r q None row h is = rw h (no_front j n b rest r is.0 is.1)
 
 -- the trees in a row of steps, from one step on
 pub front_goes : (js : List Joined) (steps : List Step) (next n : ℕ) (j : Joined) (b mid : List ℕ) (r q : Record) → Fits js steps →
     length js ≡ length steps → next < length js → j ≡ get_or js next j → MayReadFront j (length js - next) n b r mid q →
-    Goes greatest_year (steps_trees (drop next steps)) b r (steps_trees (drop (next + n) steps)) mid q
+    Resumes (steps_trees (drop next steps)) b r (steps_trees (drop (next + n) steps)) mid q
 front_goes js steps next n j b mid r q fits same within is (inl none) =
     let all = steps_trees (drop next steps) in
     let here : next + n ≡ next = omega (arith, none.0) in
-    rw (none.1, none.2) (Goes-as (Goes-start greatest_year all b r) (steps_trees (drop (next + n) steps)) (ap (λ k. steps_trees (drop k steps)) here))
+    rw (none.1, none.2) (Resumes-as (Resumes-start all b r) (steps_trees (drop (next + n) steps)) (ap (λ k. steps_trees (drop k steps)) here))
 front_goes js steps next n j b mid r q fits same within is (inr h) =
-    let says = subst (λ d. Says d (drop next steps)) (sym is) (says_at next j js steps fits within same) in
+    let says = subst (λ d. BeginsWithParts d (drop next steps)) (sym is) (says_at next j js steps fits within same) in
     let begins = says h.0 (omega (arith, length-drop next steps, h.1)) in
-    let goes = subst (λ xs. Goes greatest_year (steps_trees xs) b r (steps_trees (drop n xs)) mid q) (sym begins.1) (h.2 begins.0 begins.2) in
-    Goes-as goes (steps_trees (drop (next + n) steps)) (ap steps_trees (drop_further next n steps))
+    let goes = subst (λ xs. Resumes (steps_trees xs) b r (steps_trees (drop n xs)) mid q) (sym begins.1) (h.2 begins.0 begins.2) in
+    Resumes-as goes (steps_trees (drop (next + n) steps)) (ap steps_trees (drop_further next n steps))

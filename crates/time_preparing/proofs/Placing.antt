@@ -6,6 +6,7 @@ use Rattle.std.proofs.lemmas.List.{length-drop, length-map, length-take}
 use Rattle.std.proofs.lemmas.Option.{none-some}
 use Rattle.time_values.specs.Calendar.{greatest_year}
 use Rattle.time_components.specs.Tree.{steps_shape, further, group_tree, trees_in, Tree, Trees, literal as literal_tree, component as component_tree, sequence, none as no_trees, more as more_trees}
+use Rattle.time_components.proofs.StepLemmas.{further_within}
 use Rattle.time_components.specs.declared.inspect.Step.{Step}
 use Rattle.time_components.specs.declared.format_description.Component.{Component}
 use Rattle.time_components.specs.declared.inspect.Group.{Group}
@@ -161,19 +162,19 @@ followed-item [] i ts = refl
 followed-item (j ∷ front) i ts = ap (more_trees (tree_of j)) (followed-item front i ts)
 
 -- The items in front were appended, and the trees that are left follow theirs.
-pub record Stands (n : ℕ) (all : Trees) (old : List Step) (left : Trees) (now : List Step) : Type 0 where
+pub record PlaceParser (n : ℕ) (all : Trees) (old : List Step) (left : Trees) (now : List Step) : Type 0 where
   pub front : List Item
   pub told : all ≡ followed_by (trees_of (items_of front)) left
   pub steps : now ≡ old ++ flat front
   pub fits : length now ≤ n
 
-pub stands_first : (n : ℕ) (ts : Trees) (old : List Step) → length old ≤ n → Stands n ts old ts old
+pub stands_first : (n : ℕ) (ts : Trees) (old : List Step) → length old ≤ n → PlaceParser n ts old ts old
 stands_first n ts old h = record { front = []; told = refl; steps = sym (append-nil old); fits = h }
 
-module _ {n : ℕ} {all : Trees} {old : List Step} {left : Trees} {now : List Step} (h : Stands n all old left now) where
+module _ {n : ℕ} {all : Trees} {old : List Step} {left : Trees} {now : List Step} (h : PlaceParser n all old left now) where
   -- one more item was appended
   pub stands_item : (t : Tree) (ts : Trees) (new : List Step) → left ≡ more_trees t ts
-      → (i : Item) × (t ≡ tree_of i) × (new ≡ now ++ steps_of i) × (length new ≤ n) → Stands n all old ts new
+      → (i : Item) × (t ≡ tree_of i) × (new ≡ now ++ steps_of i) × (length new ≤ n) → PlaceParser n all old ts new
   stands_item t ts new e (i, is, put, fits) = record {
     front = h.front ++ i ∷ [];
     told =
@@ -250,13 +251,6 @@ row_with t ts ss k n e h later = (
       ∙ sym (there-append ss later.0),
   omega (arith, h, later.2, length-append ss later.0),
 )
-
-further_within : (steps : List Step) → length (further steps) ≤ length steps
-further_within [] = omega arith
-further_within (step.Literal b ∷ steps) = omega arith
-further_within (step.More b ∷ steps) = omega (arith, further_within steps)
-further_within (step.Component c ∷ steps) = omega arith
-further_within (step.Group g len ∷ steps) = omega arith
 
 literal_row : (b : ℕ) (steps : List Step) (ts : Trees) → Row ts (length (drop (length (further steps)) steps))
     → Row (more_trees (literal_tree (b ∷ further steps)) ts) (suc (length steps))

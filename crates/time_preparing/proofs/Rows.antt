@@ -3,15 +3,16 @@ use Rattle.std.specs.Prelude.{◌==◌, min}
 use Rattle.std.proofs.Common.{◌≡◌, ℕ, zero, suc, ◌+◌, ◌-◌, ◌≤◌, ◌<◌, List, [], ◌∷◌, ◌++◌, length, take, drop, get_or, inl, inr, refl, ap, sym, ◌∙◌, arith, false, true, length-take, length-drop, subst, append_assoc, length-append}
 use Rattle.std.proofs.lemmas.List.{take_all, take-append-drop, drop_all}
 use Rattle.std.proofs.lemmas.Bool.{cases_lt, eqb-true}
-use Rattle.time_components.specs.Tree.{further, group_tree, steps_after, steps_trees, tree_at, Trees, literal, component, sequence, optional, none, more}
+use Rattle.time_components.specs.Tree.{further, group_tree, item_length, steps_after, steps_trees, tree_at, Trees, literal, component, sequence, optional, none, more}
+use Rattle.time_components.proofs.StepLemmas.{drop_most, further_within, item_after}
 use Rattle.time_components.specs.declared.format_description.Component.TheVariants.{Second, Subsecond}
 use Rattle.time_components.specs.declared.inspect.Group.{Group}
 use Rattle.time_components.specs.declared.inspect.Group.TheVariants.{Optional}
 use Rattle.time_components.specs.declared.inspect.Step.{Step}
 use Rattle.time_components.specs.declared.inspect.Step.TheVariants as step
 use Rattle.time_record.proofs.WalkSteps.{behind_first, behind_is, first_item, steps_trees-end}
-use Rattle.time_preparing.specs.Forms.{BeginsWith, Fits, fraction_parts, parts, Says, second_parts}
-use Rattle.time_preparing.specs.Walk.{followed_by, fraction_tree, item_length, leaves, seconds_tree}
+use Rattle.time_preparing.specs.Forms.{BeginsWith, Fits, fraction_parts, parts, BeginsWithParts, second_parts}
+use Rattle.time_preparing.specs.Walk.{followed_by, fraction_tree, leaves, seconds_tree}
 use Rattle.time_preparing.specs.declared.forms.TheConstants.{SECOND, SUBSECOND}
 use Rattle.time_preparing.specs.declared.joined.Joined.{Joined}
 
@@ -42,7 +43,7 @@ begins_short front steps n enough begins =
       further_take (n - length front) begins.0 begins.2,
     )
 
-says_short : (j : Joined) (steps : List Step) (n : ℕ) → Says j steps → Says j (take n steps)
+says_short : (j : Joined) (steps : List Step) (n : ℕ) → BeginsWithParts j steps → BeginsWithParts j (take n steps)
 says_short j steps n says =
     λ some enough. begins_short (parts j) steps n enough (says some (omega (arith, length-take n steps)))
 
@@ -63,7 +64,7 @@ Fits-drop (suc n) (j ∷ js) [] h = fits_none (drop n js)
 Fits-drop (suc n) (j ∷ js) (s ∷ steps) h = Fits-drop n js steps h.1
 
 pub says_at : (i : ℕ) (d : Joined) (js : List Joined) (steps : List Step) → Fits js steps → i < length js → length js ≡ length steps →
-    Says (get_or js i d) (drop i steps)
+    BeginsWithParts (get_or js i d) (drop i steps)
 says_at i d [] steps h within same = absurd (omega arith)
 says_at i d (j ∷ js) [] h within same = absurd (omega arith)
 says_at zero d (j ∷ js) (s ∷ steps) h within same = h.0
@@ -81,7 +82,7 @@ drop_further (suc n) m (s ∷ steps) =
     ap (λ k. drop k (s ∷ steps)) same ∙ drop_further n m steps
 
 -- one more at the end
-pub Fits-push : (js : List Joined) (steps : List Step) (j : Joined) → length js ≤ length steps → Fits js steps → Says j (drop (length js) steps) →
+pub Fits-push : (js : List Joined) (steps : List Step) (j : Joined) → length js ≤ length steps → Fits js steps → BeginsWithParts j (drop (length js) steps) →
     Fits (js ++ j ∷ []) steps
 Fits-push [] [] j within h says = tt
 Fits-push [] (s ∷ steps) j within h says = (says, tt)
@@ -150,14 +151,6 @@ second_row b p after =
     ∙ ap (λ ts. more (optional (sequence ts)) (steps_trees after))
     (plain_row second (fraction_parts p) tt refl ∙ ap (followed_by (leaves second)) fraction)
 
--- A literal's further bytes are as many as follow it.
-further_within : (steps : List Step) → length (further steps) ≤ length steps
-further_within [] = omega arith
-further_within (step.Literal b ∷ steps) = omega arith
-further_within (step.More b ∷ steps) = let h = further_within steps in omega arith
-further_within (step.Component c ∷ steps) = omega arith
-further_within (step.Group g len ∷ steps) = omega arith
-
 further_alone : (steps : List Step) → further (take (length (further steps)) steps) ≡ further steps
 further_alone [] = refl
 further_alone (step.Literal b ∷ steps) = refl
@@ -175,27 +168,8 @@ take_most len steps =
 take_twice : (len : ℕ) (steps : List Step) → take len (take (min len (length steps)) steps) ≡ take len steps
 take_twice len steps = ap (take len) (take_most len steps) ∙ take_all len (take len steps) (omega (arith, length-take len steps))
 
-drop_most : (len : ℕ) (steps : List Step) → drop (min len (length steps)) steps ≡ drop len steps
-drop_most len steps =
-    elim (cases_lt len (length steps)) [
-      | inl low ↦ let same : min len (length steps) ≡ len = omega arith in ap (λ k. drop k steps) same
-      | inr high ↦ drop_all (min len (length steps)) steps (omega arith) ∙ sym (drop_all len steps high)
-    ]
-
 drop_end : (n : ℕ) (steps : List Step) → length steps ≤ n → steps_trees (drop n steps) ≡ none
 drop_end n steps h = steps_trees-end (drop n steps) (omega (arith, length-drop n steps))
-
-pub item_within : (s : Step) (behind : List Step) → item_length s behind ≤ length behind
-item_within (step.Literal b) behind = further_within behind
-item_within (step.More b) behind = further_within behind
-item_within (step.Component c) behind = omega arith
-item_within (step.Group g len) behind = omega arith
-
-pub item_after : (s : Step) (behind : List Step) → drop (item_length s behind) behind ≡ steps_after s behind
-item_after (step.Literal b) behind = refl
-item_after (step.More b) behind = refl
-item_after (step.Component c) behind = refl
-item_after (step.Group g len) behind = drop_most len behind
 
 -- an item on its own
 pub item_alone : (s : Step) (behind : List Step) →
@@ -294,11 +268,11 @@ kept_more steps kept left x all some is =
     all ∙ ap (λ ys. kept ++ ys) (first_and_behind left x some is) ∙ sym (append_assoc kept (x ∷ []) (behind_first left))
 
 pub fits_more : (steps kept left : List Step) (js : List Joined) (j : Joined) → steps ≡ kept ++ left → Fits js steps →
-    length js ≡ length kept → Says j left → Fits (js ++ j ∷ []) steps
+    length js ≡ length kept → BeginsWithParts j left → Fits (js ++ j ∷ []) steps
 fits_more steps kept left js j all fits same says =
     let at : drop (length js) steps ≡ left = ap (λ n. drop n steps) same ∙ ap (drop (length kept)) all ∙ drop_joined kept left in
     let within : length js ≤ length steps = omega (arith, ap length all, length-append kept left) in
-    Fits-push js steps j within fits (subst (Says j) (sym at) says)
+    Fits-push js steps j within fits (subst (BeginsWithParts j) (sym at) says)
 
 pub kept_all : (steps kept left : List Step) → steps ≡ kept ++ left → length left ≤ 0 → kept ≡ steps
 kept_all steps kept [] all h = sym (all ∙ append_none kept)

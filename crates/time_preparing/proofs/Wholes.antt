@@ -154,15 +154,15 @@ pub rows_read : (xs ys : List Step) (gap : ℕ) (b mid behind rest : List ℕ) (
     ReadsAll greatest_year (leaves xs) b r mid q → mid ≡ gap ∷ behind → ReadsAll greatest_year (leaves ys) behind q rest s →
     ReadsAll greatest_year (leaves (xs ++ step.Literal gap ∷ ys)) b r rest s
 rows_read xs ys gap b mid behind rest r q s first is second =
-    rw leaves_joined (reads_later greatest_year (more (literal (gap ∷ [])) (leaves ys)) (leaves xs) b r mid q rest s first
-    (byte_read greatest_year (leaves ys) mid behind rest gap q s is second))
+    rw leaves_joined (reads_later (more (literal (gap ∷ [])) (leaves ys)) (leaves xs) b r mid q rest s first
+    (byte_read (leaves ys) mid behind rest gap q s is second))
 
 -- rows with a byte between them if there is one
 rows_joined : (xs ys : List Step) (gap : Option ℕ) (b mid behind rest : List ℕ) (r q s : Record) →
     ReadsAll greatest_year (leaves xs) b r mid q → mid ≡ bytes_of gap ++ behind → ReadsAll greatest_year (leaves ys) behind q rest s →
     ReadsAll greatest_year (leaves (xs ++ (byte_parts gap ++ ys))) b r rest s
 rows_joined xs ys None b mid behind rest r q s first is second =
-    rw leaves_joined (reads_later greatest_year (leaves ys) (leaves xs) b r mid q rest s first
+    rw leaves_joined (reads_later (leaves ys) (leaves xs) b r mid q rest s first
     (subst (λ x. ReadsAll greatest_year (leaves ys) x q rest s) (sym is) second))
 rows_joined xs ys (Some x) b mid behind rest r q s first is second = rows_read xs ys x b mid behind rest r q s first is second
 
@@ -260,7 +260,7 @@ module _ (steps : List Step) (choice list : Step) (all len : ℕ) (some : 1 ≤ 
       let chosen : Reads greatest_year (first_of (steps_trees items)) b r rest new =
       rw inner (first_of-some greatest_year b r (more (sequence (steps_trees first)) (steps_trees (drop len inside))) rest new
       (ReadsSome-here greatest_year (sequence (steps_trees first)) (steps_trees (drop len inside)) b r rest new h)) in
-      rw (outer, steps_trees-end [] (omega arith)) (one_as_list greatest_year (first_of (steps_trees items)) b r rest new chosen)
+      rw (outer, steps_trees-end [] (omega arith)) (one_as_list (first_of (steps_trees items)) b r rest new chosen)
 
 -- whole texts
 

@@ -127,11 +127,11 @@ abbrev pub BeginsWith : List Step → List Step → Type 0
 BeginsWith front steps = (after : List Step) × (steps ≡ front ++ after) × (further after ≡ [])
 
 -- The steps begin with the joined ones, if there are joined ones and enough steps.
-abbrev pub Says : Joined → List Step → Type 0
-Says j steps = 0 < length (parts j) → length (parts j) ≤ length steps → BeginsWith (parts j) steps
+abbrev pub BeginsWithParts : Joined → List Step → Type 0
+BeginsWithParts j steps = 0 < length (parts j) → length (parts j) ≤ length steps → BeginsWith (parts j) steps
 
 -- each joined step is at the position of its steps
 abbrev pub Fits : List Joined → List Step → Type 0
 Fits [] steps = Unit {0}
 Fits (j ∷ js) [] = Unit {0}
-Fits (j ∷ js) (s ∷ steps) = Says j (s ∷ steps) × Fits js steps
+Fits (j ∷ js) (s ∷ steps) = BeginsWithParts j (s ∷ steps) × Fits js steps

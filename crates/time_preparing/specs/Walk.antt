@@ -1,5 +1,5 @@
--- What a walk over trees in turn reads. `Y` is the greatest year.
-use Rattle.std.specs.Prelude.{◌≡◌, ◌<◌, ◌≤◌, ◌⊎◌, ℕ, List, [], ◌∷◌, ◌++◌, drop, length, min, Option, Some, None, Result, Ok, Err, false}
+-- What a walk over trees in turn reads.
+use Rattle.std.specs.Prelude.{◌≡◌, ◌<◌, ◌≤◌, ◌⊎◌, ℕ, List, [], ◌∷◌, ◌++◌, drop, length, Option, Some, None, Result, Ok, Err, false}
 use Rattle.std.specs.Borrow.{Bor}
 use Rattle.time_values.specs.Refusal.{Refusal, refusal_of_description}
 use Rattle.time_values.specs.declared.error.ParseFromDescription.{ParseFromDescription}
@@ -38,36 +38,30 @@ seconds_tree b p =
     optional (sequence (more (literal (b ∷ [])) (more (component false (Second SECOND)) (more (fraction_tree p) none))))
 
 -- the rest and the record of a reading; or nothing is known, and the record is unchanged
-abbrev pub MayReadAll : ℕ → Trees → List ℕ → Record → Option (Bor (List ℕ)) → Record → Type 0
-MayReadAll Y ts bytes r (Some rest) r' = ReadsAll Y ts bytes r rest.now r'
-MayReadAll Y ts bytes r None r' = r' ≡ r
+abbrev pub MayReadAll : Trees → List ℕ → Record → Option (Bor (List ℕ)) → Record → Type 0
+MayReadAll ts bytes r (Some rest) r' = ReadsAll greatest_year ts bytes r rest.now r'
+MayReadAll ts bytes r None r' = r' ≡ r
 
 -- the rest and the record of the tree's reading; or its error, and any record
-abbrev pub Tells : ℕ → Tree → List ℕ → Record → Result (Bor (List ℕ)) ParseFromDescription → Record → Type 0
-Tells Y t bytes r (Ok rest) r' = Reads Y t bytes r rest.now r'
-Tells Y t bytes r (Err e) r' = Refuses Y t bytes r (refusal_of_description e)
+abbrev pub ParsesTree : Tree → List ℕ → Record → Result (Bor (List ℕ)) ParseFromDescription → Record → Type 0
+ParsesTree t bytes r (Ok rest) r' = Reads greatest_year t bytes r rest.now r'
+ParsesTree t bytes r (Err e) r' = Refuses greatest_year t bytes r (refusal_of_description e)
 
 -- A result of the trees that are left is a result of all trees, since those before them were read.
-pub record Goes (Y : ℕ) (all : Trees) (b0 : List ℕ) (r0 : Record) (left : Trees) (b : List ℕ)
+pub record Resumes (all : Trees) (b0 : List ℕ) (r0 : Record) (left : Trees) (b : List ℕ)
     (r : Record) : Type 0 where
-  pub reads : (rest : List ℕ) (q : Record) → ReadsAll Y left b r rest q → ReadsAll Y all b0 r0 rest q
-  pub refuses : (e : Refusal) → RefusesAll Y left b r e → RefusesAll Y all b0 r0 e
+  pub reads : (rest : List ℕ) (q : Record) → ReadsAll greatest_year left b r rest q
+      → ReadsAll greatest_year all b0 r0 rest q
+  pub refuses : (e : Refusal) → RefusesAll greatest_year left b r e → RefusesAll greatest_year all b0 r0 e
 
 -- At the front of any steps that don't continue a literal, that many of the joined ones are read.
 abbrev pub ReadsFront : Joined → ℕ → List ℕ → Record → List ℕ → Record → Type 0
 ReadsFront j n bytes r rest r' =
     (after : List Step) → further after ≡ []
-    → Goes greatest_year (steps_trees (parts j ++ after)) bytes r (steps_trees (drop n (parts j ++ after))) rest r'
+    → Resumes (steps_trees (parts j ++ after)) bytes r (steps_trees (drop n (parts j ++ after))) rest r'
 
 -- That many of the joined steps are read, and there are enough steps left for all of them; or none is read.
 abbrev pub MayReadFront : Joined → ℕ → ℕ → List ℕ → Record → List ℕ → Record → Type 0
 MayReadFront j left n bytes r rest r' =
     ((n ≡ 0) × (rest ≡ bytes) × (r' ≡ r))
     ⊎ ((0 < length (parts j)) × (length (parts j) ≤ left) × ReadsFront j n bytes r rest r')
-
--- how many of the steps after this one belong to its item
-abbrev pub item_length : Step → List Step → ℕ
-item_length (step.Literal b) behind = length (further behind)
-item_length (step.More b) behind = length (further behind)
-item_length (step.Component c) behind = 0
-item_length (step.Group g len) behind = min len (length behind)

@@ -1,7 +1,7 @@
 //! Joined steps: several steps of a description that are parsed together.
 ghost use Rattle.std.specs.Prelude.{◌≡◌, [], IfSome, IsTrue, false};
 ghost use Rattle.time_components.specs.Tree.{further};
-ghost use Rattle.time_preparing.specs.Forms.{BeginsWith, fraction_parts, month_day_parts, Says, second_parts};
+ghost use Rattle.time_preparing.specs.Forms.{BeginsWith, fraction_parts, month_day_parts, BeginsWithParts, second_parts};
 
 use crate::forms::{
     MONTH_NAME, SECOND, SPACED_DAY, SUBSECOND, are_same, date_steps, day_first_steps, time_steps,
@@ -84,11 +84,11 @@ fn begins(steps: &[Step], front: &[Step]) -> bool
         return false;
     }
     let (first, behind) = steps.split_at(front.len());
-    are_same(first, front) && !goes_on(behind)
+    are_same(first, front) && !continues_literal(behind)
 }
 
 // Whether a literal before these steps continues in them.
-fn goes_on(steps: &[Step]) -> bool
+fn continues_literal(steps: &[Step]) -> bool
     ensures { result ≡ false → further steps.now ≡ [] }
 {
     match steps.first() {
@@ -99,7 +99,7 @@ fn goes_on(steps: &[Step]) -> bool
 
 /// The joined steps at the front of these.
 pub(crate) fn joined_at(steps: &[Step]) -> Joined
-    ensures { Says result steps.now }
+    ensures { BeginsWithParts result steps.now }
 {
     match several_at(steps) {
         Some(joined) => joined,
@@ -109,7 +109,7 @@ pub(crate) fn joined_at(steps: &[Step]) -> Joined
 
 // Joined steps at the front of these, if the second is a literal of one byte. This is no second way of reading.
 fn several_at(steps: &[Step]) -> Option<Joined>
-    ensures { IfSome result (λ joined. Says joined steps.now) }
+    ensures { IfSome result (λ joined. BeginsWithParts joined steps.now) }
 {
     let [_, Step::Literal(between), behind @ ..] = steps else {
         return None;
@@ -129,7 +129,7 @@ fn several_at(steps: &[Step]) -> Option<Joined>
 
 // Three joined steps at the front of these, if the second is a literal of this byte. This is no second way of reading.
 fn three_at(steps: &[Step], byte: u8) -> Option<Joined>
-    ensures { IfSome result (λ joined. Says joined steps.now) }
+    ensures { IfSome result (λ joined. BeginsWithParts joined steps.now) }
 {
     if begins(steps, &date_steps(byte)) {
         Some(Joined::Date(byte))
@@ -148,11 +148,11 @@ fn three_at(steps: &[Step], byte: u8) -> Option<Joined>
 
 // A literal of one byte or a component at the front of these steps.
 fn alone_at(steps: &[Step]) -> Joined
-    ensures { Says result steps.now }
+    ensures { BeginsWithParts result steps.now }
 {
     match steps {
-        [Step::Literal(byte), behind @ ..] if !goes_on(behind) => Joined::Byte(*byte),
-        [Step::Component(component), behind @ ..] if !goes_on(behind) => {
+        [Step::Literal(byte), behind @ ..] if !continues_literal(behind) => Joined::Byte(*byte),
+        [Step::Component(component), behind @ ..] if !continues_literal(behind) => {
             Joined::Component(*component)
         }
         _ => Joined::Nothing,

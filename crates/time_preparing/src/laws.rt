@@ -2,7 +2,7 @@
 ghost use Rattle.time_values.specs.Calendar.{greatest_year};
 ghost use Rattle.time_components.specs.Tree.{steps_shape};
 ghost use Rattle.time_descriptions.specs.Description.{shape};
-ghost use Rattle.time_parsing.specs.TreeLaws.{AnswersAlike};
+ghost use Rattle.time_parsing.specs.TreeLaws.{HaveEqualResults};
 
 use crate::Prepared;
 use time_descriptions::Description;
@@ -12,5 +12,5 @@ pub fn law_prepared<const N: usize, const M: usize>(
     prepared: &Prepared<N>,
     description: &Description<M>,
 )
-    ensures { AnswersAlike greatest_year (steps_shape prepared.now) (shape description.now) }
+    ensures { HaveEqualResults greatest_year (steps_shape prepared.now) (shape description.now) }
 {}

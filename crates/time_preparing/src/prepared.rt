@@ -5,7 +5,7 @@ ghost use Rattle.time_components.specs.Tree.{borrowed_shape, steps_shape, trees}
 ghost use Rattle.time_record.specs.Reading.{Answers};
 ghost use Rattle.time_preparing.specs.Items.{Prepares};
 ghost use Rattle.time_preparing.specs.Forms.{Fits};
-ghost use Rattle.time_preparing.specs.Walk.{Tells};
+ghost use Rattle.time_preparing.specs.Walk.{ParsesTree};
 ghost use Rattle.time_preparing.specs.Whole.{Leads};
 
 use crate::items::{Unprepared, put_items};
@@ -102,7 +102,7 @@ impl<const N: usize> Prepared<N> {
         input: &'a [u8],
         parsed: &mut Parsed,
     ) -> Result<&'a [u8], ParseFromDescription>
-        ensures { Tells greatest_year (steps_shape self.now) input.now parsed.old result parsed.new }
+        ensures { ParsesTree (steps_shape self.now) input.now parsed.old result parsed.new }
     {
         walk(self.steps.as_slice(), self.joined.as_slice(), parsed, input)
     }

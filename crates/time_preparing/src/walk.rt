@@ -6,14 +6,13 @@ mod fast;
 mod front;
 
 ghost use Rattle.std.specs.Prelude.{◌≡◌, ◌≤◌, length, drop};
-ghost use Rattle.time_values.specs.Calendar.{greatest_year};
 ghost use Rattle.time_components.specs.Tree as steps_;
 ghost use Rattle.time_components.specs.Tree.{steps_shape, steps_trees, first_of, optional};
 ghost use Rattle.time_preparing.specs.Forms.{Fits};
-ghost use Rattle.time_preparing.specs.Walk.{Goes, Tells, item_length};
+ghost use Rattle.time_preparing.specs.Walk.{Resumes, ParsesTree};
 
 use crate::joined::Joined;
-use time_components::{Group, Step, steps_after};
+use time_components::{Group, Step, item_len};
 use time_record::Parsed;
 use time_values::error::ParseFromDescription;
 
@@ -29,7 +28,7 @@ fn read_joined<'a>(
     requires fits { Fits joined.now steps.now }
     requires each { length joined.now ≡ length steps.now }
     ensures within { result.0 ≤ length steps.now }
-    ensures goes { Goes greatest_year (steps_trees steps.now) input.now parsed.old
+    ensures goes { Resumes (steps_trees steps.now) input.now parsed.old
         (steps_trees (drop result.0 steps.now)) result.1.now parsed.new }
 {
     let mut next = 0;
@@ -56,7 +55,7 @@ pub(crate) fn walk<'a>(
 ) -> Result<&'a [u8], ParseFromDescription>
     requires fits { Fits joined.now steps.now }
     requires each { length joined.now ≡ length steps.now }
-    ensures { Tells greatest_year (steps_shape steps.now) input.now parsed.old result parsed.new }
+    ensures { ParsesTree (steps_shape steps.now) input.now parsed.old result parsed.new }
 {
     let mut left = steps;
     let mut left_joined = joined;
@@ -91,7 +90,7 @@ fn walk_list<'a>(
 ) -> Result<&'a [u8], ParseFromDescription>
     requires fits { Fits joined.now steps.now }
     requires each { length joined.now ≡ length steps.now }
-    ensures { Tells greatest_year (steps_shape steps.now) input.now parsed.old result parsed.new }
+    ensures { ParsesTree (steps_shape steps.now) input.now parsed.old result parsed.new }
 {
     walk(steps, joined, parsed, input)
 }
@@ -107,7 +106,7 @@ fn walk_item<'a>(
 ) -> Result<&'a [u8], ParseFromDescription>
     requires fits { Fits joined.now steps.now }
     requires each { length joined.now ≡ length steps.now }
-    ensures { Tells greatest_year (steps_shape steps.now) input.now parsed.old result parsed.new }
+    ensures { ParsesTree (steps_shape steps.now) input.now parsed.old result parsed.new }
 {
     let [step, inside @ ..] = steps else {
         return parsed.parse_steps(input, steps);
@@ -137,7 +136,7 @@ fn walk_group<'a>(
 ) -> Result<&'a [u8], ParseFromDescription>
     requires fits { Fits joined.now inside.now }
     requires each { length joined.now ≡ length inside.now }
-    ensures { Tells greatest_year (steps_.group_tree group (steps_trees inside.now)) input.now parsed.old result parsed.new }
+    ensures { ParsesTree (steps_.group_tree group (steps_trees inside.now)) input.now parsed.old result parsed.new }
 {
     match group {
         Group::List => walk_list(inside, joined, parsed, input),
@@ -158,7 +157,7 @@ fn walk_optional<'a>(
 ) -> Result<&'a [u8], ParseFromDescription>
     requires fits { Fits joined.now inside.now }
     requires each { length joined.now ≡ length inside.now }
-    ensures { Tells greatest_year (optional (steps_shape inside.now)) input.now parsed.old result parsed.new }
+    ensures { ParsesTree (optional (steps_shape inside.now)) input.now parsed.old result parsed.new }
 {
     let before = *parsed;
     match walk_list(inside, joined, parsed, input) {
@@ -180,7 +179,7 @@ fn walk_first<'a>(
 ) -> Result<&'a [u8], ParseFromDescription>
     requires fits { Fits joined.now steps.now }
     requires each { length joined.now ≡ length steps.now }
-    ensures { Tells greatest_year (first_of (steps_trees steps.now)) input.now parsed.old result parsed.new }
+    ensures { ParsesTree (first_of (steps_trees steps.now)) input.now parsed.old result parsed.new }
 {
     let before = *parsed;
     let mut first_fault = None;
@@ -202,13 +201,4 @@ fn walk_first<'a>(
         Some(fault) => Err(fault),
         None => Ok(input),
     }
-}
-
-// How many of the steps after this one belong to its item.
-#[inline(always)]
-fn item_len(step: &Step, behind: &[Step]) -> usize
-    ensures len { result ≡ item_length step.now behind.now }
-    ensures within { result ≤ length behind.now }
-{
-    behind.len() - steps_after(step, behind).len()
 }

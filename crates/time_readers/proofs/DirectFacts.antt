@@ -15,11 +15,11 @@ use Rattle.time_readers.specs.Rfc2822 as rfc2822
 use Rattle.time_readers.specs.Rfc3339 as rfc3339
 use Rattle.time_readers.specs.declared.rfc3339.Numbers.{Numbers}
 use Rattle.time_readers.specs.declared.rfc3339.Place.TheVariants.{Month}
-use Rattle.time_readers.specs.Direct.{minute_refusal, said_rfc3339, said_rfc2822, shown_second, shown_nanosecond, IsMoment, LeapSecondMayStand}
+use Rattle.time_readers.specs.Direct.{minute_refusal, rfc3339_numbers, rfc2822_numbers, moment_second, moment_nanosecond, IsMoment, IsLeapSecondValid}
 use Rattle.time_readers.specs.Direct.{IsDirectRfc3339, RefusesRfc3339, RefusesRfc2822}
 use Rattle.time_readers.specs.declared.rfc2822.Place.TheVariants.{WeekdayName}
 use Rattle.time_readers.proofs.OneMailDate.{MailAsks-unique}
-use Rattle.time_readers.proofs.Repeats.{Asks-unique, one_form}
+use Rattle.time_readers.proofs.Repeats.{PlaceSyntax-unique, one_form}
 use Rattle.time_readers.proofs.Walking.{one_direct}
 use Rattle.time_readers.proofs.TimestampFacts as timestamp
 use Rattle.time_readers.proofs.TimestampFacts.{◌next◌, done, form_of}
@@ -40,9 +40,9 @@ offset_minute_before_the_rest = inr (codes "x", (timestamp.past_range, timestamp
 pub month_00_is_an_error_of_form : RefusesRfc3339 greatest_year (codes "2021-00-01T00:00:00Z") (component (codes "month"))
 month_00_is_an_error_of_form = inl (Month, timestamp.month_00, refl)
 
-pub moment_of_a_text : (v : OffsetDateTime) → IsMoment (said_rfc3339 (record timestamp.front { is_utc = true })) v
+pub moment_of_a_text : (v : OffsetDateTime) → IsMoment (rfc3339_numbers (record timestamp.front { is_utc = true })) v
     → IsDirectRfc3339 greatest_year (codes "2021-01-02T03:04:05Z") v
-unfolding LeapSecondMayStand
+unfolding IsLeapSecondValid
 moment_of_a_text v moment = (
   record timestamp.front { is_utc = true },
   timestamp.whole false _ _ _ (timestamp.utc false timestamp.front []),
@@ -51,18 +51,18 @@ moment_of_a_text v moment = (
 )
 
 pub leap_second_is_the_nanosecond_before : (n : Numbers) → n ≡ record timestamp.front { second = 60 }
-    → (shown_second (said_rfc3339 n) ≡ 59) × (shown_nanosecond (said_rfc3339 n) ≡ 999_999_999)
+    → (moment_second (rfc3339_numbers n) ≡ 59) × (moment_nanosecond (rfc3339_numbers n) ≡ 999_999_999)
 leap_second_is_the_nanosecond_before n is =
-    (ap (λ m. shown_second (said_rfc3339 m)) is, ap (λ m. shown_nanosecond (said_rfc3339 m)) is)
+    (ap (λ m. moment_second (rfc3339_numbers m)) is, ap (λ m. moment_nanosecond (rfc3339_numbers m)) is)
 
 pub minus_of_offset_hour_0 :
-    (said_rfc3339 (record timestamp.front { offset_is_negative = true; offset_minute = 30 })).offset_minute ≡ neg_ℤ (pos 30)
+    (rfc3339_numbers (record timestamp.front { offset_is_negative = true; offset_minute = 30 })).offset_minute ≡ neg_ℤ (pos 30)
 minus_of_offset_hour_0 = refl
 
 one_error : (bytes : List ℕ) (e f : Refusal) → RefusesRfc3339 greatest_year bytes e → RefusesRfc3339 greatest_year bytes f → e ≡ f
 one_error bytes e f p q =
-    let form = one_form (rfc3339.Asks false) (Asks-unique false) rfc3339.places rfc3339.nothing_read in
-    let direct = one_direct (rfc3339.Asks false) rfc3339.places rfc3339.nothing_read rfc3339.fault minute_refusal said_rfc3339 form in
+    let form = one_form (rfc3339.PlaceSyntax false) (PlaceSyntax-unique false) rfc3339.places rfc3339.nothing_read in
+    let direct = one_direct (rfc3339.PlaceSyntax false) rfc3339.places rfc3339.nothing_read rfc3339.fault minute_refusal rfc3339_numbers form in
     direct.one_refusal bytes e f p q
 
 pub month_13_is_not_checked_before_the_rest : RefusesRfc3339 greatest_year (codes "2021-13-01T00:00:00Zx") (range (codes "month") false) → ⊥
@@ -110,14 +110,14 @@ last_of_december y m d december last = last ∙ sym (ap (month_length y) decembe
 
 module _ (v : OffsetDateTime) where
   -- the instant of a moment in UTC
-  instant_in_utc : (h : ℕ) → IsMoment (said_rfc3339 (sixtieth h)) v
+  instant_in_utc : (h : ℕ) → IsMoment (rfc3339_numbers (sixtieth h)) v
       → clock_nanos greatest_year (offset_date v) (offset_time v) ≡ offset_instant greatest_year v
   instant_in_utc h moment =
       omega (arith, ints, moment.offset.0, moment.offset.1, moment.offset.2, instant_is (offset_date v) (offset_time v) (offset_of v))
 
   -- a text of section 5.8 of the RFC: the last second of a month in UTC
-  pub leap_second_of_the_standard : IsMoment (said_rfc3339 (sixtieth 23)) v → IsDirectRfc3339 greatest_year (codes "1990-12-31T23:59:60Z") v
-  unfolding LeapSecondMayStand
+  pub leap_second_of_the_standard : IsMoment (rfc3339_numbers (sixtieth 23)) v → IsDirectRfc3339 greatest_year (codes "1990-12-31T23:59:60Z") v
+  unfolding IsLeapSecondValid
   leap_second_of_the_standard moment =
       let clock : HasClock 23 59 59 999_999_999 (offset_time v) = moment.clock in
       let last : nanos_of_day (offset_time v) + 1 ≡ nanos_per_day = omega (arith, clock.0, clock.1, clock.2, clock.3) in
@@ -130,25 +130,25 @@ module _ (v : OffsetDateTime) where
       )
 
   -- at 15:59 no month ends in UTC
-  not_at_16 : IsMoment (said_rfc3339 (sixtieth 15)) v → IsLeapSecondMoment greatest_year (offset_instant greatest_year v) → ⊥
+  not_at_16 : IsMoment (rfc3339_numbers (sixtieth 15)) v → IsLeapSecondMoment greatest_year (offset_instant greatest_year v) → ⊥
   not_at_16 moment (date, time, shown, leap, within) =
       let clock : HasClock 15 59 59 999_999_999 (offset_time v) = moment.clock in
       let same = same_moment date (offset_date v) time (offset_time v) (shown ∙ sym (instant_in_utc 15 moment)) in
       let last : nanos_of_day (offset_time v) + 1 ≡ nanos_per_day = subst (λ t. nanos_of_day t + 1 ≡ nanos_per_day) same.1 leap.0 in
       omega (arith, last, clock.0, clock.1, clock.2, clock.3)
 
-  pub second_60_within_a_month : IsMoment (said_rfc3339 (sixtieth 15)) v
+  pub second_60_within_a_month : IsMoment (rfc3339_numbers (sixtieth 15)) v
       → RefusesRfc3339 greatest_year (codes "1990-12-31T15:59:60Z") (range (codes "second") true)
-  unfolding LeapSecondMayStand
+  unfolding IsLeapSecondValid
   second_60_within_a_month moment =
       inr ([], (sixtieth 15, sixtieth_form (codes "15") 15 (search rules), inr (refl, refl, (v, moment, λ may. not_at_16 moment (may refl)))))
 
   pub no_moment_of_a_second_60_within_a_month : IsDirectRfc3339 greatest_year (codes "1990-12-31T15:59:60Z") v → ⊥
-  unfolding LeapSecondMayStand
+  unfolding IsLeapSecondValid
   no_moment_of_a_second_60_within_a_month (n, form, last, made) =
-      let one = one_form (rfc3339.Asks false) (Asks-unique false) rfc3339.places rfc3339.nothing_read (codes "1990-12-31T15:59:60Z") in
+      let one = one_form (rfc3339.PlaceSyntax false) (PlaceSyntax-unique false) rfc3339.places rfc3339.nothing_read (codes "1990-12-31T15:59:60Z") in
       let same = one.one_reading [] [] n (sixtieth 15) form (sixtieth_form (codes "15") 15 (search rules)) in
-      let there : IsMoment (said_rfc3339 (sixtieth 15)) v = subst (λ m. IsMoment (said_rfc3339 m) v) same.1 made.1 in
+      let there : IsMoment (rfc3339_numbers (sixtieth 15)) v = subst (λ m. IsMoment (rfc3339_numbers m) v) same.1 made.1 in
       let is_60 : n.second ≡ 60 = ap (λ (m : Numbers). m.second) same.1 in
       not_at_16 there (made.2 is_60)
 
@@ -169,8 +169,8 @@ missing_comma = inl (WeekdayName, mail.weekday_without_a_comma false, refl)
 
 one_mail_error : (bytes : List ℕ) (e f : Refusal) → RefusesRfc2822 greatest_year bytes e → RefusesRfc2822 greatest_year bytes f → e ≡ f
 one_mail_error bytes e f p q =
-    let form = one_form (rfc2822.Asks false) (MailAsks-unique false) rfc2822.places rfc2822.nothing_read in
-    let direct = one_direct (rfc2822.Asks false) rfc2822.places rfc2822.nothing_read rfc2822.fault (λ n. None) said_rfc2822 form in
+    let form = one_form (rfc2822.PlaceSyntax false) (MailAsks-unique false) rfc2822.places rfc2822.nothing_read in
+    let direct = one_direct (rfc2822.PlaceSyntax false) rfc2822.places rfc2822.nothing_read rfc2822.fault (λ n. None) rfc2822_numbers form in
     direct.one_refusal bytes e f p q
 
 pub hour_24_is_no_error_of_form : RefusesRfc2822 greatest_year (codes "02 Jan 2021 24:00 GMT") (component (codes "hour")) → ⊥

@@ -6,7 +6,7 @@ use Rattle.std.proofs.lemmas.List.{take-append-drop, length-take-le}
 use Rattle.std.proofs.lemmas.Option.{none-some, same_Some, some_pair_parts, option_and_then_some}
 use Rattle.std.proofs.Math.Seq.{drop-append_seam}
 use Rattle.time_digits.specs.Digits.{IsSign, sign_byte, Cut, AllDigits, digits_value, NoDigitFirst, IsDigitRun}
-use Rattle.time_readers.specs.IsoPieces.{IsYear, IsSaid, IsPoint, NoPointFirst, IsNumber, is_digit, all_digits, digits, leading_digits, byte, point, Number, plain, fraction, after_point, after_whole, number, digits_saying, sign, with_sign, year_after, year, month, weekday, positive, up_to, numbered, months, weekdays, not_zero, at_most}
+use Rattle.time_readers.specs.IsoPieces.{IsYear, IsMappedDigits, IsPoint, NoPointFirst, IsNumber, is_digit, all_digits, digits, leading_digits, byte, point, Number, plain, fraction, after_point, after_whole, number, mapped_digits, sign, with_sign, year_after, year, month, weekday, positive, up_to, numbered, months, weekdays, not_zero, at_most}
 use Rattle.time_readers.specs.Laws.{IsoPiecesAreCuts}
 use Rattle.time_components.specs.Spelling.{IsSigned}
 use Rattle.time_digits.specs.declared.Padding.TheVariants as padding
@@ -155,24 +155,24 @@ number-tells s rest n e =
     (λ x d h. whole-after s x.0 rest x.1 n (point x.0) (digits-tells 2 s x.0 x.1 d) refl h)
 
 -- n digits, whose number has a value
-said_by : {A : Type 0} (n : ℕ) (says : ℕ → Option A) (s mid rest : List ℕ) (v : ℕ) (a : A) (o : Option A)
+parse_by : {A : Type 0} (n : ℕ) (says : ℕ → Option A) (s mid rest : List ℕ) (v : ℕ) (a : A) (o : Option A)
     → digits n s ≡ Some (mid, v) → says v ≡ o → option_map {U = List ℕ × A} (λ b. (mid, b)) o ≡ Some (rest, a)
-    → Cut (IsSaid n says) s rest a
-said_by n says s mid rest v a None d is e = absurd (none-some (rest, a) e)
-said_by n says s mid rest v a (Some b) d is e =
+    → Cut (IsMappedDigits n says) s rest a
+parse_by n says s mid rest v a None d is e = absurd (none-some (rest, a) e)
+parse_by n says s mid rest v a (Some b) d is e =
     let same = some_pair_parts mid rest b a e in
     let run = digits-tells n s mid v d in
-    subst (λ x. Cut (IsSaid n says) s rest x) same.1
-    (subst (λ r. Cut (IsSaid n says) s r b) same.0 (run.0, run.1, (v, run.2, is)))
+    subst (λ x. Cut (IsMappedDigits n says) s rest x) same.1
+    (subst (λ r. Cut (IsMappedDigits n says) s r b) same.0 (run.0, run.1, (v, run.2, is)))
 
 pub said-tells : {A : Type 0} (n : ℕ) (says : ℕ → Option A) (s rest : List ℕ) (a : A)
-    → digits_saying n says s ≡ Some (rest, a) → Cut (IsSaid n says) s rest a
+    → mapped_digits n says s ≡ Some (rest, a) → Cut (IsMappedDigits n says) s rest a
 said-tells n says s rest a e =
     option_and_then_some (λ f. option_map (λ b. (f.0, b)) (says f.1)) (digits n s) (rest, a) e
-    (λ x d h. said_by n says s x.0 rest x.1 a (says x.1) d refl h)
+    (λ x d h. parse_by n says s x.0 rest x.1 a (says x.1) d refl h)
 
 pub said-found : {A : Type 0} (n : ℕ) (says : ℕ → Option A) (s rest : List ℕ) (a : A)
-    → Cut (IsSaid n says) s rest a → digits_saying n says s ≡ Some (rest, a)
+    → Cut (IsMappedDigits n says) s rest a → mapped_digits n says s ≡ Some (rest, a)
 said-found n says s rest a cut =
     let is = cut.2.2 in
     rw (digits-cut n s rest cut.2.0 (cut.0, cut.1, cut.2.1), is) refl

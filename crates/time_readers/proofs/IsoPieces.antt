@@ -17,7 +17,7 @@ use Rattle.time_digits.proofs.Runs.{IsDigitRun-below}
 use Rattle.time_digits.specs.declared.ParsedItem.{ParsedItem}
 use Rattle.time_digits.specs.declared.Sign.{Sign}
 use Rattle.time_digits.specs.declared.Sign.TheVariants.{Negative, Positive}
-use Rattle.time_readers.specs.IsoPieces.{Number, is_digit, all_digits, digits, leading_digits, byte, point, plain, fraction, after_point, number, sign, months, numbered, Gives}
+use Rattle.time_readers.specs.IsoPieces.{Number, is_digit, all_digits, digits, leading_digits, byte, point, plain, fraction, after_point, number, sign, months, numbered, Returns}
 use Rattle.time_readers.specs.IsoTimes.{round_of}
 use Rattle.time_readers.proofs.OneMailDate.{round_whole}
 
@@ -162,7 +162,7 @@ colon-no_number s rest e = rw (byte-first 58 s rest e, and-false (nat_le 2 (leng
 
 -- the result of a parser of a run of digits is that of the function `digits`
 pub finds-digits : (n : ℕ) (s : List ℕ) (answer : Option (ParsedItem ℕ)) → Finds (IsDigitRun n n) (λ v. v) s answer
-    → Gives (digits n s) answer
+    → Returns (digits n s) answer
 finds-digits n s None none = digits-no_cut n s none
 finds-digits n s (Some p) cut = digits-cut n s p.0.now p.1 cut
 
@@ -188,7 +188,7 @@ sign-no_cut (c ∷ s) none =
       ]
     ]
 
-pub finds-sign : (s : List ℕ) (answer : Option (ParsedItem Sign)) → Finds IsSign (λ v. v) s answer → Gives (sign s) answer
+pub finds-sign : (s : List ℕ) (answer : Option (ParsedItem Sign)) → Finds IsSign (λ v. v) s answer → Returns (sign s) answer
 finds-sign s None none = sign-no_cut s none
 finds-sign s (Some p) cut = sign-cut s p.0.now p.1 cut
 

@@ -8,23 +8,23 @@ use Rattle.time_digits.proofs.Runs.{IsDigitRun-same, IsDigitRun-below}
 use Rattle.time_components.proofs.NameLemmas.{same_name, weekdays_told}
 use Rattle.time_readers.specs.Readers.{Reader, one_of, char, ◌then◌, ◌or◌, zero_or_more, one_or_more, IsRead, IsTwoDigits}
 use Rattle.time_readers.specs.MailBlanks.{is_blank, blanks, crlf, line_fold, no_crlf, fws, is_text, is_quotable, quoted_pair, content, comment_end, comment, cfws, opt_cfws, opt_cfws_colon_opt_cfws}
-use Rattle.time_readers.specs.Laws.{Takes}
+use Rattle.time_readers.specs.Laws.{Consumes}
 use Rattle.time_readers.specs.PlaceAnswers.{Reads}
 use Rattle.time_readers.specs.declared.rfc2822.Numbers.{Numbers}
 use Rattle.time_readers.specs.Rfc2822.{IsSilent, year_blanks, IsShortWeekday, IsWeekdayPart, IsYear, IsSecond}
 use Rattle.time_readers.proofs.Repeats.{Leaves, takes-shorter, takes-leaves, one_of-takes, then-takes, then-leaves, or-takes, or-leaves, some-leaves, zero_or_more-leaves, zero_or_more-none, zero_or_more-more, zero_or_more-some, then-some, then-none, or-some, or-none}
 
-one_or_more-takes : (p : Reader) → Takes p → Takes (one_or_more p)
+one_or_more-takes : (p : Reader) → Consumes p → Consumes (one_or_more p)
 one_or_more-takes p t = then-takes p (zero_or_more p) t (zero_or_more-leaves p t)
 
-pub blanks-takes : Takes blanks
+pub blanks-takes : Consumes blanks
 unfolding blanks
 blanks-takes = one_or_more-takes (one_of is_blank) (one_of-takes is_blank)
 
-pub crlf-takes : Takes crlf
+pub crlf-takes : Consumes crlf
 crlf-takes = then-takes (one_of (λ c. c == 13)) (one_of (λ c. c == 10)) (one_of-takes _) (takes-leaves (one_of (λ c. c == 10)) (one_of-takes _))
 
-pub line_fold-takes : Takes line_fold
+pub line_fold-takes : Consumes line_fold
 unfolding line_fold
 line_fold-takes = then-takes crlf blanks crlf-takes (takes-leaves blanks blanks-takes)
 
@@ -40,7 +40,7 @@ no_crlf-leaves s r e = no_crlf_cut (is_some (crlf s)) s r e
 abbrev pub more_lines : Reader
 more_lines = zero_or_more line_fold then no_crlf
 
-pub fws-takes : Takes fws
+pub fws-takes : Consumes fws
 unfolding fws
 fws-takes =
     let more = then-leaves (zero_or_more line_fold) no_crlf (zero_or_more-leaves line_fold line_fold-takes) no_crlf-leaves in
@@ -78,10 +78,10 @@ pub more_lines-end : (s : List ℕ) → crlf s ≡ None → more_lines s ≡ Som
 unfolding line_fold no_crlf
 more_lines-end s e = ap (option_and_then no_crlf) (zero_or_more-none line_fold s (then-none crlf blanks s e)) ∙ ap (λ o. if is_some o then None else Some s) e
 
-pub quoted_pair-takes : Takes quoted_pair
+pub quoted_pair-takes : Consumes quoted_pair
 quoted_pair-takes = then-takes (char "\\") (one_of is_quotable) (one_of-takes _) (takes-leaves (one_of is_quotable) (one_of-takes _))
 
-pub content-takes : (inner : Reader) → Takes inner → Takes (content inner)
+pub content-takes : (inner : Reader) → Consumes inner → Consumes (content inner)
 content-takes inner t = or-takes (one_of is_text or quoted_pair) inner (or-takes (one_of is_text) quoted_pair (one_of-takes _) quoted_pair-takes) t
 
 pub fws_all-leaves : Leaves (zero_or_more fws)
@@ -91,16 +91,16 @@ fws_all-leaves = zero_or_more-leaves fws fws-takes
 abbrev pub part : Reader → Reader
 part inner = content inner then zero_or_more fws
 
-part-takes : (inner : Reader) → Takes inner → Takes (part inner)
+part-takes : (inner : Reader) → Consumes inner → Consumes (part inner)
 part-takes inner t = then-takes (content inner) (zero_or_more fws) (content-takes inner t) fws_all-leaves
 
-comment_end-leaves : (inner : Reader) → Takes inner → Leaves (comment_end inner)
+comment_end-leaves : (inner : Reader) → Consumes inner → Leaves (comment_end inner)
 unfolding comment_end
 comment_end-leaves inner t =
     then-leaves (zero_or_more fws) (zero_or_more (part inner) then char ")") fws_all-leaves
     (then-leaves (zero_or_more (part inner)) (char ")") (zero_or_more-leaves (part inner) (part-takes inner t)) (takes-leaves (char ")") (one_of-takes _)))
 
-pub comment-takes : (n : ℕ) → Takes (comment n)
+pub comment-takes : (n : ℕ) → Consumes (comment n)
 unfolding comment
 comment-takes zero s r e = absurd (none-some r e)
 comment-takes (suc n) s r e = then-takes (char "(") (comment_end (comment n)) (one_of-takes _) (comment_end-leaves (comment n) (comment-takes n)) s r e
@@ -119,7 +119,7 @@ unfolding comment_end
 no_blanks inner s e = ap (option_and_then (parts inner)) (zero_or_more-none fws s e)
 
 -- a part in a comment is skipped
-pub comment_end-part : (inner : Reader) → Takes inner → (s r : List ℕ) → fws s ≡ None → content inner s ≡ Some r → comment_end inner s ≡ comment_end inner r
+pub comment_end-part : (inner : Reader) → Consumes inner → (s r : List ℕ) → fws s ≡ None → content inner s ≡ Some r → comment_end inner s ≡ comment_end inner r
 unfolding comment_end
 comment_end-part inner t s r f e =
     let blanks = zero_or_more-some fws r in
@@ -135,10 +135,10 @@ comment_end-last inner s f e =
 abbrev pub blanks_or_comment : Reader
 blanks_or_comment = fws or comment 31
 
-pub blanks_or_comment-takes : Takes blanks_or_comment
+pub blanks_or_comment-takes : Consumes blanks_or_comment
 blanks_or_comment-takes = or-takes fws (comment 31) fws-takes (comment-takes 31)
 
-pub cfws-takes : Takes cfws
+pub cfws-takes : Consumes cfws
 unfolding cfws
 cfws-takes = one_or_more-takes blanks_or_comment blanks_or_comment-takes
 

@@ -13,17 +13,17 @@ use Rattle.time_digits.proofs.Runs.{IsDigitRun-unique}
 use Rattle.time_digits.proofs.StandardFacts.{too_few_digits}
 use Rattle.time_components.proofs.NumberLemmas.{each_weekday}
 use Rattle.time_components.proofs.StandardFacts.{no_sign}
-use Rattle.time_readers.specs.Readers.{Stand, zero_or_more, repeat}
+use Rattle.time_readers.specs.Readers.{MatchesPlaces, zero_or_more, repeat}
 use Rattle.time_readers.specs.MailBlanks.{blanks, line_fold, no_crlf, fws, comment_end, comment, cfws, opt_cfws, opt_cfws_colon_opt_cfws}
 use Rattle.time_readers.specs.MailBlanks.{zone_literal, hours_of}
-use Rattle.time_readers.specs.Rfc2822.{IsShortWeekday, Asks, nothing_read, offset_places, HasForm, FailsAt}
+use Rattle.time_readers.specs.Rfc2822.{IsShortWeekday, PlaceSyntax, nothing_read, offset_places, HasForm, FailsAt}
 use Rattle.time_readers.specs.declared.rfc2822.Numbers.{Numbers}
 use Rattle.time_readers.specs.declared.rfc2822.Place.{Place}
 use Rattle.time_readers.specs.declared.rfc2822.Place.TheVariants.{WeekdayName, Day, DayBlanks, MonthName, MonthBlanks, Year, YearBlanks, Hour}
 use Rattle.time_readers.specs.declared.rfc2822.Place.TheVariants.{HourColon, Minute, Second, TimeBlanks, OffsetHour}
 use Rattle.time_readers.proofs.MailBlanks.{no_year, no_comma}
 use Rattle.time_readers.proofs.ToSecond.{within}
-use Rattle.time_readers.proofs.Walking.{Stand-append}
+use Rattle.time_readers.proofs.Walking.{MatchesPlaces-append}
 use Rattle.time_readers.proofs.TimestampFacts.{outside, ◌next◌, done, form_of}
 
 -- ---- Parts of these dates
@@ -51,7 +51,7 @@ no_weekday c cs low (d ∷ text) rest v e h =
 abbrev to_month_places : List Place
 to_month_places = WeekdayName ∷ Day ∷ DayBlanks ∷ MonthName ∷ MonthBlanks ∷ []
 
-to_month : (check : Bool) (after : List ℕ) → Stand (Asks check) to_month_places nothing_read (codes "02 Jan 2" ++ after) (codes "2" ++ after) (dated 2 0 false)
+to_month : (check : Bool) (after : List ℕ) → MatchesPlaces (PlaceSyntax check) to_month_places nothing_read (codes "02 Jan 2" ++ after) (codes "2" ++ after) (dated 2 0 false)
 unfolding opt_cfws cfws fws blanks line_fold no_crlf comment comment_end zero_or_more repeat
 to_month check after = form_of (
     ([], refl, (None, (refl, no_weekday 48 _ (omega arith)), refl)) next
@@ -67,9 +67,9 @@ clock_places = Year ∷ YearBlanks ∷ Hour ∷ HourColon ∷ Minute ∷ []
 abbrev pub front : Numbers
 front = at_clock (dated 2 2021 true) 3 4 None
 
-to_minute : (check : Bool) (after : List ℕ) → Stand (Asks check) (to_month_places ++ clock_places) nothing_read (codes "02 Jan 2021 03:04" ++ after) after front
+to_minute : (check : Bool) (after : List ℕ) → MatchesPlaces (PlaceSyntax check) (to_month_places ++ clock_places) nothing_read (codes "02 Jan 2021 03:04" ++ after) after front
 unfolding opt_cfws_colon_opt_cfws opt_cfws cfws fws blanks line_fold no_crlf comment comment_end zero_or_more repeat
-to_minute check after = Stand-append (Asks check) to_month_places clock_places nothing_read (dated 2 0 false) front
+to_minute check after = MatchesPlaces-append (PlaceSyntax check) to_month_places clock_places nothing_read (dated 2 0 false) front
     (codes "02 Jan 2021 03:04" ++ after) (codes "2021 03:04" ++ after) after (to_month check (codes "021 03:04" ++ after)) (form_of (
     (codes "2021", refl, (true, 2021, search rules, refl)) next
     (codes " ", refl, (refl, refl)) next
@@ -81,10 +81,10 @@ to_minute check after = Stand-append (Asks check) to_month_places clock_places n
 abbrev end_places : List Place
 end_places = Second ∷ TimeBlanks ∷ offset_places
 
-whole : (check : Bool) (after rest : List ℕ) (m : Numbers) → Stand (Asks check) end_places front after rest m
+whole : (check : Bool) (after rest : List ℕ) (m : Numbers) → MatchesPlaces (PlaceSyntax check) end_places front after rest m
     → HasForm check (codes "02 Jan 2021 03:04" ++ after) rest m
 whole check after rest m others =
-    Stand-append (Asks check) (to_month_places ++ clock_places) end_places nothing_read front m (codes "02 Jan 2021 03:04" ++ after) after rest
+    MatchesPlaces-append (PlaceSyntax check) (to_month_places ++ clock_places) end_places nothing_read front m (codes "02 Jan 2021 03:04" ++ after) after rest
     (to_minute check after) others
 
 -- ---- Dates that match
@@ -193,7 +193,7 @@ rest_after_a_zone = whole false _ _ _ (form_of (
 hour_24 : (after : List ℕ) → zone_literal (codes "GMT" ++ after) ≡ Some (pos 0, after) → opt_cfws after ≡ Some after
     → HasForm false (codes "02 Jan 2021 24:00 GMT" ++ after) after (at_clock (dated 2 2021 true) 24 0 None)
 unfolding opt_cfws_colon_opt_cfws opt_cfws cfws fws blanks line_fold no_crlf comment comment_end zero_or_more repeat
-hour_24 after zone no_blank = Stand-append (Asks false) to_month_places (clock_places ++ end_places) nothing_read (dated 2 0 false) _
+hour_24 after zone no_blank = MatchesPlaces-append (PlaceSyntax false) to_month_places (clock_places ++ end_places) nothing_read (dated 2 0 false) _
     (codes "02 Jan 2021 24:00 GMT" ++ after) (codes "2021 24:00 GMT" ++ after) after (to_month false (codes "021 24:00 GMT" ++ after)) (form_of (
     (codes "2021", refl, (true, 2021, search rules, refl)) next
     (codes " ", refl, (refl, refl)) next
@@ -265,8 +265,8 @@ year_1899 = record {
 }
 
 -- the places up to the year
-to_year : (after : List ℕ) → Stand (Asks true) (to_month_places ++ Year ∷ []) nothing_read (codes "02 Jan 2021" ++ after) after (dated 2 2021 true)
-to_year after = Stand-append (Asks true) to_month_places (Year ∷ []) nothing_read (dated 2 0 false) (dated 2 2021 true) (codes "02 Jan 2021" ++ after)
+to_year : (after : List ℕ) → MatchesPlaces (PlaceSyntax true) (to_month_places ++ Year ∷ []) nothing_read (codes "02 Jan 2021" ++ after) after (dated 2 2021 true)
+to_year after = MatchesPlaces-append (PlaceSyntax true) to_month_places (Year ∷ []) nothing_read (dated 2 0 false) (dated 2 2021 true) (codes "02 Jan 2021" ++ after)
     (codes "2021" ++ after) after (to_month true (codes "021" ++ after)) (form_of ((codes "2021", refl, (true, 2021, search rules, refl)) next done))
 
 no_blanks_after_the_year : (after : List ℕ) → fws after ≡ None → FailsAt true (codes "02 Jan 2021" ++ after) YearBlanks
@@ -290,14 +290,14 @@ comment_after_a_full_year = no_blanks_after_the_year (codes "(x)03:04 GMT") refl
 
 -- the places before the offset
 before_offset : (c : ℕ) (after : List ℕ) → cfws (32 ∷ c ∷ after) ≡ Some (c ∷ after) → opt_cfws_colon_opt_cfws (32 ∷ c ∷ after) ≡ None
-    → Stand (Asks true) ((to_month_places ++ clock_places) ++ Second ∷ TimeBlanks ∷ []) nothing_read (codes "02 Jan 2021 03:04 " ++ c ∷ after) (c ∷ after) front
+    → MatchesPlaces (PlaceSyntax true) ((to_month_places ++ clock_places) ++ Second ∷ TimeBlanks ∷ []) nothing_read (codes "02 Jan 2021 03:04 " ++ c ∷ after) (c ∷ after) front
 before_offset c after blank no_colon =
-    Stand-append (Asks true) (to_month_places ++ clock_places) (Second ∷ TimeBlanks ∷ []) nothing_read front front (codes "02 Jan 2021 03:04 " ++ c ∷ after)
+    MatchesPlaces-append (PlaceSyntax true) (to_month_places ++ clock_places) (Second ∷ TimeBlanks ∷ []) nothing_read front front (codes "02 Jan 2021 03:04 " ++ c ∷ after)
     (32 ∷ c ∷ after) (c ∷ after) (to_minute true (32 ∷ c ∷ after))
     (form_of (([], refl, (None, (refl, no_colon), refl)) next (codes " ", refl, (blank, refl)) next done))
 
 fails_at_offset : (c : ℕ) (after : List ℕ) → cfws (32 ∷ c ∷ after) ≡ Some (c ∷ after) → opt_cfws_colon_opt_cfws (32 ∷ c ∷ after) ≡ None
-    → NoCut (Asks true OffsetHour front) (c ∷ after) → FailsAt true (codes "02 Jan 2021 03:04 " ++ c ∷ after) OffsetHour
+    → NoCut (PlaceSyntax true OffsetHour front) (c ∷ after) → FailsAt true (codes "02 Jan 2021 03:04 " ++ c ∷ after) OffsetHour
 fails_at_offset c after blank no_colon stops = record {
   before = (to_month_places ++ clock_places) ++ Second ∷ TimeBlanks ∷ [];
   after = _;
@@ -308,7 +308,7 @@ fails_at_offset c after blank no_colon stops = record {
   stops = stops;
 }
 
-neither_zone_nor_sign : (c : ℕ) (after : List ℕ) → zone_literal (c ∷ after) ≡ None → c ≢ 45 → c ≢ 43 → NoCut (Asks true OffsetHour front) (c ∷ after)
+neither_zone_nor_sign : (c : ℕ) (after : List ℕ) → zone_literal (c ∷ after) ≡ None → c ≢ 45 → c ≢ 43 → NoCut (PlaceSyntax true OffsetHour front) (c ∷ after)
 neither_zone_nor_sign c after missing minus plus text rest m e (inl z) =
     let found : ◌≡◌ {A = Option (ℤ × List ℕ)} None (Some (z.0, rest)) = sym missing ∙ ap zone_literal e ∙ z.1 in
     cc
@@ -323,7 +323,7 @@ pub letter_before_a_comment : FailsAt true (codes "02 Jan 2021 03:04 Z (x)") Off
 unfolding opt_cfws_colon_opt_cfws opt_cfws cfws fws blanks line_fold no_crlf comment comment_end zero_or_more repeat zone_literal hours_of
 letter_before_a_comment = fails_at_offset 90 (codes " (x)") refl refl (neither_zone_nor_sign 90 (codes " (x)") refl (λ e. omega arith) (λ e. omega arith))
 
-hour_26 : zone_literal (codes "-2600") ≡ None → NoCut (Asks true OffsetHour front) (codes "-2600")
+hour_26 : zone_literal (codes "-2600") ≡ None → NoCut (PlaceSyntax true OffsetHour front) (codes "-2600")
 hour_26 missing text rest m e (inl z) =
     let found : ◌≡◌ {A = Option (ℤ × List ℕ)} None (Some (z.0, rest)) = sym missing ∙ ap zone_literal e ∙ z.1 in
     cc

@@ -21,14 +21,14 @@ use Rattle.time_values.proofs.NumberLemmas.{Constructs-Err, Constructs-Ok}
 use Rattle.time_digits.specs.Digits.{Form, is_negative}
 use Rattle.time_digits.specs.declared.Sign.{Sign}
 use Rattle.time_digits.proofs.Runs.{IsDigitRun-below}
-use Rattle.time_readers.specs.Direct.{shown_second, shown_nanosecond, date_refusal, first_refusal, HasDate, IsMoment, LeapSecondMayStand, IsMade, IsNotMade, IsRefusedAfter, IsDirect, RefusesDirectly, minute_refusal}
+use Rattle.time_readers.specs.Direct.{moment_second, moment_nanosecond, date_refusal, first_refusal, HasDate, IsMoment, IsLeapSecondValid, IsMade, IsNotMade, IsRefusedAfter, IsDirect, RefusesDirectly, minute_refusal}
 use Rattle.time_readers.specs.declared.rfc3339.Numbers.{Numbers}
-use Rattle.time_readers.specs.declared.direct.Said.{Said}
-use Rattle.time_readers.specs.Readers.{Stand, IsWithin}
+use Rattle.time_readers.specs.declared.direct.MomentNumbers.{MomentNumbers}
+use Rattle.time_readers.specs.Readers.{MatchesPlaces, IsWithin}
 use Rattle.time_readers.specs.declared.rfc2822.Numbers.{Numbers as MailNumbers}
 use Rattle.time_readers.specs.declared.rfc2822.Place.{Place}
 use Rattle.time_readers.specs.declared.rfc2822.Place.TheVariants.{WeekdayName, Day, DayBlanks, MonthName, MonthBlanks, Year, YearBlanks, Hour, HourColon, Minute, Second, TimeBlanks, OffsetHour, OffsetMinute, EndBlanks}
-use Rattle.time_readers.specs.Rfc2822.{Asks, HasForm, IsZone, IsSignedHour, IsOffsetMinute, IsYear, IsSecond, places, nothing_read}
+use Rattle.time_readers.specs.Rfc2822.{PlaceSyntax, HasForm, IsZone, IsSignedHour, IsOffsetMinute, IsYear, IsSecond, places, nothing_read}
 use Rattle.time_readers.proofs.Walking.{Alone, Ignores, said, said_after}
 use Rattle.time_readers.proofs.MailOffset.{zone-near}
 use Rattle.time_readers.proofs.ToSecond.{within}
@@ -36,11 +36,11 @@ use Rattle.time_readers.proofs.ToSecond.{within}
 -- ---- The error of a moment, by the results of its constructors
 
 -- the error of the month is the error of the date
-pub month_refused : (Y : ℕ) (s : Said) (e : ComponentRange) → Constructs (month_refusal s.month) (λ m. month_number m ≡ s.month) (Err e)
+pub month_refused : (Y : ℕ) (s : MomentNumbers) (e : ComponentRange) → Constructs (month_refusal s.month) (λ m. month_number m ≡ s.month) (Err e)
     → Constructs (date_refusal Y s) (HasDate s) (Err e)
 month_refused Y s e h = rw (Constructs-Err (month_refusal s.month) (λ m. month_number m ≡ s.month) e h) refl
 
-parts_said : (s : Said) (m : Month) (o : Option Refusal) (r : Result Date ComponentRange) → month_number m ≡ s.month
+parts_said : (s : MomentNumbers) (m : Month) (o : Option Refusal) (r : Result Date ComponentRange) → month_number m ≡ s.month
     → Constructs o (Dates.HasParts (pos s.year) m s.day) r → Constructs o (HasDate s) r
 parts_said s m None (Ok v) is h = record { year = h.0; month = ap month_number h.1 ∙ is; day = h.2 }
 parts_said s m None (Err e) is h = h
@@ -48,7 +48,7 @@ parts_said s m (Some f) (Ok v) is h = h
 parts_said s m (Some f) (Err e) is h = h
 
 -- the date that is made from the month of that number has the numbers' year, month and day
-pub date_made : (Y : ℕ) (s : Said) (y : ℤ) (m : Month) (r : Result Date ComponentRange) → y ≡ pos s.year
+pub date_made : (Y : ℕ) (s : MomentNumbers) (y : ℤ) (m : Month) (r : Result Date ComponentRange) → y ≡ pos s.year
     → Constructs (month_refusal s.month) (λ m. month_number m ≡ s.month) (Ok m)
     → Constructs (calendar_date_refusal Y y (month_number m) s.day) (Dates.HasParts y m s.day) r
     → Constructs (date_refusal Y s) (HasDate s) r
@@ -59,30 +59,30 @@ date_made Y s y m r year month made =
     rw h.0 (parts_said s m (refusal s.month) r h.1 (subst (λ n. Constructs (refusal n) (Dates.HasParts (pos s.year) m s.day) r) h.1 parts))
 
 -- the error of the first rejected part is the error of the moment
-pub date_first : (Y : ℕ) (s : Said) (e : ComponentRange) → Constructs (date_refusal Y s) (HasDate s) (Err e)
+pub date_first : (Y : ℕ) (s : MomentNumbers) (e : ComponentRange) → Constructs (date_refusal Y s) (HasDate s) (Err e)
     → first_refusal Y s ≡ Some (refusal_of_range e)
 date_first Y s e date = rw (Constructs-Err (date_refusal Y s) (HasDate s) e date) refl
 
-pub clock_first : (Y : ℕ) (s : Said) (d : Date) (e : ComponentRange) → Constructs (date_refusal Y s) (HasDate s) (Ok d)
-    → Constructs (time_refusal s.hour s.minute (shown_second s) (shown_nanosecond s))
-    (HasClock s.hour s.minute (shown_second s) (shown_nanosecond s)) (Err e)
+pub clock_first : (Y : ℕ) (s : MomentNumbers) (d : Date) (e : ComponentRange) → Constructs (date_refusal Y s) (HasDate s) (Ok d)
+    → Constructs (time_refusal s.hour s.minute (moment_second s) (moment_nanosecond s))
+    (HasClock s.hour s.minute (moment_second s) (moment_nanosecond s)) (Err e)
     → first_refusal Y s ≡ Some (refusal_of_range e)
 clock_first Y s d e date clock =
-    let second = shown_second s in
-    let nanosecond = shown_nanosecond s in
+    let second = moment_second s in
+    let nanosecond = moment_nanosecond s in
     rw (
       (Constructs-Ok (date_refusal Y s) (HasDate s) d date).0,
       Constructs-Err (time_refusal s.hour s.minute second nanosecond) (HasClock s.hour s.minute second nanosecond) e clock,
     ) refl
 
-pub offset_first : (Y : ℕ) (s : Said) (d : Date) (t : Time) (e : ComponentRange) → Constructs (date_refusal Y s) (HasDate s) (Ok d)
-    → Constructs (time_refusal s.hour s.minute (shown_second s) (shown_nanosecond s))
-    (HasClock s.hour s.minute (shown_second s) (shown_nanosecond s)) (Ok t)
+pub offset_first : (Y : ℕ) (s : MomentNumbers) (d : Date) (t : Time) (e : ComponentRange) → Constructs (date_refusal Y s) (HasDate s) (Ok d)
+    → Constructs (time_refusal s.hour s.minute (moment_second s) (moment_nanosecond s))
+    (HasClock s.hour s.minute (moment_second s) (moment_nanosecond s)) (Ok t)
     → Constructs (offset_refusal s.offset_hour s.offset_minute (pos 0)) (HasOffset s.offset_hour s.offset_minute (pos 0)) (Err e)
     → first_refusal Y s ≡ Some (refusal_of_range e)
 offset_first Y s d t e date clock offset =
-    let second = shown_second s in
-    let nanosecond = shown_nanosecond s in
+    let second = moment_second s in
+    let nanosecond = moment_nanosecond s in
     let hours = s.offset_hour in
     let minutes = s.offset_minute in
     rw (
@@ -92,17 +92,17 @@ offset_first Y s d t e date clock offset =
     ) refl
 
 -- a moment of accepted parts is the moment of the numbers
-pub of_parts : (Y : ℕ) (s : Said) (d : Date) (t : Time) (o : UtcOffset) (v : OffsetDateTime)
+pub of_parts : (Y : ℕ) (s : MomentNumbers) (d : Date) (t : Time) (o : UtcOffset) (v : OffsetDateTime)
     → offset_date v ≡ d → offset_time v ≡ t → offset_of v ≡ o
     → Constructs (date_refusal Y s) (HasDate s) (Ok d)
-    → Constructs (time_refusal s.hour s.minute (shown_second s) (shown_nanosecond s))
-    (HasClock s.hour s.minute (shown_second s) (shown_nanosecond s)) (Ok t)
+    → Constructs (time_refusal s.hour s.minute (moment_second s) (moment_nanosecond s))
+    (HasClock s.hour s.minute (moment_second s) (moment_nanosecond s)) (Ok t)
     → Constructs (offset_refusal s.offset_hour s.offset_minute (pos 0)) (HasOffset s.offset_hour s.offset_minute (pos 0))
     (Ok o)
     → (first_refusal Y s ≡ None) × IsMoment s v
 of_parts Y s d t o v is_date is_time is_offset date clock offset =
-    let second = shown_second s in
-    let nanosecond = shown_nanosecond s in
+    let second = moment_second s in
+    let nanosecond = moment_nanosecond s in
     let hours = s.offset_hour in
     let minutes = s.offset_minute in
     let has_date = Constructs-Ok (date_refusal Y s) (HasDate s) d date in
@@ -118,7 +118,7 @@ of_parts Y s d t o v is_date is_time is_offset date clock offset =
 
 -- the result after all places match and the last place's range is kept
 pub after : {P N : Type 0} (form : Form N) (fails : List ℕ → P → Type 0) (fault : P → Refusal) (last : N → Option Refusal)
-    (says : N → Said) (Y : ℕ) (bytes rest : List ℕ) (n : N) (result : Result OffsetDateTime Parse)
+    (says : N → MomentNumbers) (Y : ℕ) (bytes rest : List ℕ) (n : N) (result : Result OffsetDateTime Parse)
     → form bytes rest n → last n ≡ None
     → MatchResult result (λ v. (rest ≡ []) × IsMade Y (says n) v)
     (λ e. IsRefusedAfter Y None (says n) rest (refusal_of e))
@@ -136,8 +136,8 @@ pub minute_past : (n : Numbers) → 59 < n.offset_minute → minute_refusal n �
 minute_past n h = rw (lt-leb n.offset_minute 59 h) refl
 
 -- the error of a leap second where none may be
-pub not_made : (Y : ℕ) (s : Said) (v : OffsetDateTime) (b : Bool) → (first_refusal Y s ≡ None) × IsMoment s v
-    → (IsTrue b ↔ LeapSecondMayStand Y s v) → b ≡ false → IsNotMade Y s (range (codes "second") true)
+pub not_made : (Y : ℕ) (s : MomentNumbers) (v : OffsetDateTime) (b : Bool) → (first_refusal Y s ≡ None) × IsMoment s v
+    → (IsTrue b ↔ IsLeapSecondValid Y s v) → b ≡ false → IsNotMade Y s (range (codes "second") true)
 not_made Y s v b shown tells is =
     inr (shown.0, refl, (v, shown.1, λ stands. let h : false ≡ true = sym is ∙ tells.1 stands in cc))
 
@@ -159,7 +159,7 @@ minute_alone : (check_ranges : Bool) (sign : Option Sign) (n m : MailNumbers) (t
 minute_alone check_ranges None n m text after a = a.1 ∙ ap (λ x. record n { offset_minute = x.offset_minute }) (sym a.1)
 minute_alone check_ranges (Some sign) n m text after a = a.2 ∙ ap (λ x. record n { offset_minute = x.offset_minute }) (sym a.2)
 
-pub alone : (check_ranges : Bool) → Alone (Asks check_ranges) with_place
+pub alone : (check_ranges : Bool) → Alone (PlaceSyntax check_ranges) with_place
 alone check_ranges WeekdayName n m text after a = a.2 ∙ ap (λ x. record n { weekday = x.weekday }) (sym a.2)
 alone check_ranges Day n m text after a = a.3 ∙ ap (λ x. record n { day = x.day }) (sym a.3)
 alone check_ranges DayBlanks n m text after a = a.1
@@ -229,11 +229,11 @@ pub record InPlaces (check_ranges : Bool) (n : MailNumbers) : Type 0 where
 
 -- a property of a place's number holds of that number of the whole text
 told : {X : Type 0} (f : MailNumbers → X) (Q : X → Type 0) (check_ranges : Bool) (before : List Place) (p : Place) (after : List Place)
-    (n : MailNumbers) (bytes rest : List ℕ) → Stand (Asks check_ranges) (before ++ p ∷ after) nothing_read bytes rest n
+    (n : MailNumbers) (bytes rest : List ℕ) → MatchesPlaces (PlaceSyntax check_ranges) (before ++ p ∷ after) nothing_read bytes rest n
     → Ignores with_place f before → Ignores with_place f after
-    → ((j k : MailNumbers) (text mid : List ℕ) → f j ≡ f nothing_read → Asks check_ranges p j text mid k → Q (f k)) → Q (f n)
+    → ((j k : MailNumbers) (text mid : List ℕ) → f j ≡ f nothing_read → PlaceSyntax check_ranges p j text mid k → Q (f k)) → Q (f n)
 told f Q check_ranges before p after n bytes rest s =
-    said (Asks check_ranges) with_place f Q (alone check_ranges) before p after nothing_read n bytes rest s
+    said (PlaceSyntax check_ranges) with_place f Q (alone check_ranges) before p after nothing_read n bytes rest s
 
 -- the numbers of a text are in the ranges of their places
 pub HasForm-in_places : (check_ranges : Bool) (bytes rest : List ℕ) (n : MailNumbers) → HasForm check_ranges bytes rest n → InPlaces check_ranges n
@@ -276,7 +276,7 @@ zone_said check_ranges (Some s) j k text mid sign start a none =
 pub HasForm-zone : (check_ranges : Bool) (bytes rest : List ℕ) (n : MailNumbers) → HasForm check_ranges bytes rest n
     → n.offset_sign ≡ None → n.offset_minute ≡ pos 0
 HasForm-zone check_ranges bytes rest n s =
-    said_after (Asks check_ranges) with_place (λ x. x.offset_minute) (λ x. (x.offset_sign, x.offset_minute))
+    said_after (PlaceSyntax check_ranges) with_place (λ x. x.offset_minute) (λ x. (x.offset_sign, x.offset_minute))
     (λ (x : Option Sign × ℤ). x.0 ≡ None → x.1 ≡ pos 0) (alone check_ranges) (take 13 places) OffsetMinute (drop 14 places)
     nothing_read n bytes rest s (search rules) (search rules)
     (λ j k text mid start a. zone_said check_ranges j.offset_sign j k text mid refl start a)

@@ -16,7 +16,7 @@ use Rattle.time_components.proofs.OneSpelling.{one_spelling}
 use Rattle.time_readers.specs.IsoTimes.{IsFloor, IsRounded, floor_of, round_of}
 use Rattle.time_readers.specs.Readers.{Reader, IsRead}
 use Rattle.time_readers.specs.MailBlanks.{opt_cfws, opt_cfws_colon_opt_cfws, cfws, zone_literal}
-use Rattle.time_readers.specs.Rfc2822.{Asks, year_blanks, IsShortWeekday, IsWeekdayPart, IsYear, IsSecond, IsZone, IsSignedHour, IsOffsetMinute, year_of_two}
+use Rattle.time_readers.specs.Rfc2822.{PlaceSyntax, year_blanks, IsShortWeekday, IsWeekdayPart, IsYear, IsSecond, IsZone, IsSignedHour, IsOffsetMinute, year_of_two}
 use Rattle.time_readers.specs.declared.rfc2822.Numbers.{Numbers}
 use Rattle.time_readers.specs.declared.rfc2822.Place.{Place}
 use Rattle.time_readers.specs.declared.rfc2822.Place.TheVariants.{WeekdayName, Day, DayBlanks, MonthName, MonthBlanks, Year, YearBlanks, Hour, HourColon, Minute, Second, TimeBlanks, OffsetHour, OffsetMinute, EndBlanks}
@@ -268,7 +268,7 @@ minute_one check_ranges None n a b x y m k p q e = (ap (λ t. t ++ x) (sym p.0) 
 minute_one check_ranges (Some s) n a b x y m k p q e =
     run_says 2 2 (λ v. record n { offset_minute = signed_by (is_negative s) (pos v) }) a b x y p.0 q.0 m k p.1.0 q.1.0 e p.2 q.2
 
-asks_one : (check_ranges : Bool) (p : Place) (n : Numbers) (a b x y : List ℕ) (m k : Numbers) → Asks check_ranges p n a x m → Asks check_ranges p n b y k
+asks_one : (check_ranges : Bool) (p : Place) (n : Numbers) (a b x y : List ℕ) (m k : Numbers) → PlaceSyntax check_ranges p n a x m → PlaceSyntax check_ranges p n b y k
     → a ++ x ≡ b ++ y
     → (x ≡ y) × (m ≡ k)
 asks_one check_ranges WeekdayName n a b x y m k p q e =
@@ -294,5 +294,5 @@ asks_one check_ranges OffsetMinute n a b x y m k p q e = minute_one check_ranges
 asks_one check_ranges EndBlanks n a b x y m k p q e = blanks_one opt_cfws n a b x y m k p q e
 
 -- each place of a mail date matches at most one prefix
-pub MailAsks-unique : (check_ranges : Bool) → AtMostOneEach (Asks check_ranges)
+pub MailAsks-unique : (check_ranges : Bool) → AtMostOneEach (PlaceSyntax check_ranges)
 MailAsks-unique check_ranges p n input x y m k s t = asks_one check_ranges p n s.0 t.0 x y m k s.2 t.2 (sym s.1 ∙ t.1)

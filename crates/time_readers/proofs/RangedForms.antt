@@ -3,11 +3,11 @@ use Rattle.std.proofs.Common.{◌≡◌, ◌≢◌, ℕ, ◌≤◌, List, [], �
 use Rattle.time_digits.specs.Digits.{IsDigitRun}
 use Rattle.time_digits.proofs.Runs.{IsDigitRun-below}
 use Rattle.time_digits.proofs.Fractions.{fraction_nanoseconds-below}
-use Rattle.time_readers.specs.Readers.{Stand, IsWithin}
+use Rattle.time_readers.specs.Readers.{MatchesPlaces, IsWithin}
 use Rattle.time_readers.specs.declared.rfc3339.Numbers.{Numbers}
 use Rattle.time_readers.specs.declared.rfc3339.Place.{Place}
 use Rattle.time_readers.specs.declared.rfc3339.Place.TheVariants.{Year, YearDash, Month, MonthDash, Day, Separator, Hour, HourColon, Minute, MinuteColon, Second, Subsecond, OffsetHour, OffsetColon, OffsetMinute}
-use Rattle.time_readers.specs.Rfc3339.{Asks, HasForm, IsSubsecond, IsOffsetMinute, places, nothing_read, InRanges}
+use Rattle.time_readers.specs.Rfc3339.{PlaceSyntax, HasForm, IsSubsecond, IsOffsetMinute, places, nothing_read, InRanges}
 use Rattle.time_readers.specs.Laws.{RangedForms}
 use Rattle.time_readers.proofs.Walking.{Alone, Ignores, said, Back, along, back_by}
 
@@ -32,7 +32,7 @@ minute_alone check_ranges true n m text after a = a.1 ∙ ap (λ x. record n { o
 minute_alone check_ranges false n m text after a = a.2 ∙ ap (λ x. record n { offset_minute = x.offset_minute }) (sym a.2)
 
 -- a place sets only its own number
-pub alone : (check_ranges : Bool) → Alone (Asks check_ranges) with_place
+pub alone : (check_ranges : Bool) → Alone (PlaceSyntax check_ranges) with_place
 alone check_ranges Year n m text after a = a.2 ∙ ap (λ x. record n { year = x.year }) (sym a.2)
 alone check_ranges YearDash n m text after a = a.1
 alone check_ranges Month n m text after a = a.3 ∙ ap (λ x. record n { month = x.month }) (sym a.3)
@@ -54,11 +54,11 @@ alone check_ranges OffsetMinute n m text after a = minute_alone check_ranges n.i
 
 -- a property of a place's number holds of that number of the whole text
 told : {X : Type 0} (f : Numbers → X) (Q : X → Type 0) (check_ranges : Bool) (before : List Place) (p : Place) (after : List Place)
-    (n : Numbers) (bytes rest : List ℕ) → Stand (Asks check_ranges) (before ++ p ∷ after) nothing_read bytes rest n
+    (n : Numbers) (bytes rest : List ℕ) → MatchesPlaces (PlaceSyntax check_ranges) (before ++ p ∷ after) nothing_read bytes rest n
     → Ignores with_place f before → Ignores with_place f after
-    → ((j k : Numbers) (text mid : List ℕ) → f j ≡ f nothing_read → Asks check_ranges p j text mid k → Q (f k)) → Q (f n)
+    → ((j k : Numbers) (text mid : List ℕ) → f j ≡ f nothing_read → PlaceSyntax check_ranges p j text mid k → Q (f k)) → Q (f n)
 told f Q check_ranges before p after n bytes rest s =
-    said (Asks check_ranges) with_place f Q (alone check_ranges) before p after nothing_read n bytes rest s
+    said (PlaceSyntax check_ranges) with_place f Q (alone check_ranges) before p after nothing_read n bytes rest s
 
 year_within : (text after : List ℕ) (v : ℕ) → IsDigitRun 4 4 text after v → v ≤ 9999
 year_within text after v run = omega (arith, IsDigitRun-below 4 4 text after v run)
@@ -139,7 +139,7 @@ minute true n m text ranged_after i a = a
 minute false n m text ranged_after i a = (a.0, (a.1.0, subst (IsWithin true 0 59) (ap (λ x. x.offset_minute) a.2) i), a.2)
 
 -- a text of a place without range checks matches with them, if its number is in range
-ranged_check_ranges : (p : Place) (n m : Numbers) (text ranged_after : List ℕ) → In p m → Asks false p n text ranged_after m → Asks true p n text ranged_after m
+ranged_check_ranges : (p : Place) (n m : Numbers) (text ranged_after : List ℕ) → In p m → PlaceSyntax false p n text ranged_after m → PlaceSyntax true p n text ranged_after m
 ranged_check_ranges Year n m text ranged_after i a = a
 ranged_check_ranges YearDash n m text ranged_after i a = a
 ranged_check_ranges Month n m text ranged_after i a = (a.0, (a.1.0, subst (IsWithin true 1 12) (ap (λ x. x.month) a.3) i), a.2, a.3)
@@ -162,7 +162,7 @@ any_minute true n m text ranged_after a = a
 any_minute false n m text ranged_after a = (a.0, (a.1.0, tt), a.2)
 
 -- a text of a place with range checks matches without them
-formed : (p : Place) (n m : Numbers) (text ranged_after : List ℕ) → Asks true p n text ranged_after m → Asks false p n text ranged_after m
+formed : (p : Place) (n m : Numbers) (text ranged_after : List ℕ) → PlaceSyntax true p n text ranged_after m → PlaceSyntax false p n text ranged_after m
 formed Year n m text ranged_after a = a
 formed YearDash n m text ranged_after a = a
 formed Month n m text ranged_after a = (a.0, (a.1.0, tt), a.2, a.3)
@@ -181,10 +181,10 @@ formed OffsetMinute n m text ranged_after a = any_minute n.is_utc n m text range
 
 -- the places after a place don't change its number
 ranged_after : {X : Type 0} (f : Numbers → X) (Q : X → Type 0) (ps : List Place) → Ignores with_place f ps
-    → (k m : Numbers) (bytes rest : List ℕ) → Stand (Asks false) ps k bytes rest m → Q (f m) → Q (f k)
-ranged_after f Q = back_by (Asks false) with_place f Q (alone false)
+    → (k m : Numbers) (bytes rest : List ℕ) → MatchesPlaces (PlaceSyntax false) ps k bytes rest m → Q (f m) → Q (f k)
+ranged_after f Q = back_by (PlaceSyntax false) with_place f Q (alone false)
 
-back : Back (Asks false) In places
+back : Back (PlaceSyntax false) In places
 back = (
   λ k m b r s i. tt,
   (
@@ -229,7 +229,7 @@ back = (
   ),
 )
 
-all_back : (ps : List Place) → Back (Asks true) (λ p n. Unit {0}) ps
+all_back : (ps : List Place) → Back (PlaceSyntax true) (λ p n. Unit {0}) ps
 all_back [] = tt
 all_back (p ∷ ps) = (λ k m b r s i. tt, all_back ps)
 
@@ -258,9 +258,9 @@ in_ranges bytes rest n s =
 pub ranged_forms : RangedForms (HasForm true) (HasForm false) InRanges
 ranged_forms bytes rest n = (
   λ s. (
-    along (Asks true) (Asks false) (λ p m. Unit {0}) (λ p m k text ranged_after i a. formed p m k text ranged_after a) places
+    along (PlaceSyntax true) (PlaceSyntax false) (λ p m. Unit {0}) (λ p m k text ranged_after i a. formed p m k text ranged_after a) places
         nothing_read n bytes rest (all_back places) (λ p. tt) s,
     in_ranges bytes rest n s,
   ),
-  λ s. along (Asks false) (Asks true) In ranged_check_ranges places nothing_read n bytes rest back (in_place n s.1) s.0,
+  λ s. along (PlaceSyntax false) (PlaceSyntax true) In ranged_check_ranges places nothing_read n bytes rest back (in_place n s.1) s.0,
 )

@@ -3,8 +3,8 @@ use Rattle.std.proofs.Common.{◌⊎◌, ℕ, List, [], ◌∷◌, ap, drop, sub
 use Rattle.time_values.specs.Sign.{signed_by}
 use Rattle.time_digits.specs.Digits.{is_negative}
 use Rattle.time_readers.specs.Laws.{RangedForms}
-use Rattle.time_readers.specs.Readers.{Stand, IsWithin}
-use Rattle.time_readers.specs.Rfc2822.{Asks, HasForm, InRanges, IsSecond, IsZone, IsSignedHour, IsOffsetMinute, places, nothing_read}
+use Rattle.time_readers.specs.Readers.{MatchesPlaces, IsWithin}
+use Rattle.time_readers.specs.Rfc2822.{PlaceSyntax, HasForm, InRanges, IsSecond, IsZone, IsSignedHour, IsOffsetMinute, places, nothing_read}
 use Rattle.time_digits.specs.declared.Sign.{Sign}
 use Rattle.time_readers.specs.declared.rfc2822.Numbers.{Numbers}
 use Rattle.time_readers.specs.declared.rfc2822.Place.{Place}
@@ -53,7 +53,7 @@ minute (Some s) n m text after i a =
     (a.0, (a.1.0, unsigned 59 (is_negative s) a.0 within), a.2)
 
 -- a text of a place without range checks matches with them, if its number is in range
-check_ranges : (p : Place) (n m : Numbers) (text after : List ℕ) → In p m → Asks false p n text after m → Asks true p n text after m
+check_ranges : (p : Place) (n m : Numbers) (text after : List ℕ) → In p m → PlaceSyntax false p n text after m → PlaceSyntax true p n text after m
 check_ranges WeekdayName n m text after i a = a
 check_ranges Day n m text after i a = (a.0, a.1, subst (IsWithin true 1 31) (ap (λ x. x.day) a.3) i, a.3)
 check_ranges DayBlanks n m text after i a = a
@@ -94,7 +94,7 @@ any_minute None n m text after a = a
 any_minute (Some s) n m text after a = (a.0, (a.1.0, tt), a.2)
 
 -- a text of a place with range checks matches without them
-formed : (p : Place) (n m : Numbers) (text after : List ℕ) → Asks true p n text after m → Asks false p n text after m
+formed : (p : Place) (n m : Numbers) (text after : List ℕ) → PlaceSyntax true p n text after m → PlaceSyntax false p n text after m
 formed WeekdayName n m text after a = a
 formed Day n m text after a = (a.0, a.1, tt, a.3)
 formed DayBlanks n m text after a = a
@@ -113,10 +113,10 @@ formed EndBlanks n m text after a = a
 
 -- the places after a place don't change its number
 after : {X : Type 0} (f : Numbers → X) (Q : X → Type 0) (ps : List Place) → Ignores with_place f ps
-    → (k m : Numbers) (bytes rest : List ℕ) → Stand (Asks false) ps k bytes rest m → Q (f m) → Q (f k)
-after f Q = back_by (Asks false) with_place f Q (alone false)
+    → (k m : Numbers) (bytes rest : List ℕ) → MatchesPlaces (PlaceSyntax false) ps k bytes rest m → Q (f m) → Q (f k)
+after f Q = back_by (PlaceSyntax false) with_place f Q (alone false)
 
-back : Back (Asks false) In places
+back : Back (PlaceSyntax false) In places
 back = (
   λ k m b r s i. tt,
   (
@@ -161,7 +161,7 @@ back = (
   ),
 )
 
-all_back : (ps : List Place) → Back (Asks true) (λ p n. Unit {0}) ps
+all_back : (ps : List Place) → Back (PlaceSyntax true) (λ p n. Unit {0}) ps
 all_back [] = tt
 all_back (p ∷ ps) = (λ k m b r s i. tt, all_back ps)
 
@@ -197,9 +197,9 @@ in_ranges bytes rest n s =
 pub ranged_mail : RangedForms (HasForm true) (HasForm false) InRanges
 ranged_mail bytes rest n = (
   λ s. (
-    along (Asks true) (Asks false) (λ p m. Unit {0}) (λ p m k text after i a. formed p m k text after a) places
+    along (PlaceSyntax true) (PlaceSyntax false) (λ p m. Unit {0}) (λ p m k text after i a. formed p m k text after a) places
         nothing_read n bytes rest (all_back places) (λ p. tt) s,
     in_ranges bytes rest n s,
   ),
-  λ s. along (Asks false) (Asks true) In check_ranges places nothing_read n bytes rest back (in_place n s.1) s.0,
+  λ s. along (PlaceSyntax false) (PlaceSyntax true) In check_ranges places nothing_read n bytes rest back (in_place n s.1) s.0,
 )

@@ -9,12 +9,12 @@ use Rattle.time_digits.specs.declared.Sign.TheVariants.{Negative, Positive}
 use Rattle.time_digits.proofs.Runs.{run_says, IsDigitRun-unique, AllDigits-unique}
 use Rattle.time_components.proofs.NameLemmas.{same_front}
 use Rattle.time_components.proofs.NumberLemmas.{sign_byte-one}
-use Rattle.time_readers.specs.Laws.{OneForm, Takes}
-use Rattle.time_readers.specs.Readers.{Stand, StopsAt, Format, Reader, one_of, ◌then◌, ◌or◌, repeat, zero_or_more}
+use Rattle.time_readers.specs.Laws.{OneForm, Consumes}
+use Rattle.time_readers.specs.Readers.{MatchesPlaces, StopsAt, Format, Reader, one_of, ◌then◌, ◌or◌, repeat, zero_or_more}
 use Rattle.time_readers.specs.declared.rfc3339.Numbers.{Numbers}
 use Rattle.time_readers.specs.declared.rfc3339.Place.{Place}
 use Rattle.time_readers.specs.declared.rfc3339.Place.TheVariants.{Year, YearDash, Month, MonthDash, Day, Separator, Hour, HourColon, Minute, MinuteColon, Second, Subsecond, OffsetHour, OffsetColon, OffsetMinute}
-use Rattle.time_readers.specs.Rfc3339.{Asks, IsSubsecond, NoDotFirst, IsZulu, IsSignedHour, IsOffsetColon, IsOffsetMinute}
+use Rattle.time_readers.specs.Rfc3339.{PlaceSyntax, IsSubsecond, NoDotFirst, IsZulu, IsSignedHour, IsOffsetColon, IsOffsetMinute}
 
 -- ---- Places have one parse or one first mismatch, if each place matches at most one prefix
 
@@ -22,22 +22,22 @@ use Rattle.time_readers.specs.Rfc3339.{Asks, IsSubsecond, NoDotFirst, IsZulu, Is
 abbrev pub AtMostOneEach : {P N : Type 0} → Format P N → Type 0
 AtMostOneEach {P} {N} A = (p : P) (n : N) → AtMostOneCut (A p n)
 
-Stand-unique : {P N : Type 0} (A : Format P N) → AtMostOneEach A → (ps : List P) (n m k : N) (bytes x y : List ℕ)
-    → Stand A ps n bytes x m → Stand A ps n bytes y k → (x ≡ y) × (m ≡ k)
-unfolding Stand
-Stand-unique A one [] n m k bytes x y s t = (s.0 ∙ sym t.0, s.1 ∙ sym t.1)
-Stand-unique A one (p ∷ ps) n m k bytes x y s t =
+MatchesPlaces-unique : {P N : Type 0} (A : Format P N) → AtMostOneEach A → (ps : List P) (n m k : N) (bytes x y : List ℕ)
+    → MatchesPlaces A ps n bytes x m → MatchesPlaces A ps n bytes y k → (x ≡ y) × (m ≡ k)
+unfolding MatchesPlaces
+MatchesPlaces-unique A one [] n m k bytes x y s t = (s.0 ∙ sym t.0, s.1 ∙ sym t.1)
+MatchesPlaces-unique A one (p ∷ ps) n m k bytes x y s t =
     let first = one p n bytes s.0 t.0 s.1 t.1 s.2 t.2 in
-    Stand-unique A one ps t.1 m k t.0 x y (subst (λ j. Stand A ps j t.0 x m) first.1 (subst (λ b. Stand A ps s.1 b x m) first.0 s.3)) t.3
+    MatchesPlaces-unique A one ps t.1 m k t.0 x y (subst (λ j. MatchesPlaces A ps j t.0 x m) first.1 (subst (λ b. MatchesPlaces A ps s.1 b x m) first.0 s.3)) t.3
 
 -- the first place doesn't match, or it does and one of the others is the first that doesn't
 abbrev pub Stops : {P N : Type 0} → Format P N → List P → N → List ℕ → P → Type 0
 Stops A [] n bytes e = ⊥
 Stops {P} {N} A (p ∷ ps) n bytes e = ((e ≡ p) × NoCut (A p n) bytes) ⊎ ((mid : List ℕ) × (k : N) × Cut (A p n) bytes mid k × Stops A ps k mid e)
 
-stops_at : {P N : Type 0} (A : Format P N) (before after : List P) (n k : N) (bytes mid : List ℕ) (e : P) → Stand A before n bytes mid k
+stops_at : {P N : Type 0} (A : Format P N) (before after : List P) (n k : N) (bytes mid : List ℕ) (e : P) → MatchesPlaces A before n bytes mid k
     → NoCut (A e k) mid → Stops A (before ++ e ∷ after) n bytes e
-unfolding Stand
+unfolding MatchesPlaces
 stops_at A [] after n k bytes mid e s none = inl (refl, subst (λ b. NoCut (A e n) b) s.0 (subst (λ j. NoCut (A e j) mid) s.1 none))
 stops_at A (p ∷ before) after n k bytes mid e s none = inr (s.0, s.1, s.2, stops_at A before after s.1 k s.0 mid e s.3 none)
 
@@ -45,14 +45,14 @@ StopsAt-stops : {P N : Type 0} (A : Format P N) (ps : List P) (n : N) (bytes : L
 StopsAt-stops A ps n bytes e w = subst (λ qs. Stops A qs n bytes e) (sym w.place) (stops_at A w.before w.after n w.numbers bytes w.mid e w.stand w.stops)
 
 Stops-none : {P N : Type 0} (A : Format P N) → AtMostOneEach A → (ps : List P) (n m : N) (bytes rest : List ℕ) (e : P)
-    → Stand A ps n bytes rest m → Stops A ps n bytes e → ⊥
-unfolding Stand
+    → MatchesPlaces A ps n bytes rest m → Stops A ps n bytes e → ⊥
+unfolding MatchesPlaces
 Stops-none A one [] n m bytes rest e s stops = stops
 Stops-none A one (p ∷ ps) n m bytes rest e s (inl here) = here.1 s.2.0 s.0 s.1 s.2.1 s.2.2
 Stops-none A one (p ∷ ps) n m bytes rest e s (inr later) =
     let first = one p n bytes s.0 later.0 s.1 later.1 s.2 later.2 in
     Stops-none A one ps later.1 m later.0 rest e
-    (subst (λ j. Stand A ps j later.0 rest m) first.1 (subst (λ b. Stand A ps s.1 b rest m) first.0 s.3)) later.3
+    (subst (λ j. MatchesPlaces A ps j later.0 rest m) first.1 (subst (λ b. MatchesPlaces A ps s.1 b rest m) first.0 s.3)) later.3
 
 Stops-unique : {P N : Type 0} (A : Format P N) → AtMostOneEach A → (ps : List P) (n : N) (bytes : List ℕ) (d e : P)
     → Stops A ps n bytes d → Stops A ps n bytes e → d ≡ e
@@ -67,7 +67,7 @@ Stops-unique A one (p ∷ ps) n bytes d e (inr s) (inr t) =
 -- places match bytes in one way, or there is one first place that doesn't match
 pub one_form : {P N : Type 0} (A : Format P N) → AtMostOneEach A → (ps : List P) (n : N) (bytes : List ℕ) → OneForm A ps n bytes
 one_form A one ps n bytes = record {
-  one_reading = λ x y m k s t. Stand-unique A one ps n m k bytes x y s t;
+  one_reading = λ x y m k s t. MatchesPlaces-unique A one ps n m k bytes x y s t;
   one_place = λ p q s t. Stops-unique A one ps n bytes p q (StopsAt-stops A ps n bytes p s) (StopsAt-stops A ps n bytes q t);
   never_both = λ x m p s t. Stops-none A one ps n m bytes x p s (StopsAt-stops A ps n bytes p t);
 }
@@ -125,7 +125,7 @@ minute_one : (check_ranges utc : Bool) (n : Numbers) (a b x y : List ℕ) (m k :
 minute_one check_ranges true n a b x y m k p q e = ((same_front a b x y (ap length (p.0 ∙ sym q.0)) e).1, p.1 ∙ sym q.1)
 minute_one check_ranges false n a b x y m k p q e = run_says 2 2 (λ v. record n { offset_minute = v }) a b x y p.0 q.0 m k p.1.0 q.1.0 e p.2 q.2
 
-asks_one : (check_ranges : Bool) (p : Place) (n : Numbers) (a b x y : List ℕ) (m k : Numbers) → Asks check_ranges p n a x m → Asks check_ranges p n b y k
+asks_one : (check_ranges : Bool) (p : Place) (n : Numbers) (a b x y : List ℕ) (m k : Numbers) → PlaceSyntax check_ranges p n a x m → PlaceSyntax check_ranges p n b y k
     → a ++ x ≡ b ++ y → (x ≡ y) × (m ≡ k)
 asks_one check_ranges Year n a b x y m k p q e = run_says 4 4 (λ v. record n { year = v }) a b x y p.0 q.0 m k p.1 q.1 e p.2 q.2
 asks_one check_ranges YearDash n a b x y m k p q e = ((same_front a b x y (ap length (p.0 ∙ sym q.0)) e).1, p.1 ∙ sym q.1)
@@ -146,27 +146,27 @@ asks_one check_ranges OffsetColon n a b x y m k p q e = ((same_front a b x y (ap
 asks_one check_ranges OffsetMinute n a b x y m k p q e = minute_one check_ranges n.is_utc n a b x y m k p q e
 
 -- each place of RFC 3339 matches at most one prefix
-pub Asks-unique : (check_ranges : Bool) → AtMostOneEach (Asks check_ranges)
-Asks-unique check_ranges p n input x y m k s t = asks_one check_ranges p n s.0 t.0 x y m k s.2 t.2 (sym s.1 ∙ t.1)
+pub PlaceSyntax-unique : (check_ranges : Bool) → AtMostOneEach (PlaceSyntax check_ranges)
+PlaceSyntax-unique check_ranges p n input x y m k s t = asks_one check_ranges p n s.0 t.0 x y m k s.2 t.2 (sym s.1 ∙ t.1)
 
 -- the input is the text that the reader consumes and its rest
 abbrev pub Leaves : Reader → Type 0
 Leaves p = (s r : List ℕ) → p s ≡ Some r → (text : List ℕ) × (s ≡ text ++ r)
 
-pub takes-shorter : (p : Reader) → Takes p → (s r : List ℕ) → p s ≡ Some r → length r < length s
+pub takes-shorter : (p : Reader) → Consumes p → (s r : List ℕ) → p s ≡ Some r → length r < length s
 takes-shorter p t s r e =
     let is = t s r e in
     let long = ap length is.2 in
     omega (arith, length-append is.1 r)
 
-pub takes-leaves : (p : Reader) → Takes p → Leaves p
+pub takes-leaves : (p : Reader) → Consumes p → Leaves p
 takes-leaves p t s r e = let is = t s r e in (is.0 ∷ is.1, is.2)
 
 one_of_cut : (b : Bool) (c : ℕ) (s r : List ℕ) → (if b then Some s else None) ≡ Some r → (d : ℕ) × (text : List ℕ) × (c ∷ s ≡ d ∷ (text ++ r))
 one_of_cut true c s r e = (c, [], ap (λ t. c ∷ t) (same_Some s r e))
 one_of_cut false c s r e = absurd (none-some r e)
 
-pub one_of-takes : (test : ℕ → Bool) → Takes (one_of test)
+pub one_of-takes : (test : ℕ → Bool) → Consumes (one_of test)
 one_of-takes test [] r e = absurd (none-some r e)
 one_of-takes test (c ∷ s) r e = one_of_cut (test c) c s r e
 
@@ -178,7 +178,7 @@ then_takes q l s r (Some m) first e =
     let more = l m r e in
     (is.0, is.1 ++ more.0, is.2 ∙ ap (λ t. is.0 ∷ (is.1 ++ t)) more.1 ∙ ap (λ t. is.0 ∷ t) (sym (append_assoc is.1 more.0 r)))
 
-pub then-takes : (p q : Reader) → Takes p → Leaves q → Takes (p then q)
+pub then-takes : (p q : Reader) → Consumes p → Leaves q → Consumes (p then q)
 then-takes p q t l s r e = then_takes q l s r (p s) (t s) e
 
 then_leaves : (q : Reader) → Leaves q → (s r : List ℕ) (o : Option (List ℕ)) → ((m : List ℕ) → o ≡ Some m → (text : List ℕ) × (s ≡ text ++ m))
@@ -197,7 +197,7 @@ or_takes : (s r : List ℕ) (o : Option (List ℕ)) (P : List ℕ → Type 0) (x
 or_takes s r None P x first second e = second r e
 or_takes s r (Some m) P x first second e = first r e
 
-pub or-takes : (p q : Reader) → Takes p → Takes q → Takes (p or q)
+pub or-takes : (p q : Reader) → Consumes p → Consumes q → Consumes (p or q)
 or-takes p q t u s r e = or_takes s r (p s) (λ m. (c : ℕ) × (text : List ℕ) × (s ≡ c ∷ (text ++ m))) (q s) (t s) (u s) e
 
 pub or-leaves : (p q : Reader) → Leaves p → Leaves q → Leaves (p or q)
@@ -206,12 +206,12 @@ or-leaves p q t u s r e = or_takes s r (p s) (λ m. (text : List ℕ) × (s ≡ 
 pub some-leaves : Leaves Some
 some-leaves s r e = ([], same_Some s r e)
 
-repeat_leaves : (cs : List ℕ) (p : Reader) → Takes p → Leaves (repeat cs p)
+repeat_leaves : (cs : List ℕ) (p : Reader) → Consumes p → Leaves (repeat cs p)
 unfolding repeat
 repeat_leaves [] p t = some-leaves
 repeat_leaves (c ∷ cs) p t = or-leaves (p then repeat cs p) Some (then-leaves p (repeat cs p) (takes-leaves p t) (repeat_leaves cs p t)) some-leaves
 
-pub zero_or_more-leaves : (p : Reader) → Takes p → Leaves (zero_or_more p)
+pub zero_or_more-leaves : (p : Reader) → Consumes p → Leaves (zero_or_more p)
 unfolding zero_or_more
 zero_or_more-leaves p t s r e = repeat_leaves s p t s r e
 
@@ -240,7 +240,7 @@ repeat_more c cs p s r e =
     ap (λ o. option_or (option_and_then (repeat cs p) o) (Some s)) e ∙ ap (λ o. option_or o (Some s)) more.1 ∙ sym more.1
 
 -- a reader that consumes bytes can't be repeated more often than there are bytes
-repeat_enough : (p : Reader) → Takes p → (f g s : List ℕ) → length s ≤ length f → length s ≤ length g → repeat f p s ≡ repeat g p s
+repeat_enough : (p : Reader) → Consumes p → (f g s : List ℕ) → length s ≤ length f → length s ≤ length g → repeat f p s ≡ repeat g p s
 repeat_enough p t [] g s h i = elim (none_or_some (p s)) [
   | inl e ↦ repeat_none [] p s e ∙ sym (repeat_none g p s e)
   | inr x ↦ let less = takes-shorter p t s x.0 x.1 in absurd (omega arith)
@@ -262,7 +262,7 @@ unfolding zero_or_more
 zero_or_more-none p s e = repeat_none s p s e
 
 -- a reader that succeeds is repeated on its rest
-pub zero_or_more-more : (p : Reader) → Takes p → (s r : List ℕ) → p s ≡ Some r → zero_or_more p s ≡ zero_or_more p r
+pub zero_or_more-more : (p : Reader) → Consumes p → (s r : List ℕ) → p s ≡ Some r → zero_or_more p s ≡ zero_or_more p r
 unfolding zero_or_more
 zero_or_more-more p t [] r e = let less = takes-shorter p t [] r e in absurd (omega arith)
 zero_or_more-more p t (c ∷ s) r e =

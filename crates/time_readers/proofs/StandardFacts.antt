@@ -231,7 +231,7 @@ colon_in_a_basic_text = refl
 abbrev offset_of : ExtendedKind → List ℕ → Option (List ℕ × OffsetNumbers)
 offset_of kind bytes =
     option_map (λ f. (f.rest, offsets.numbers_of f.value.signed f.value.hour f.value.minute))
-    (first_fitting offsets.stands offsets.nothing_said offsets.offset_rows kind bytes)
+    (first_fitting offsets.stands offsets.no_offset_parts offsets.offset_rows kind bytes)
 
 pub utc : offset_of Basic (codes "Zx") ≡ Some (codes "x", Zulu)
 unfolding digits up_to sign byte

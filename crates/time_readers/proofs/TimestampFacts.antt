@@ -6,32 +6,32 @@ use Rattle.time_digits.specs.declared.Sign.TheVariants.{Negative, Positive}
 use Rattle.time_digits.specs.Digits.{Cut, NoCut, IsDigitRun, digits_value, sign_byte}
 use Rattle.time_digits.proofs.Runs.{IsDigitRun-unique}
 use Rattle.time_digits.proofs.StandardFacts.{no_digit_first}
-use Rattle.time_readers.specs.Readers.{Format, Stand, IsTwoDigits}
-use Rattle.time_readers.specs.Rfc3339.{NoDotFirst, IsSubsecond, Asks, nothing_read, date_places, clock_places, to_second_places, offset_places}
+use Rattle.time_readers.specs.Readers.{Format, MatchesPlaces, IsTwoDigits}
+use Rattle.time_readers.specs.Rfc3339.{NoDotFirst, IsSubsecond, PlaceSyntax, nothing_read, date_places, clock_places, to_second_places, offset_places}
 use Rattle.time_readers.specs.Rfc3339.{places, HasForm, FailsAt}
 use Rattle.time_readers.specs.declared.rfc3339.Numbers.{Numbers}
 use Rattle.time_readers.specs.declared.rfc3339.Place.{Place}
 use Rattle.time_readers.specs.declared.rfc3339.Place.TheVariants.{Year, YearDash, Month, Separator, Hour, Subsecond, OffsetHour, OffsetColon, OffsetMinute}
 use Rattle.time_readers.proofs.ToSecond.{within}
-use Rattle.time_readers.proofs.Walking.{Stand-append}
+use Rattle.time_readers.proofs.Walking.{MatchesPlaces-append}
 
 -- the bytes are the texts of the places and the rest
 pub record Texts {P N : Type 0} (A : Format P N) (ps : List P) (n : N) (bytes rest : List ℕ) (m : N) : Type 0 where
-  pub form : Stand A ps n bytes rest m
+  pub form : MatchesPlaces A ps n bytes rest m
 
 infixr 20 ◌next◌
 -- the text of a place, and then those of the other places
 pub ◌next◌ : {P N : Type 0} {A : Format P N} {p : P} {ps : List P} {n k m : N} {bytes mid rest : List ℕ} → Cut (A p n) bytes mid k
     → Texts A ps k mid rest m → Texts A (p ∷ ps) n bytes rest m
-unfolding Stand
+unfolding MatchesPlaces
 ◌next◌ first others = record { form = (_, _, first, others.form) }
 
 pub done : {P N : Type 0} {A : Format P N} {n : N} {bytes : List ℕ} → Texts A [] n bytes bytes n
-unfolding Stand
+unfolding MatchesPlaces
 done = record { form = (refl, refl) }
 
 pub form_of : {P N : Type 0} {A : Format P N} {ps : List P} {n m : N} {bytes rest : List ℕ} → Texts A ps n bytes rest m
-    → Stand A ps n bytes rest m
+    → MatchesPlaces A ps n bytes rest m
 form_of texts = texts.form
 
 -- ---- Parts of these texts
@@ -42,7 +42,7 @@ dated y m d = record nothing_read { year = y; month = m; day = d }
 abbrev pub at_clock : Numbers → ℕ → ℕ → ℕ → Numbers
 at_clock n h m s = record n { hour = h; minute = m; second = s }
 
-date_2021 : (check : Bool) (after : List ℕ) → Stand (Asks check) date_places nothing_read (codes "2021-01-02" ++ after) after (dated 2021 1 2)
+date_2021 : (check : Bool) (after : List ℕ) → MatchesPlaces (PlaceSyntax check) date_places nothing_read (codes "2021-01-02" ++ after) after (dated 2021 1 2)
 date_2021 check after = form_of (
     (codes "2021", refl, (2021, search rules, refl)) next
     (codes "-", refl, (refl, refl)) next
@@ -50,7 +50,7 @@ date_2021 check after = form_of (
     (codes "-", refl, (refl, refl)) next
     (codes "02", refl, (2, (search rules, within check 1 31 2 (omega arith) (omega arith)), refl)) next done)
 
-clock_030405 : (check : Bool) (n : Numbers) (after : List ℕ) → Stand (Asks check) clock_places n (codes "T03:04:05" ++ after) after (at_clock n 3 4 5)
+clock_030405 : (check : Bool) (n : Numbers) (after : List ℕ) → MatchesPlaces (PlaceSyntax check) clock_places n (codes "T03:04:05" ++ after) after (at_clock n 3 4 5)
 clock_030405 check n after = form_of (
     (codes "T", refl, (refl, refl)) next
     (codes "03", refl, (3, (search rules, within check 0 23 3 (omega arith) (omega arith)), refl)) next
@@ -62,19 +62,19 @@ clock_030405 check n after = form_of (
 abbrev pub front : Numbers
 front = at_clock (dated 2021 1 2) 3 4 5
 
-to_second : (check : Bool) (after : List ℕ) → Stand (Asks check) to_second_places nothing_read (codes "2021-01-02T03:04:05" ++ after) after front
+to_second : (check : Bool) (after : List ℕ) → MatchesPlaces (PlaceSyntax check) to_second_places nothing_read (codes "2021-01-02T03:04:05" ++ after) after front
 to_second check after =
-    Stand-append (Asks check) date_places clock_places nothing_read (dated 2021 1 2) front (codes "2021-01-02T03:04:05" ++ after)
+    MatchesPlaces-append (PlaceSyntax check) date_places clock_places nothing_read (dated 2021 1 2) front (codes "2021-01-02T03:04:05" ++ after)
     (codes "T03:04:05" ++ after) after (date_2021 check (codes "T03:04:05" ++ after)) (clock_030405 check (dated 2021 1 2) after)
 
 -- a text with that front
-pub whole : (check : Bool) (after rest : List ℕ) (m : Numbers) → Stand (Asks check) (Subsecond ∷ offset_places) front after rest m
+pub whole : (check : Bool) (after rest : List ℕ) (m : Numbers) → MatchesPlaces (PlaceSyntax check) (Subsecond ∷ offset_places) front after rest m
     → HasForm check (codes "2021-01-02T03:04:05" ++ after) rest m
 whole check after rest m others =
-    Stand-append (Asks check) to_second_places (Subsecond ∷ offset_places) nothing_read front m (codes "2021-01-02T03:04:05" ++ after)
+    MatchesPlaces-append (PlaceSyntax check) to_second_places (Subsecond ∷ offset_places) nothing_read front m (codes "2021-01-02T03:04:05" ++ after)
     after rest (to_second check after) others
 
-pub utc : (check : Bool) (n : Numbers) (rest : List ℕ) → Stand (Asks check) (Subsecond ∷ offset_places) n (codes "Z" ++ rest) rest
+pub utc : (check : Bool) (n : Numbers) (rest : List ℕ) → MatchesPlaces (PlaceSyntax check) (Subsecond ∷ offset_places) n (codes "Z" ++ rest) rest
     (record n { subsecond = None; is_utc = true })
 utc check n rest = form_of (
     ([], refl, (None, (refl, λ e. omega arith), refl)) next
@@ -144,7 +144,7 @@ minute_60_has_the_form rest = whole false (codes "+05:60" ++ rest) rest past_ran
 abbrev pub midnight : ℕ → ℕ → Numbers
 midnight m d = record (at_clock (dated 2021 m d) 0 0 0) { is_utc = true }
 
-clock_000000 : (n : Numbers) (after : List ℕ) → Stand (Asks false) clock_places n (codes "T00:00:00" ++ after) after (at_clock n 0 0 0)
+clock_000000 : (n : Numbers) (after : List ℕ) → MatchesPlaces (PlaceSyntax false) clock_places n (codes "T00:00:00" ++ after) after (at_clock n 0 0 0)
 clock_000000 n after = form_of (
     (codes "T", refl, (refl, refl)) next
     (codes "00", refl, (0, search rules, refl)) next
@@ -153,7 +153,7 @@ clock_000000 n after = form_of (
     (codes ":", refl, (refl, refl)) next
     (codes "00", refl, (0, search rules, refl)) next done)
 
-date_13 : (after : List ℕ) → Stand (Asks false) date_places nothing_read (codes "2021-13-01" ++ after) after (dated 2021 13 1)
+date_13 : (after : List ℕ) → MatchesPlaces (PlaceSyntax false) date_places nothing_read (codes "2021-13-01" ++ after) after (dated 2021 13 1)
 date_13 after = form_of (
     (codes "2021", refl, (2021, search rules, refl)) next
     (codes "-", refl, (refl, refl)) next
@@ -163,8 +163,8 @@ date_13 after = form_of (
 
 pub month_13_has_the_form : (rest : List ℕ) → HasForm false (codes "2021-13-01T00:00:00Z" ++ rest) rest (midnight 13 1)
 month_13_has_the_form rest =
-    Stand-append (Asks false) date_places _ nothing_read (dated 2021 13 1) (midnight 13 1) _ (codes "T00:00:00Z" ++ rest) rest (date_13 _)
-    (Stand-append (Asks false) clock_places _ (dated 2021 13 1) (at_clock (dated 2021 13 1) 0 0 0) (midnight 13 1) _ (codes "Z" ++ rest) rest
+    MatchesPlaces-append (PlaceSyntax false) date_places _ nothing_read (dated 2021 13 1) (midnight 13 1) _ (codes "T00:00:00Z" ++ rest) rest (date_13 _)
+    (MatchesPlaces-append (PlaceSyntax false) clock_places _ (dated 2021 13 1) (at_clock (dated 2021 13 1) 0 0 0) (midnight 13 1) _ (codes "Z" ++ rest) rest
     (clock_000000 _ _) (utc false _ rest))
 
 -- ---- Texts that don't match, by the first place that doesn't match
@@ -180,7 +180,7 @@ outside least most digits rest v run (inr above) text left w e two =
     omega (arith, two.1, is.2)
 
 fails_behind : (check : Bool) (p : Place) (after : List Place) (mid : List ℕ) → places ≡ to_second_places ++ p ∷ after
-    → NoCut (Asks check p front) mid → FailsAt check (codes "2021-01-02T03:04:05" ++ mid) p
+    → NoCut (PlaceSyntax check p front) mid → FailsAt check (codes "2021-01-02T03:04:05" ++ mid) p
 fails_behind check p after mid place stops = record {
   before = to_second_places;
   after = after;
@@ -245,7 +245,7 @@ two_bytes_between = record {
   place = refl;
   mid = 169 ∷ codes "03:04:05Z";
   numbers = dated 2021 1 2;
-  stand = Stand-append (Asks true) date_places (Separator ∷ []) nothing_read (dated 2021 1 2) (dated 2021 1 2) _
+  stand = MatchesPlaces-append (PlaceSyntax true) date_places (Separator ∷ []) nothing_read (dated 2021 1 2) (dated 2021 1 2) _
       (195 ∷ 169 ∷ codes "03:04:05Z") (169 ∷ codes "03:04:05Z") (date_2021 true _) (form_of ((195 ∷ [], refl, (refl, refl)) next done));
   stops = λ text rest m e h. no_digit_first 2 2 169 _ (omega arith) (λ d. omega arith) text rest h.0 e h.1.0;
 }
@@ -265,13 +265,13 @@ pub point_without_digits : FailsAt true (codes "2021-01-02T03:04:05.Z") Subsecon
 point_without_digits = fails_behind true Subsecond _ (codes ".Z") refl (λ text rest m e h. no_fraction text rest h.0 e h.1)
 
 -- the places before an offset
-before_offset : (after : List ℕ) → NoDotFirst after → Stand (Asks true) (to_second_places ++ Subsecond ∷ []) nothing_read
+before_offset : (after : List ℕ) → NoDotFirst after → MatchesPlaces (PlaceSyntax true) (to_second_places ++ Subsecond ∷ []) nothing_read
     (codes "2021-01-02T03:04:05" ++ after) after front
 before_offset after no_dot =
-    Stand-append (Asks true) to_second_places (Subsecond ∷ []) nothing_read front front (codes "2021-01-02T03:04:05" ++ after) after after
+    MatchesPlaces-append (PlaceSyntax true) to_second_places (Subsecond ∷ []) nothing_read front front (codes "2021-01-02T03:04:05" ++ after) after after
     (to_second true after) (form_of (([], refl, (None, (refl, no_dot), refl)) next done))
 
-fails_at_offset : (after : List ℕ) → NoDotFirst after → NoCut (Asks true OffsetHour front) after
+fails_at_offset : (after : List ℕ) → NoDotFirst after → NoCut (PlaceSyntax true OffsetHour front) after
     → FailsAt true (codes "2021-01-02T03:04:05" ++ after) OffsetHour
 fails_at_offset after no_dot stops = record {
   before = to_second_places ++ Subsecond ∷ [];
@@ -283,14 +283,14 @@ fails_at_offset after no_dot stops = record {
   stops = stops;
 }
 
-nothing_left : NoCut (Asks true OffsetHour front) []
+nothing_left : NoCut (PlaceSyntax true OffsetHour front) []
 nothing_left text rest m e (inl z) = omega (arith, ap length e, length-append text rest, ap length z.0.1)
 nothing_left text rest m e (inr s) = omega (arith, ap length e, length-append text rest, ap length s.cut)
 
 pub offset_is_missing : FailsAt true (codes "2021-01-02T03:04:05") OffsetHour
 offset_is_missing = fails_at_offset [] tt nothing_left
 
-no_hour_24 : NoCut (Asks true OffsetHour front) (codes "+24:00")
+no_hour_24 : NoCut (PlaceSyntax true OffsetHour front) (codes "+24:00")
 no_hour_24 text rest m e (inl z) =
     let bytes : 43 ∷ codes "24:00" ≡ z.0.0 ∷ rest = e ∙ ap (λ t. t ++ rest) z.0.1 in
     let head : 43 ≡ z.0.0 = cc in
@@ -311,7 +311,7 @@ offset_minute_60 = record {
   place = refl;
   mid = codes "60";
   numbers = record front { offset_hour = 5 };
-  stand = Stand-append (Asks true) (to_second_places ++ Subsecond ∷ []) (OffsetHour ∷ OffsetColon ∷ []) nothing_read front
+  stand = MatchesPlaces-append (PlaceSyntax true) (to_second_places ++ Subsecond ∷ []) (OffsetHour ∷ OffsetColon ∷ []) nothing_read front
       (record front { offset_hour = 5 }) _ (codes "+05:60") (codes "60") (before_offset (codes "+05:60") (λ e. omega arith)) (form_of (
       (codes "+05", refl, inr (record { sign = Positive; digits = codes "05"; hour = 5; cut = refl; run = search rules; says = refl })) next
       (codes ":", refl, (refl, refl)) next done));

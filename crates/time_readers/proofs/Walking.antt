@@ -8,20 +8,20 @@ use Rattle.time_values.specs.declared.offset_date_time.OffsetDateTime.{OffsetDat
 use Rattle.time_values.proofs.NumberLemmas.{same_month}
 use Rattle.time_values.proofs.InstantLemmas.{same_date_by_parts, same_time_by_clock, same_offset}
 use Rattle.time_digits.specs.Digits.{Cut, NoCut, Form}
-use Rattle.time_readers.specs.Readers.{Stand, StopsAt, Format}
+use Rattle.time_readers.specs.Readers.{MatchesPlaces, StopsAt, Format}
 use Rattle.time_readers.specs.PlaceAnswers.{Steps, Reads, Walks}
-use Rattle.time_readers.specs.Direct.{shown_second, shown_nanosecond, first_refusal, IsMoment, LeapSecondMayStand, IsMade, IsNotMade, IsRefusedAfter, IsDirect, RefusesDirectly}
+use Rattle.time_readers.specs.Direct.{moment_second, moment_nanosecond, first_refusal, IsMoment, IsLeapSecondValid, IsMade, IsNotMade, IsRefusedAfter, IsDirect, RefusesDirectly}
 use Rattle.time_readers.specs.Laws.{OneForm, OneDirect}
-use Rattle.time_readers.specs.declared.direct.Said.{Said}
+use Rattle.time_readers.specs.declared.direct.MomentNumbers.{MomentNumbers}
 
 pub Walks-none : {P N : Type 0} (A : Format P N) (n : N) (bytes : List ℕ) (rest : Bor (List ℕ)) → rest.now ≡ bytes → Walks A [] n bytes (Ok rest) n
-unfolding Stand
+unfolding MatchesPlaces
 Walks-none A n bytes rest e = (e, refl)
 
 -- the first place matches, and the others have this result
 pub Walks-more : {P N : Type 0} (A : Format P N) (p : P) (ps : List P) (n k m : N) (bytes mid : List ℕ) (result : Result (Bor (List ℕ)) P)
     → Cut (A p n) bytes mid k → Walks A ps k mid result m → Walks A (p ∷ ps) n bytes result m
-unfolding Stand
+unfolding MatchesPlaces
 Walks-more A p ps n k m bytes mid (Ok rest) first others = (mid, k, first, others)
 Walks-more A p ps n k m bytes mid (Err e) first others = record {
   before = p ∷ others.before;
@@ -35,7 +35,7 @@ Walks-more A p ps n k m bytes mid (Err e) first others = record {
 
 pub Walks-here : {P N : Type 0} (A : Format P N) (p : P) (ps : List P) (n m : N) (bytes : List ℕ) (e : P) → (e ≡ p) × NoCut (A p n) bytes
     → Walks A (p ∷ ps) n bytes (Err e) m
-unfolding Stand
+unfolding MatchesPlaces
 Walks-here A p ps n m bytes e (same, stops) = subst (λ q. Walks A (p ∷ ps) n bytes (Err q) m) (sym same) (record {
   before = [];
   after = ps;
@@ -55,7 +55,7 @@ Walks-stop A p ps n m bytes (Err x) e by stops = Walks-here A p ps n m bytes x (
 -- the last place has this result
 pub Walks-last : {P N : Type 0} (A : Format P N) (p : P) (n m : N) (bytes : List ℕ) (result : Result (Bor (List ℕ)) P)
     → Steps A p n bytes result m → Walks A (p ∷ []) n bytes result m
-unfolding Stand
+unfolding MatchesPlaces
 Walks-last A p n m bytes (Ok rest) step = (rest.now, m, step, (refl, refl))
 Walks-last A p n m bytes (Err e) step = Walks-here A p [] n m bytes e step
 
@@ -94,14 +94,14 @@ pub Reads-last : {P N : Type 0} (A : Format P N) (p : P) (n m : N) (bytes : List
 Reads-last A p n m bytes answer result reads e = Walks-last A p n m bytes result (Steps-or A p n m bytes answer result reads e)
 
 -- the first places match, and then the others
-pub Stand-append : {P N : Type 0} (A : Format P N) (ps qs : List P) (n k m : N) (bytes mid rest : List ℕ) → Stand A ps n bytes mid k
-    → Stand A qs k mid rest m → Stand A (ps ++ qs) n bytes rest m
-unfolding Stand
-Stand-append A [] qs n k m bytes mid rest first others = subst (λ b. Stand A qs n b rest m) first.0 (subst (λ x. Stand A qs x mid rest m) first.1 others)
-Stand-append A (p ∷ ps) qs n k m bytes mid rest first others = (first.0, first.1, first.2, Stand-append A ps qs first.1 k m first.0 mid rest first.3 others)
+pub MatchesPlaces-append : {P N : Type 0} (A : Format P N) (ps qs : List P) (n k m : N) (bytes mid rest : List ℕ) → MatchesPlaces A ps n bytes mid k
+    → MatchesPlaces A qs k mid rest m → MatchesPlaces A (ps ++ qs) n bytes rest m
+unfolding MatchesPlaces
+MatchesPlaces-append A [] qs n k m bytes mid rest first others = subst (λ b. MatchesPlaces A qs n b rest m) first.0 (subst (λ x. MatchesPlaces A qs x mid rest m) first.1 others)
+MatchesPlaces-append A (p ∷ ps) qs n k m bytes mid rest first others = (first.0, first.1, first.2, MatchesPlaces-append A ps qs first.1 k m first.0 mid rest first.3 others)
 
 -- the first places match, and not all of the others
-pub StopsAt-after : {P N : Type 0} (A : Format P N) (ps qs : List P) (n k : N) (bytes mid : List ℕ) (e : P) → Stand A ps n bytes mid k
+pub StopsAt-after : {P N : Type 0} (A : Format P N) (ps qs : List P) (n k : N) (bytes mid : List ℕ) (e : P) → MatchesPlaces A ps n bytes mid k
     → StopsAt A qs k mid e → StopsAt A (ps ++ qs) n bytes e
 StopsAt-after A ps qs n k bytes mid e first others = record {
   before = ps ++ others.before;
@@ -109,7 +109,7 @@ StopsAt-after A ps qs n k bytes mid e first others = record {
   place = ap (λ xs. ps ++ xs) others.place ∙ sym (append_assoc ps others.before (e ∷ others.after));
   mid = others.mid;
   numbers = others.numbers;
-  stand = Stand-append A ps others.before n k others.numbers bytes mid others.mid first others.stand;
+  stand = MatchesPlaces-append A ps others.before n k others.numbers bytes mid others.mid first others.stand;
   stops = others.stops;
 }
 
@@ -140,26 +140,26 @@ Walks-by A ps qs n m bytes (Err x) e by stops = subst (λ y. StopsAt A (ps ++ qs
 
 -- the first places match, and the others have this result
 pub Walks-after : {P N : Type 0} (A : Format P N) (ps qs : List P) (n k m : N) (bytes mid : List ℕ) (result : Result (Bor (List ℕ)) P)
-    → Stand A ps n bytes mid k → Walks A qs k mid result m → Walks A (ps ++ qs) n bytes result m
-Walks-after A ps qs n k m bytes mid (Ok rest) first others = Stand-append A ps qs n k m bytes mid rest.now first others
+    → MatchesPlaces A ps n bytes mid k → Walks A qs k mid result m → Walks A (ps ++ qs) n bytes result m
+Walks-after A ps qs n k m bytes mid (Ok rest) first others = MatchesPlaces-append A ps qs n k m bytes mid rest.now first others
 Walks-after A ps qs n k m bytes mid (Err e) first others = StopsAt-after A ps qs n k bytes mid e first others
 
 -- places that match, split into the first of them and the others
-pub Stand-split : {P N : Type 0} (A : Format P N) (ps qs : List P) (n m : N) (bytes rest : List ℕ) → Stand A (ps ++ qs) n bytes rest m
-    → (mid : List ℕ) × ((k : N) × Stand A ps n bytes mid k × Stand A qs k mid rest m)
-unfolding Stand
-Stand-split A [] qs n m bytes rest s = (bytes, (n, (refl, refl), s))
-Stand-split A (p ∷ ps) qs n m bytes rest s =
-    let t = Stand-split A ps qs s.1 m s.0 rest s.3 in
+pub MatchesPlaces-split : {P N : Type 0} (A : Format P N) (ps qs : List P) (n m : N) (bytes rest : List ℕ) → MatchesPlaces A (ps ++ qs) n bytes rest m
+    → (mid : List ℕ) × ((k : N) × MatchesPlaces A ps n bytes mid k × MatchesPlaces A qs k mid rest m)
+unfolding MatchesPlaces
+MatchesPlaces-split A [] qs n m bytes rest s = (bytes, (n, (refl, refl), s))
+MatchesPlaces-split A (p ∷ ps) qs n m bytes rest s =
+    let t = MatchesPlaces-split A ps qs s.1 m s.0 rest s.3 in
     (t.0, (t.1.0, (s.0, s.1, s.2, t.1.1), t.1.2))
 
 -- the rest after places that match is a suffix of the bytes
-pub Stand-ends : {P N : Type 0} (A : Format P N) (ps : List P) (n m : N) (bytes rest : List ℕ) → Stand A ps n bytes rest m
+pub MatchesPlaces-ends : {P N : Type 0} (A : Format P N) (ps : List P) (n m : N) (bytes rest : List ℕ) → MatchesPlaces A ps n bytes rest m
     → (before : List ℕ) × (bytes ≡ before ++ rest)
-unfolding Stand
-Stand-ends A [] n m bytes rest s = ([], sym s.0)
-Stand-ends A (p ∷ ps) n m bytes rest s =
-    let t = Stand-ends A ps s.1 m s.0 rest s.3 in
+unfolding MatchesPlaces
+MatchesPlaces-ends A [] n m bytes rest s = ([], sym s.0)
+MatchesPlaces-ends A (p ∷ ps) n m bytes rest s =
+    let t = MatchesPlaces-ends A ps s.1 m s.0 rest s.3 in
     let cut = s.2 in
     (cut.0 ++ t.0, cut.1 ∙ ap (λ r. cut.0 ++ r) t.1 ∙ sym (append_assoc cut.0 t.0 rest))
 
@@ -175,27 +175,27 @@ Ignores with f [] = Unit {0}
 Ignores {P} {N} with f (p ∷ ps) = ((n m : N) → f (with p n m) ≡ f n) × Ignores with f ps
 
 pub kept : {P N X : Type 0} (A : Format P N) (with : P → N → N → N) (f : N → X) → Alone A with
-    → (ps : List P) (n m : N) (bytes rest : List ℕ) → Ignores with f ps → Stand A ps n bytes rest m → f m ≡ f n
-unfolding Stand
+    → (ps : List P) (n m : N) (bytes rest : List ℕ) → Ignores with f ps → MatchesPlaces A ps n bytes rest m → f m ≡ f n
+unfolding MatchesPlaces
 kept A with f alone [] n m bytes rest i s = ap f s.1
 kept A with f alone (p ∷ ps) n m bytes rest i s =
     kept A with f alone ps s.1 m s.0 rest i.1 s.3 ∙ (ap f (alone p n s.1 s.2.0 s.0 s.2.2) ∙ i.0 n s.1)
 
 -- a property of numbers that a place has set, and no later place sets, holds of the final numbers
 pub said_after : {P N X Z : Type 0} (A : Format P N) (with : P → N → N → N) (f : N → Z) (g : N → X) (Q : X → Type 0) → Alone A with
-    → (before : List P) (p : P) (after : List P) (n m : N) (bytes rest : List ℕ) → Stand A (before ++ p ∷ after) n bytes rest m
+    → (before : List P) (p : P) (after : List P) (n m : N) (bytes rest : List ℕ) → MatchesPlaces A (before ++ p ∷ after) n bytes rest m
     → Ignores with f before → Ignores with g after
     → ((j k : N) (text mid : List ℕ) → f j ≡ f n → A p j text mid k → Q (g k)) → Q (g m)
-unfolding Stand
+unfolding MatchesPlaces
 said_after A with f g Q alone before p after n m bytes rest s i j tells =
-    let parts = Stand-split A before (p ∷ after) n m bytes rest s in
+    let parts = MatchesPlaces-split A before (p ∷ after) n m bytes rest s in
     let last = parts.1.2 in
     let start = kept A with f alone before n parts.1.0 bytes parts.0 i parts.1.1 in
     subst Q (sym (kept A with g alone after last.1 m last.0 rest j last.3)) (tells parts.1.0 last.1 last.2.0 last.0 start last.2.2)
 
 -- a property of a place's number holds of the final number
 pub said : {P N X : Type 0} (A : Format P N) (with : P → N → N → N) (f : N → X) (Q : X → Type 0) → Alone A with
-    → (before : List P) (p : P) (after : List P) (n m : N) (bytes rest : List ℕ) → Stand A (before ++ p ∷ after) n bytes rest m → Ignores with f before
+    → (before : List P) (p : P) (after : List P) (n m : N) (bytes rest : List ℕ) → MatchesPlaces A (before ++ p ∷ after) n bytes rest m → Ignores with f before
     → Ignores with f after → ((j k : N) (text mid : List ℕ) → f j ≡ f n → A p j text mid k → Q (f k)) → Q (f m)
 said A with f Q = said_after A with f f Q
 
@@ -203,14 +203,14 @@ said A with f Q = said_after A with f f Q
 abbrev pub Back : {P N : Type 0} → Format P N → (P → N → Type 0) → List P → Type 0
 Back A In [] = Unit {0}
 Back {P} {N} A In (p ∷ ps) =
-    ((k m : N) (bytes rest : List ℕ) → Stand A ps k bytes rest m → In p m → In p k) × Back A In ps
+    ((k m : N) (bytes rest : List ℕ) → MatchesPlaces A ps k bytes rest m → In p m → In p k) × Back A In ps
 
 -- texts that match one format match another, if the final numbers have the properties that the other requires besides
 pub along : {P N : Type 0} (A B : Format P N) (In : P → N → Type 0)
     → ((p : P) (n m : N) (text after : List ℕ) → In p m → A p n text after m → B p n text after m)
     → (ps : List P) (n m : N) (bytes rest : List ℕ) → Back A In ps → ((p : P) → In p m)
-    → Stand A ps n bytes rest m → Stand B ps n bytes rest m
-unfolding Stand
+    → MatchesPlaces A ps n bytes rest m → MatchesPlaces B ps n bytes rest m
+unfolding MatchesPlaces
 along A B In asked [] n m bytes rest back all s = s
 along A B In asked (p ∷ ps) n m bytes rest back all s =
     let here = back.0 s.1 m s.0 rest s.3 (all p) in (
@@ -222,7 +222,7 @@ along A B In asked (p ∷ ps) n m bytes rest back all s =
 
 -- the places after don't change the numbers that a predicate depends on
 pub back_by : {P N X : Type 0} (A : Format P N) (with : P → N → N → N) (f : N → X) (Q : X → Type 0) → Alone A with
-    → (ps : List P) → Ignores with f ps → (k m : N) (bytes rest : List ℕ) → Stand A ps k bytes rest m → Q (f m) → Q (f k)
+    → (ps : List P) → Ignores with f ps → (k m : N) (bytes rest : List ℕ) → MatchesPlaces A ps k bytes rest m → Q (f m) → Q (f k)
 back_by A with f Q alone ps ignores k m bytes rest s is = subst Q (kept A with f alone ps k m bytes rest ignores s) is
 
 -- ---- A direct path has one result
@@ -231,45 +231,45 @@ same_zoned : (v w : OffsetDateTime) → offset_date v ≡ offset_date w → offs
 same_zoned v w d t o = λ i. record { date = d i; time = t i; offset = o i }
 
 -- the numbers make one moment
-one_moment : (s : Said) (v w : OffsetDateTime) → IsMoment s v → IsMoment s w → v ≡ w
+one_moment : (s : MomentNumbers) (v w : OffsetDateTime) → IsMoment s v → IsMoment s w → v ≡ w
 one_moment s v w a b =
     let month = same_month _ _ (a.date.month ∙ sym b.date.month) in
     same_zoned v w
     (same_date_by_parts (offset_date v) (offset_date w) (a.date.year ∙ sym b.date.year) month (a.date.day ∙ sym b.date.day))
-    (same_time_by_clock s.hour s.minute (shown_second s) (shown_nanosecond s) (offset_time v) (offset_time w) a.clock b.clock)
+    (same_time_by_clock s.hour s.minute (moment_second s) (moment_nanosecond s) (offset_time v) (offset_time w) a.clock b.clock)
     (same_offset s.offset_hour s.offset_minute (pos 0) (offset_of v) (offset_of w) a.offset b.offset)
 
 none_or_some : (o : Option Refusal) (e : Refusal) → o ≡ None → o ≡ Some e → ⊥
 none_or_some o e n s = cc
 
-one_not_made : (s : Said) (e f : Refusal) → IsNotMade greatest_year s e → IsNotMade greatest_year s f → e ≡ f
+one_not_made : (s : MomentNumbers) (e f : Refusal) → IsNotMade greatest_year s e → IsNotMade greatest_year s f → e ≡ f
 one_not_made s e f (inl a) (inl b) = let same : Some e ≡ Some f = sym a ∙ b in cc
 one_not_made s e f (inl a) (inr b) = absurd (none_or_some (first_refusal greatest_year s) e b.0 a)
 one_not_made s e f (inr a) (inl b) = absurd (none_or_some (first_refusal greatest_year s) f a.0 b)
 one_not_made s e f (inr a) (inr b) = a.1 ∙ sym b.1
 
-made_or_not : (s : Said) (v : OffsetDateTime) (e : Refusal) → IsMade greatest_year s v → IsNotMade greatest_year s e → ⊥
+made_or_not : (s : MomentNumbers) (v : OffsetDateTime) (e : Refusal) → IsMade greatest_year s v → IsNotMade greatest_year s e → ⊥
 made_or_not s v e made (inl b) = none_or_some (first_refusal greatest_year s) e made.0 b
 made_or_not s v e made (inr b) =
     let other = b.2 in
-    other.2 (subst (LeapSecondMayStand greatest_year s) (one_moment s v other.0 made.1 other.1) made.2)
+    other.2 (subst (IsLeapSecondValid greatest_year s) (one_moment s v other.0 made.1 other.1) made.2)
 
-one_after : (last : Option Refusal) (s : Said) (rest : List ℕ) (e f : Refusal)
+one_after : (last : Option Refusal) (s : MomentNumbers) (rest : List ℕ) (e f : Refusal)
     → IsRefusedAfter greatest_year last s rest e → IsRefusedAfter greatest_year last s rest f → e ≡ f
 one_after (Some r) s rest e f a b = a ∙ sym b
 one_after None s [] e f a b = one_not_made s e f a b
 one_after None s (c ∷ rest) e f a b = a ∙ sym b
 
-made_or_after : (last : Option Refusal) (s : Said) (v : OffsetDateTime) (e : Refusal) → last ≡ None
+made_or_after : (last : Option Refusal) (s : MomentNumbers) (v : OffsetDateTime) (e : Refusal) → last ≡ None
     → IsMade greatest_year s v → IsRefusedAfter greatest_year last s [] e → ⊥
 made_or_after None s v e none made b = made_or_not s v e made b
 made_or_after (Some r) s v e none made b = absurd (cc)
 
-module _ {P N : Type 0} (A : Format P N) (ps : List P) (start : N) (fault : P → Refusal) (last : N → Option Refusal) (says : N → Said)
+module _ {P N : Type 0} (A : Format P N) (ps : List P) (start : N) (fault : P → Refusal) (last : N → Option Refusal) (says : N → MomentNumbers)
     (one : (bytes : List ℕ) → OneForm A ps start bytes) where
   one_refusal : (bytes : List ℕ) (e f : Refusal)
-      → RefusesDirectly (Stand A ps start) (StopsAt A ps start) fault last says greatest_year bytes e
-      → RefusesDirectly (Stand A ps start) (StopsAt A ps start) fault last says greatest_year bytes f → e ≡ f
+      → RefusesDirectly (MatchesPlaces A ps start) (StopsAt A ps start) fault last says greatest_year bytes e
+      → RefusesDirectly (MatchesPlaces A ps start) (StopsAt A ps start) fault last says greatest_year bytes f → e ≡ f
   one_refusal bytes e f (inl a) (inl b) = a.2 ∙ ap fault ((one bytes).one_place a.0 b.0 a.1 b.1) ∙ sym b.2
   one_refusal bytes e f (inl a) (inr b) = absurd ((one bytes).never_both b.0 b.1.0 a.0 b.1.1 a.1)
   one_refusal bytes e f (inr a) (inl b) = absurd ((one bytes).never_both a.0 a.1.0 b.0 a.1.1 b.1)
@@ -279,14 +279,14 @@ module _ {P N : Type 0} (A : Format P N) (ps : List P) (start : N) (fault : P �
       (subst (λ r. IsRefusedAfter greatest_year (last a.1.0) (says a.1.0) r e) same.0 a.1.2) in
       one_after (last b.1.0) (says b.1.0) b.0 e f here b.1.2
 
-  one_value : (bytes : List ℕ) (v w : OffsetDateTime) → IsDirect (Stand A ps start) last says greatest_year bytes v
-      → IsDirect (Stand A ps start) last says greatest_year bytes w → v ≡ w
+  one_value : (bytes : List ℕ) (v w : OffsetDateTime) → IsDirect (MatchesPlaces A ps start) last says greatest_year bytes v
+      → IsDirect (MatchesPlaces A ps start) last says greatest_year bytes w → v ≡ w
   one_value bytes v w a b =
       let same = (one bytes).one_reading [] [] a.0 b.0 a.1 b.1 in
       one_moment (says b.0) v w (subst (λ n. IsMoment (says n) v) same.1 a.3.1) b.3.1
 
-  never_both : (bytes : List ℕ) (v : OffsetDateTime) (e : Refusal) → IsDirect (Stand A ps start) last says greatest_year bytes v
-      → RefusesDirectly (Stand A ps start) (StopsAt A ps start) fault last says greatest_year bytes e → ⊥
+  never_both : (bytes : List ℕ) (v : OffsetDateTime) (e : Refusal) → IsDirect (MatchesPlaces A ps start) last says greatest_year bytes v
+      → RefusesDirectly (MatchesPlaces A ps start) (StopsAt A ps start) fault last says greatest_year bytes e → ⊥
   never_both bytes v e a (inl b) = (one bytes).never_both [] a.0 b.0 a.1 b.1
   never_both bytes v e a (inr b) =
       let same = (one bytes).one_reading b.0 [] b.1.0 a.0 b.1.1 a.1 in
@@ -294,6 +294,6 @@ module _ {P N : Type 0} (A : Format P N) (ps : List P) (start : N) (fault : P �
       (subst (λ r. IsRefusedAfter greatest_year (last b.1.0) (says b.1.0) r e) same.0 b.1.2) in
       made_or_after (last a.0) (says a.0) v e a.2 a.3 here
 
-  pub one_direct : OneDirect (IsDirect (Stand A ps start) last says greatest_year)
-      (RefusesDirectly (Stand A ps start) (StopsAt A ps start) fault last says greatest_year)
+  pub one_direct : OneDirect (IsDirect (MatchesPlaces A ps start) last says greatest_year)
+      (RefusesDirectly (MatchesPlaces A ps start) (StopsAt A ps start) fault last says greatest_year)
   one_direct = record { one_value = one_value; one_refusal = one_refusal; never_both = never_both }

@@ -16,69 +16,69 @@ use Rattle.time_values.specs.declared.offset_date_time.OffsetDateTime.{OffsetDat
 use Rattle.time_digits.specs.Digits.{Form}
 use Rattle.time_readers.specs.Rfc2822 as rfc2822
 use Rattle.time_readers.specs.Rfc3339 as rfc3339
-use Rattle.time_readers.specs.declared.direct.Said.{Said}
+use Rattle.time_readers.specs.declared.direct.MomentNumbers.{MomentNumbers}
 use Rattle.time_readers.specs.declared.rfc2822.Numbers as mail
 use Rattle.time_readers.specs.declared.rfc3339.Numbers.{Numbers}
 
 -- the second and the nanosecond of the moment, in which a leap second is the last nanosecond before it
-abbrev pub shown_second : Said → ℕ
-shown_second s = if s.second == 60 then 59 else s.second
+abbrev pub moment_second : MomentNumbers → ℕ
+moment_second s = if s.second == 60 then 59 else s.second
 
-abbrev pub shown_nanosecond : Said → ℕ
-shown_nanosecond s = if s.second == 60 then 999_999_999 else s.nanosecond
+abbrev pub moment_nanosecond : MomentNumbers → ℕ
+moment_nanosecond s = if s.second == 60 then 999_999_999 else s.nanosecond
 
 -- the error of the month's number, or else of the date
-abbrev pub date_refusal : ℕ → Said → Option Refusal
+abbrev pub date_refusal : ℕ → MomentNumbers → Option Refusal
 date_refusal Y s = option_or (month_refusal s.month) (calendar_date_refusal Y (pos s.year) s.month s.day)
 
 -- the error of the first number that is out of its range
-abbrev pub first_refusal : ℕ → Said → Option Refusal
+abbrev pub first_refusal : ℕ → MomentNumbers → Option Refusal
 first_refusal Y s =
     option_or (date_refusal Y s)
-    (option_or (time_refusal s.hour s.minute (shown_second s) (shown_nanosecond s))
+    (option_or (time_refusal s.hour s.minute (moment_second s) (moment_nanosecond s))
     (offset_refusal s.offset_hour s.offset_minute (pos 0)))
 
 -- the date has the year, month and day of the numbers
-pub record HasDate (s : Said) (d : Date) : Type 0 where
+pub record HasDate (s : MomentNumbers) (d : Date) : Type 0 where
   pub year : Dates.year d ≡ pos s.year
   pub month : month_number (Dates.month d) ≡ s.month
   pub day : Dates.day d ≡ s.day
 
 -- the moment has the date, time and offset of the numbers
-pub record IsMoment (s : Said) (v : OffsetDateTime) : Type 0 where
+pub record IsMoment (s : MomentNumbers) (v : OffsetDateTime) : Type 0 where
   pub date : HasDate s (offset_date v)
-  pub clock : HasClock s.hour s.minute (shown_second s) (shown_nanosecond s) (offset_time v)
+  pub clock : HasClock s.hour s.minute (moment_second s) (moment_nanosecond s) (offset_time v)
   pub offset : HasOffset s.offset_hour s.offset_minute (pos 0) (offset_of v)
 
 -- a second of 60 is the last second of a month in UTC
-unfoldable pub LeapSecondMayStand : ℕ → Said → OffsetDateTime → Type 0
-LeapSecondMayStand Y s v = s.second ≡ 60 → IsLeapSecondMoment Y (offset_instant Y v)
+unfoldable pub IsLeapSecondValid : ℕ → MomentNumbers → OffsetDateTime → Type 0
+IsLeapSecondValid Y s v = s.second ≡ 60 → IsLeapSecondMoment Y (offset_instant Y v)
 
 -- each number is in its range, the moment is that of the numbers, and a leap second is only where one may be
-abbrev pub IsMade : ℕ → Said → OffsetDateTime → Type 0
-IsMade Y s v = (first_refusal Y s ≡ None) × IsMoment s v × LeapSecondMayStand Y s v
+abbrev pub IsMade : ℕ → MomentNumbers → OffsetDateTime → Type 0
+IsMade Y s v = (first_refusal Y s ≡ None) × IsMoment s v × IsLeapSecondValid Y s v
 
 -- the error of the first number that is out of its range, or else of a leap second where none may be
-abbrev pub IsNotMade : ℕ → Said → Refusal → Type 0
+abbrev pub IsNotMade : ℕ → MomentNumbers → Refusal → Type 0
 IsNotMade Y s e =
     (first_refusal Y s ≡ Some e)
     ⊎ ((first_refusal Y s ≡ None) × (e ≡ range (codes "second") true)
-    × ((v : OffsetDateTime) × IsMoment s v × (¬ LeapSecondMayStand Y s v)))
+    × ((v : OffsetDateTime) × IsMoment s v × (¬ IsLeapSecondValid Y s v)))
 
 -- The error if all places have their form: that of the last place's range, or else of trailing bytes, or else of the
 -- calendar.
-abbrev pub IsRefusedAfter : ℕ → Option Refusal → Said → List ℕ → Refusal → Type 0
+abbrev pub IsRefusedAfter : ℕ → Option Refusal → MomentNumbers → List ℕ → Refusal → Type 0
 IsRefusedAfter Y (Some r) s rest e = e ≡ r
 IsRefusedAfter Y None s [] e = IsNotMade Y s e
 IsRefusedAfter Y None s (c ∷ rest) e = e ≡ trailing
 
 -- the moment of a whole text whose places have their form
-abbrev pub IsDirect : {N : Type 0} → Form N → (N → Option Refusal) → (N → Said) → ℕ → List ℕ → OffsetDateTime → Type 0
+abbrev pub IsDirect : {N : Type 0} → Form N → (N → Option Refusal) → (N → MomentNumbers) → ℕ → List ℕ → OffsetDateTime → Type 0
 IsDirect {N} form last says Y bytes v = (n : N) × form bytes [] n × (last n ≡ None) × IsMade Y (says n) v
 
 -- the error of the first place that doesn't have its form, or else the error if all places have theirs
 abbrev pub RefusesDirectly : {P N : Type 0} → Form N → (List ℕ → P → Type 0) → (P → Refusal) → (N → Option Refusal)
-    → (N → Said) → ℕ → List ℕ → Refusal → Type 0
+    → (N → MomentNumbers) → ℕ → List ℕ → Refusal → Type 0
 RefusesDirectly {P} {N} form fails fault last says Y bytes e =
     ((p : P) × fails bytes p × (e ≡ fault p))
     ⊎ ((rest : List ℕ) × ((n : N) × form bytes rest n × IsRefusedAfter Y (last n) (says n) rest e))
@@ -88,8 +88,8 @@ abbrev pub minute_refusal : Numbers → Option Refusal
 minute_refusal n = if nat_le n.offset_minute 59 then None else Some (range (codes "minutes") false)
 
 -- the moment's numbers from those of RFC 3339: a missing fraction is 0
-abbrev pub said_rfc3339 : Numbers → Said
-said_rfc3339 n = record {
+abbrev pub rfc3339_numbers : Numbers → MomentNumbers
+rfc3339_numbers n = record {
   year = n.year;
   month = n.month;
   day = n.day;
@@ -102,8 +102,8 @@ said_rfc3339 n = record {
 }
 
 -- the moment's numbers from those of a mail date: a missing second is 0
-abbrev pub said_rfc2822 : mail.Numbers → Said
-said_rfc2822 n = record {
+abbrev pub rfc2822_numbers : mail.Numbers → MomentNumbers
+rfc2822_numbers n = record {
   year = n.year;
   month = month_number n.month;
   day = n.day;
@@ -117,11 +117,11 @@ said_rfc2822 n = record {
 
 -- RFC 3339 on the direct path: its moments, its errors, and its results
 abbrev pub IsDirectRfc3339 : ℕ → List ℕ → OffsetDateTime → Type 0
-IsDirectRfc3339 = IsDirect (rfc3339.HasForm false) minute_refusal said_rfc3339
+IsDirectRfc3339 = IsDirect (rfc3339.HasForm false) minute_refusal rfc3339_numbers
 
 abbrev pub RefusesRfc3339 : ℕ → List ℕ → Refusal → Type 0
 RefusesRfc3339 =
-    RefusesDirectly (rfc3339.HasForm false) (rfc3339.FailsAt false) rfc3339.fault minute_refusal said_rfc3339
+    RefusesDirectly (rfc3339.HasForm false) (rfc3339.FailsAt false) rfc3339.fault minute_refusal rfc3339_numbers
 
 abbrev pub DirectRfc3339 : ℕ → List ℕ → Result OffsetDateTime Parse → Type 0
 DirectRfc3339 Y bytes result =
@@ -129,10 +129,10 @@ DirectRfc3339 Y bytes result =
 
 -- RFC 2822 on the direct path
 abbrev pub IsDirectRfc2822 : ℕ → List ℕ → OffsetDateTime → Type 0
-IsDirectRfc2822 = IsDirect (rfc2822.HasForm false) (λ n. None) said_rfc2822
+IsDirectRfc2822 = IsDirect (rfc2822.HasForm false) (λ n. None) rfc2822_numbers
 
 abbrev pub RefusesRfc2822 : ℕ → List ℕ → Refusal → Type 0
-RefusesRfc2822 = RefusesDirectly (rfc2822.HasForm false) (rfc2822.FailsAt false) rfc2822.fault (λ n. None) said_rfc2822
+RefusesRfc2822 = RefusesDirectly (rfc2822.HasForm false) (rfc2822.FailsAt false) rfc2822.fault (λ n. None) rfc2822_numbers
 
 abbrev pub DirectRfc2822 : ℕ → List ℕ → Result OffsetDateTime Parse → Type 0
 DirectRfc2822 Y bytes result =

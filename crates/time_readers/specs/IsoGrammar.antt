@@ -24,10 +24,10 @@ Leaves found None = found ≡ None
 Leaves found (Some rest) = found ≡ Some rest.now
 
 -- the parser of a form returns the rest and the value as viewed, or the error
-abbrev pub GivesForm : {V W : Type 0} → (V → W) → Result (List ℕ × W) Refusal
+abbrev pub ReturnsForm : {V W : Type 0} → (V → W) → Result (List ℕ × W) Refusal
     → Result (ParsedItem V) ParseFromDescription → Type 0
-GivesForm view found (Err e) = found ≡ Err (refusal_of_description e)
-GivesForm view found (Ok p) = found ≡ Ok (p.0.now, view p.1)
+ReturnsForm view found (Err e) = found ≡ Err (refusal_of_description e)
+ReturnsForm view found (Ok p) = found ≡ Ok (p.0.now, view p.1)
 
 -- a whole hour and a whole minute
 abbrev pub hour_and_minute : ℕ → ℕ → TimeNumbers
@@ -91,8 +91,8 @@ abbrev pub two_digits : ℕ → ℕ → ℕ
 two_digits tens ones = (tens - 48) * 10 + (ones - 48)
 
 -- the number is that second of a time, with that many nanoseconds
-abbrev pub SaysSecond : Number → ℕ → ℕ → Type 0
-SaysSecond n second nanoseconds =
+abbrev pub IsSecondOfTime : Number → ℕ → ℕ → Type 0
+IsSecondOfTime n second nanoseconds =
     (h m : ℕ) → says any_second n (hour_and_minute h m)
     ≡ Some (record { hour = h; minute = m; second = second; subsecond = nanoseconds })
 
@@ -100,7 +100,7 @@ SaysSecond n second nanoseconds =
 abbrev pub IsClock : FirstSixteen → Type 0
 IsClock f =
     (n : Number) (rest : List ℕ) (s nanoseconds : ℕ) → f.hour ≤ 23
-    → number f.after.now ≡ Some (rest, n) → SaysSecond n s nanoseconds
+    → number f.after.now ≡ Some (rest, n) → IsSecondOfTime n s nanoseconds
     → time_text true f.date.kind f.date.rest.now ≡ Some (record {
       rest = rest;
       value = record { hour = f.hour; minute = f.minute; second = s; subsecond = nanoseconds };

@@ -5,7 +5,7 @@ use Rattle.time_readers.specs.declared.iso8601.ExtendedKind.{ExtendedKind}
 use Rattle.time_readers.specs.declared.iso8601.OffsetNumbers.{OffsetNumbers}
 use Rattle.time_readers.specs.declared.iso8601.OffsetNumbers.TheVariants.{Zulu, Numeric}
 use Rattle.time_readers.specs.IsoPieces.{Found, Piece, digits, up_to, sign, with_sign, byte}
-use Rattle.time_readers.specs.IsoTimes.{any, is_basic, not_basic, as_before, extended, Row, row, anything, no_colon, Stands, first_fitting, fitting}
+use Rattle.time_readers.specs.IsoTimes.{any, is_basic, not_basic, as_before, extended, Row, row, anything, no_colon, PlaceParser, first_fitting, fitting}
 
 -- The places of a text of the table: `Z`, `-` or `+`, two digits from 0 to 25, `:`, or two digits from 0 to 59.
 pub data OffsetPlace : Type 0 where
@@ -38,11 +38,11 @@ pub record OffsetParts : Type 0 where
   pub hour : ℕ
   pub minute : ℕ
 
-abbrev pub nothing_said : OffsetParts
-nothing_said = record { signed = None; hour = 0; minute = 0 }
+abbrev pub no_offset_parts : OffsetParts
+no_offset_parts = record { signed = None; hour = 0; minute = 0 }
 
 -- the match of a place: the rest, and the values with that of the place
-abbrev pub stands : Stands OffsetPlace OffsetParts
+abbrev pub stands : PlaceParser OffsetPlace OffsetParts
 stands z bytes o = option_map (λ rest. (rest, o)) (byte 90 bytes)
 stands plus_or_minus bytes o = option_map (λ f. (f.0, record o { signed = Some f.1 })) (sign bytes)
 stands hour bytes o = option_map (λ f. (f.0, record o { hour = f.1 })) (up_to 25 2 bytes)
@@ -51,7 +51,7 @@ stands minute bytes o = option_map (λ f. (f.0, record o { minute = f.1 })) (up_
 
 -- the results of all rows that match
 abbrev pub offset_texts : ExtendedKind → List ℕ → List (Found OffsetParts)
-offset_texts = fitting stands nothing_said offset_rows
+offset_texts = fitting stands no_offset_parts offset_rows
 
 -- the hour and the minute, both with the sign, or `Z`
 abbrev pub numbers_of : Option Sign → ℕ → ℕ → OffsetNumbers
@@ -70,7 +70,7 @@ numbers_found f = record {
 unfoldable pub offset_text : ExtendedKind → List ℕ → Option (Found OffsetNumbers)
 offset_text kind bytes =
     option_map numbers_found
-    (first_fitting stands nothing_said offset_rows kind bytes)
+    (first_fitting stands no_offset_parts offset_rows kind bytes)
 
 -- the bytes after an offset, and its numbers, without the kind
 abbrev pub offset_found : ExtendedKind → Piece OffsetNumbers

@@ -82,30 +82,30 @@ numbered all zero = None
 numbered all (suc n) = slice_get all n
 
 -- exactly n digits, whose number has a value
-abbrev pub digits_saying : {A : Type 0} → ℕ → (ℕ → Option A) → Piece A
-digits_saying n says bytes = option_and_then (λ f. option_map (λ a. (f.0, a)) (says f.1)) (digits n bytes)
+abbrev pub mapped_digits : {A : Type 0} → ℕ → (ℕ → Option A) → Piece A
+mapped_digits n says bytes = option_and_then (λ f. option_map (λ a. (f.0, a)) (says f.1)) (digits n bytes)
 
 -- two digits of 01 to 12
 unfoldable pub month : Piece Month
-month = digits_saying 2 (numbered months)
+month = mapped_digits 2 (numbered months)
 
 -- one digit of 1 to 7
 unfoldable pub weekday : Piece Weekday
-weekday = digits_saying 1 (numbered weekdays)
+weekday = mapped_digits 1 (numbered weekdays)
 
 -- n digits that are not all 0
 abbrev pub not_zero : ℕ → Option ℕ
 not_zero v = if nat_eq v 0 then None else Some v
 
 unfoldable pub positive : ℕ → Piece ℕ
-positive n = digits_saying n not_zero
+positive n = mapped_digits n not_zero
 
 -- n digits of a number up to the greatest
 abbrev pub at_most : ℕ → ℕ → Option ℕ
 at_most greatest v = if nat_le v greatest then Some v else None
 
 unfoldable pub up_to : ℕ → ℕ → Piece ℕ
-up_to greatest n = digits_saying n (at_most greatest)
+up_to greatest n = mapped_digits n (at_most greatest)
 
 -- a number without a fraction, or with the digits of one
 pub data Number : Type 0 where
@@ -141,24 +141,24 @@ number_of whole None = plain whole
 number_of whole (Some digits) = fraction whole digits.now
 
 -- the parser of a piece returns the rest and the value as viewed
-abbrev pub GivesAs : {V W : Type 0} → (V → W) → Option (List ℕ × W) → Option (ParsedItem V) → Type 0
-GivesAs view found None = found ≡ None
-GivesAs view found (Some p) = found ≡ Some (p.0.now, view p.1)
+abbrev pub ReturnsAs : {V W : Type 0} → (V → W) → Option (List ℕ × W) → Option (ParsedItem V) → Type 0
+ReturnsAs view found None = found ≡ None
+ReturnsAs view found (Some p) = found ≡ Some (p.0.now, view p.1)
 
 -- the parser of a piece returns the rest and the value
-abbrev pub Gives : {V : Type 0} → Option (List ℕ × V) → Option (ParsedItem V) → Type 0
-Gives found result = GivesAs (λ v. v) found result
+abbrev pub Returns : {V : Type 0} → Option (List ℕ × V) → Option (ParsedItem V) → Type 0
+Returns found result = ReturnsAs (λ v. v) found result
 
 -- the parser of a part returns the rest, the value, and the kind
-abbrev pub GivesPart : {V : Type 0} → Option (Found V) → Option (Part V) → Type 0
-GivesPart found None = found ≡ None
-GivesPart found (Some p) = found ≡ Some (record { rest = p.rest.now; value = p.value; kind = p.kind })
+abbrev pub ReturnsPart : {V : Type 0} → Option (Found V) → Option (Part V) → Type 0
+ReturnsPart found None = found ≡ None
+ReturnsPart found (Some p) = found ≡ Some (record { rest = p.rest.now; value = p.value; kind = p.kind })
 
 -- the parser of a part returns the rest, the value as viewed, and the kind; or the error
-abbrev pub GivesPartOrFault : {V W : Type 0} → (V → W) → Result (Found W) Refusal
+abbrev pub ReturnsPartOrFault : {V W : Type 0} → (V → W) → Result (Found W) Refusal
     → Result (Part V) ParseFromDescription → Type 0
-GivesPartOrFault view found (Err e) = found ≡ Err (refusal_of_description e)
-GivesPartOrFault view found (Ok p) = found ≡ Ok (record { rest = p.rest.now; value = view p.value; kind = p.kind })
+ReturnsPartOrFault view found (Err e) = found ≡ Err (refusal_of_description e)
+ReturnsPartOrFault view found (Ok p) = found ≡ Ok (record { rest = p.rest.now; value = view p.value; kind = p.kind })
 
 -- ---- The pieces of ISO 8601 texts as relations of a text, the bytes after it, and its value
 
@@ -172,8 +172,8 @@ IsYear text rest v =
     (a : Sign × ℕ) × (v ≡ with_sign a.0 a.1) × IsSigned false (IsDigitRun 6 6) (IsDigitRun 4 4) text rest a
 
 -- n digits, whose number has that value
-abbrev pub IsSaid : {A : Type 0} → ℕ → (ℕ → Option A) → Form A
-IsSaid n says text rest a = (v : ℕ) × IsDigitRun n n text rest v × (says v ≡ Some a)
+abbrev pub IsMappedDigits : {A : Type 0} → ℕ → (ℕ → Option A) → Form A
+IsMappedDigits n says text rest a = (v : ℕ) × IsDigitRun n n text rest v × (says v ≡ Some a)
 
 -- the byte is `.` or `,`
 abbrev pub IsPoint : ℕ → Type 0

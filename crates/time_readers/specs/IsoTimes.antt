@@ -4,7 +4,7 @@ use Rattle.std.specs.Option.{option_or}
 use Rattle.time_values.specs.declared.error.ParseFromDescription.{ParseFromDescription}
 use Rattle.time_digits.specs.Digits.{digits_value}
 use Rattle.time_readers.specs.declared.iso8601.ExtendedKind.{ExtendedKind}
-use Rattle.time_readers.specs.IsoPieces.{Found, byte, Number, plain, fraction, number, GivesPart, GivesPartOrFault}
+use Rattle.time_readers.specs.IsoPieces.{Found, byte, Number, plain, fraction, number, ReturnsPart, ReturnsPartOrFault}
 use Rattle.time_readers.specs.declared.iso8601.ExtendedKind.TheVariants.{Basic, Extended, Unknown}
 use Rattle.time_readers.specs.declared.iso8601.TimeNumbers.{TimeNumbers}
 use Rattle.time_readers.specs.IsoDates.{date_text, iso_date}
@@ -36,31 +36,31 @@ abbrev pub when : {A : Type 0} → Bool → A → Option A
 when test a = if test then Some a else None
 
 -- how a place is parsed: from the bytes and the values of the places before it to the rest and the new values
-abbrev pub Stands : Type 0 → Type 0 → Type 0
-Stands P V = P → List ℕ → V → Option (List ℕ × V)
+abbrev pub PlaceParser : Type 0 → Type 0 → Type 0
+PlaceParser P V = P → List ℕ → V → Option (List ℕ × V)
 
 -- places parsed one after another
-abbrev pub all_stand : {P V : Type 0} → Stands P V → List P → List ℕ → V → Option (List ℕ × V)
-all_stand stands [] bytes v = Some (bytes, v)
-all_stand stands (p ∷ ps) bytes v = option_and_then (λ f. all_stand stands ps f.0 f.1) (stands p bytes v)
+abbrev pub parse_places : {P V : Type 0} → PlaceParser P V → List P → List ℕ → V → Option (List ℕ × V)
+parse_places stands [] bytes v = Some (bytes, v)
+parse_places stands (p ∷ ps) bytes v = option_and_then (λ f. parse_places stands ps f.0 f.1) (stands p bytes v)
 
 -- the result of a row, from the values before any place is parsed
-abbrev pub fits : {P V : Type 0} → Stands P V → V → Row P → ExtendedKind → List ℕ → Option (Found V)
+abbrev pub fits : {P V : Type 0} → PlaceParser P V → V → Row P → ExtendedKind → List ℕ → Option (Found V)
 fits stands nothing r kind bytes =
     if r.before kind
     then option_and_then
     (λ f. when (r.follows f.0) (record { rest = f.0; value = f.1; kind = r.after kind }))
-    (all_stand stands r.text bytes nothing)
+    (parse_places stands r.text bytes nothing)
     else None
 
 -- the result of the first row that matches
-abbrev pub first_fitting : {P V : Type 0} → Stands P V → V → List (Row P) → ExtendedKind → List ℕ → Option (Found V)
+abbrev pub first_fitting : {P V : Type 0} → PlaceParser P V → V → List (Row P) → ExtendedKind → List ℕ → Option (Found V)
 first_fitting stands nothing [] kind bytes = None
 first_fitting stands nothing (r ∷ rs) kind bytes =
     option_or (fits stands nothing r kind bytes) (first_fitting stands nothing rs kind bytes)
 
 -- the results of all rows that match
-abbrev pub fitting : {P V : Type 0} → Stands P V → V → List (Row P) → ExtendedKind → List ℕ → List (Found V)
+abbrev pub fitting : {P V : Type 0} → PlaceParser P V → V → List (Row P) → ExtendedKind → List ℕ → List (Found V)
 fitting stands nothing [] kind bytes = []
 fitting stands nothing (r ∷ rs) kind bytes =
     option_to_list (fits stands nothing r kind bytes) ++ fitting stands nothing rs kind bytes
@@ -192,7 +192,7 @@ says any_second (fraction v d) t =
 says _ _ t = None
 
 -- the match of a place: the rest, and the time with the number of the place
-abbrev pub stands : Stands Place TimeNumbers
+abbrev pub stands : PlaceParser Place TimeNumbers
 stands colon bytes t = option_map (λ rest. (rest, t)) (byte 58 bytes)
 stands place bytes t = option_and_then (λ f. option_map (λ u. (f.0, u)) (says place f.1 t)) (number bytes)
 
@@ -216,8 +216,8 @@ time_text needed kind bytes = after_t needed kind bytes (byte 84 bytes)
 -- ---- A date of ISO 8601 and the time after it
 
 -- the date at the front of the text and the time after it, whose `T` is required; or the error of the date
-abbrev pub GivesDateAndTime : List ℕ → Result DateAndTime ParseFromDescription → Type 0
-GivesDateAndTime text (Err e) = GivesPartOrFault iso_date (date_text text) (Err e)
-GivesDateAndTime text (Ok p) =
-    GivesPartOrFault iso_date (date_text text) (Ok p.date)
-    × GivesPart (time_text true p.date.kind p.date.rest.now) p.time
+abbrev pub ReturnsDateAndTime : List ℕ → Result DateAndTime ParseFromDescription → Type 0
+ReturnsDateAndTime text (Err e) = ReturnsPartOrFault iso_date (date_text text) (Err e)
+ReturnsDateAndTime text (Ok p) =
+    ReturnsPartOrFault iso_date (date_text text) (Ok p.date)
+    × ReturnsPart (time_text true p.date.kind p.date.rest.now) p.time

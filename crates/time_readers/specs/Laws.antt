@@ -2,9 +2,9 @@
 use Rattle.std.specs.Prelude.{◌≡◌, ◌≤◌, ◌↔◌, ℕ, List, ◌∷◌, ◌++◌, length, Some, None}
 use Rattle.time_values.specs.Refusal.{Refusal}
 use Rattle.time_values.specs.declared.offset_date_time.OffsetDateTime.{OffsetDateTime}
-use Rattle.time_readers.specs.Readers.{Reader, zero_or_more, Format, Stand, StopsAt}
+use Rattle.time_readers.specs.Readers.{Reader, zero_or_more, Format, MatchesPlaces, StopsAt}
 use Rattle.time_digits.specs.Digits.{Form, IsDigitRun, IsSign}
-use Rattle.time_readers.specs.IsoPieces.{IsCutOf, IsYear, IsSaid, IsNumber}
+use Rattle.time_readers.specs.IsoPieces.{IsCutOf, IsYear, IsMappedDigits, IsNumber}
 use Rattle.time_readers.specs.IsoTimes.{IsFloor, IsRounded, floor_of, round_of, time_texts}
 use Rattle.time_readers.specs.IsoOffsets.{offset_texts}
 use Rattle.time_readers.specs.IsoPieces as IsoPieces
@@ -13,17 +13,17 @@ use Rattle.time_readers.specs.declared.iso8601.ExtendedKind.{ExtendedKind}
 -- the places match the bytes in one way, or there is one first place that doesn't match, and never both
 pub record OneForm {P N : Type 0} (A : Format P N) (ps : List P) (start : N) (bytes : List ℕ) : Type 0 where
   pub one_reading : (x y : List ℕ) (n m : N)
-      → Stand A ps start bytes x n → Stand A ps start bytes y m → (x ≡ y) × (n ≡ m)
+      → MatchesPlaces A ps start bytes x n → MatchesPlaces A ps start bytes y m → (x ≡ y) × (n ≡ m)
   pub one_place : (p q : P) → StopsAt A ps start bytes p → StopsAt A ps start bytes q → p ≡ q
-  pub never_both : (x : List ℕ) (n : N) (p : P) → Stand A ps start bytes x n → ¬ StopsAt A ps start bytes p
+  pub never_both : (x : List ℕ) (n : N) (p : P) → MatchesPlaces A ps start bytes x n → ¬ StopsAt A ps start bytes p
 
 -- the reader consumes a byte or more whenever it succeeds
-abbrev pub Takes : Reader → Type 0
-Takes p = (s r : List ℕ) → p s ≡ Some r → (c : ℕ) × (text : List ℕ) × (s ≡ c ∷ (text ++ r))
+abbrev pub Consumes : Reader → Type 0
+Consumes p = (s r : List ℕ) → p s ≡ Some r → (c : ℕ) × (text : List ℕ) × (s ≡ c ∷ (text ++ r))
 
 -- the reader is repeated until it rejects
 pub record IsRepeated (p : Reader) : Type 0 where
-  pub again : (s r : List ℕ) → p s ≡ Some r → zero_or_more p s ≡ zero_or_more p r
+  pub repeats : (s r : List ℕ) → p s ≡ Some r → zero_or_more p s ≡ zero_or_more p r
   pub ends : (s : List ℕ) → p s ≡ None → zero_or_more p s ≡ Some s
 
 -- each piece of ISO 8601 finds exactly the prefix that spells its value
@@ -31,10 +31,10 @@ pub record IsoPiecesAreCuts : Type 0 where
   pub digits : (n : ℕ) → IsCutOf (IsoPieces.digits n) (IsDigitRun n n)
   pub sign : IsCutOf IsoPieces.sign IsSign
   pub year : IsCutOf IsoPieces.year IsYear
-  pub month : IsCutOf IsoPieces.month (IsSaid 2 (IsoPieces.numbered IsoPieces.months))
-  pub weekday : IsCutOf IsoPieces.weekday (IsSaid 1 (IsoPieces.numbered IsoPieces.weekdays))
-  pub positive : (n : ℕ) → IsCutOf (IsoPieces.positive n) (IsSaid n IsoPieces.not_zero)
-  pub up_to : (greatest n : ℕ) → IsCutOf (IsoPieces.up_to greatest n) (IsSaid n (IsoPieces.at_most greatest))
+  pub month : IsCutOf IsoPieces.month (IsMappedDigits 2 (IsoPieces.numbered IsoPieces.months))
+  pub weekday : IsCutOf IsoPieces.weekday (IsMappedDigits 1 (IsoPieces.numbered IsoPieces.weekdays))
+  pub positive : (n : ℕ) → IsCutOf (IsoPieces.positive n) (IsMappedDigits n IsoPieces.not_zero)
+  pub up_to : (greatest n : ℕ) → IsCutOf (IsoPieces.up_to greatest n) (IsMappedDigits n (IsoPieces.at_most greatest))
   pub number : IsCutOf IsoPieces.number IsNumber
 
 -- at most one row of the table of times matches

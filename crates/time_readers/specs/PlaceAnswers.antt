@@ -4,7 +4,7 @@
 use Rattle.std.specs.Prelude.{◌≡◌, ℕ, List, Result, Ok, Err, Option, Some, None}
 use Rattle.std.specs.Borrow.{Bor}
 use Rattle.time_digits.specs.Digits.{Form, Cut, NoCut}
-use Rattle.time_readers.specs.Readers.{Format, Stand, StopsAt}
+use Rattle.time_readers.specs.Readers.{Format, MatchesPlaces, StopsAt}
 
 -- the result of parsing one place: its text matches, or the place is the error
 abbrev pub Steps : {P N : Type 0} → Format P N → P → N → List ℕ → Result (Bor (List ℕ)) P → N → Type 0
@@ -18,5 +18,5 @@ Reads S bytes (Some rest) v = Cut S bytes rest.now v
 
 -- the result of parsing places one after another: the rest, or the first place that doesn't match
 abbrev pub Walks : {P N : Type 0} → Format P N → List P → N → List ℕ → Result (Bor (List ℕ)) P → N → Type 0
-Walks A ps n bytes (Ok rest) m = Stand A ps n bytes rest.now m
+Walks A ps n bytes (Ok rest) m = MatchesPlaces A ps n bytes rest.now m
 Walks A ps n bytes (Err p) m = StopsAt A ps n bytes p

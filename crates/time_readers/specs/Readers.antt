@@ -62,9 +62,9 @@ abbrev pub Format : Type 0 → Type 0 → Type 1
 Format P N = P → N → Form N
 
 -- the places match: the bytes are their texts, each of its form, and then the rest
-unfoldable pub Stand : {P N : Type 0} → Format P N → List P → N → List ℕ → List ℕ → N → Type 0
-Stand A [] n bytes rest m = (rest ≡ bytes) × (m ≡ n)
-Stand {P} {N} A (p ∷ ps) n bytes rest m = (mid : List ℕ) × (k : N) × Cut (A p n) bytes mid k × Stand A ps k mid rest m
+unfoldable pub MatchesPlaces : {P N : Type 0} → Format P N → List P → N → List ℕ → List ℕ → N → Type 0
+MatchesPlaces A [] n bytes rest m = (rest ≡ bytes) × (m ≡ n)
+MatchesPlaces {P} {N} A (p ∷ ps) n bytes rest m = (mid : List ℕ) × (k : N) × Cut (A p n) bytes mid k × MatchesPlaces A ps k mid rest m
 
 -- the first mismatch: the places before this one match, and this one doesn't
 pub record StopsAt {P N : Type 0} (A : Format P N) (ps : List P) (n : N) (bytes : List ℕ) (p : P) : Type 0 where
@@ -73,7 +73,7 @@ pub record StopsAt {P N : Type 0} (A : Format P N) (ps : List P) (n : N) (bytes 
   pub place : ps ≡ before ++ p ∷ after
   pub mid : List ℕ
   pub numbers : N
-  pub stand : Stand A before n bytes mid numbers
+  pub stand : MatchesPlaces A before n bytes mid numbers
   pub stops : NoCut (A p numbers) mid
 
 -- ---- Numbers of places, with or without a range check

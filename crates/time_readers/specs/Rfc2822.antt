@@ -8,7 +8,7 @@ use Rattle.time_values.specs.declared.weekday.Weekday.{Weekday}
 use Rattle.time_digits.specs.Digits.{Form, NoCut, IsDigitRun, sign_byte, is_negative}
 use Rattle.time_values.specs.Names.{month_name, weekday_name}
 use Rattle.time_components.specs.Spelling.{IsShortOf}
-use Rattle.time_readers.specs.Readers.{Format, Stand, StopsAt, IsWithin, IsTwoDigits, Reader, IsRead}
+use Rattle.time_readers.specs.Readers.{Format, MatchesPlaces, StopsAt, IsWithin, IsTwoDigits, Reader, IsRead}
 use Rattle.time_readers.specs.MailBlanks.{fws, cfws, opt_cfws, opt_cfws_colon_opt_cfws, zone_literal}
 use Rattle.time_digits.specs.declared.Sign.{Sign}
 use Rattle.time_readers.specs.declared.rfc2822.Numbers.{Numbers}
@@ -79,29 +79,29 @@ IsOffsetMinute check_ranges (Some sign) n text after m =
 
 -- The text of each place and its value: its form, and its range if ranges are checked. The year stores whether it has
 -- four digits, and the hour of the offset whether it has a sign, since the next place depends on it.
-abbrev pub Asks : Bool → Format Place Numbers
-Asks check_ranges WeekdayName n text after m =
+abbrev pub PlaceSyntax : Bool → Format Place Numbers
+PlaceSyntax check_ranges WeekdayName n text after m =
     (v : Option Weekday) × IsWeekdayPart text after v × (m ≡ record n { weekday = v })
-Asks check_ranges Day n text after m =
+PlaceSyntax check_ranges Day n text after m =
     (v : ℕ) × IsDigitRun 1 2 text after v × IsWithin check_ranges 1 31 v × (m ≡ record n { day = v })
-Asks check_ranges DayBlanks n text after m = IsSilent cfws n text after m
-Asks check_ranges MonthName n text after m =
+PlaceSyntax check_ranges DayBlanks n text after m = IsSilent cfws n text after m
+PlaceSyntax check_ranges MonthName n text after m =
     (v : Month) × IsShortOf false month_name text after v × (m ≡ record n { month = v })
-Asks check_ranges MonthBlanks n text after m = IsSilent cfws n text after m
-Asks check_ranges Year n text after m =
+PlaceSyntax check_ranges MonthBlanks n text after m = IsSilent cfws n text after m
+PlaceSyntax check_ranges Year n text after m =
     (full : Bool) × (v : ℕ) × IsYear full text after v × (m ≡ record n { year = v; year_is_full = full })
-Asks check_ranges YearBlanks n text after m = IsSilent (year_blanks n.year_is_full) n text after m
-Asks check_ranges Hour n text after m =
+PlaceSyntax check_ranges YearBlanks n text after m = IsSilent (year_blanks n.year_is_full) n text after m
+PlaceSyntax check_ranges Hour n text after m =
     (v : ℕ) × IsTwoDigits check_ranges 0 23 text after v × (m ≡ record n { hour = v })
-Asks check_ranges HourColon n text after m = IsSilent opt_cfws_colon_opt_cfws n text after m
-Asks check_ranges Minute n text after m =
+PlaceSyntax check_ranges HourColon n text after m = IsSilent opt_cfws_colon_opt_cfws n text after m
+PlaceSyntax check_ranges Minute n text after m =
     (v : ℕ) × IsTwoDigits check_ranges 0 59 text after v × (m ≡ record n { minute = v })
-Asks check_ranges Second n text after m =
+PlaceSyntax check_ranges Second n text after m =
     (v : Option ℕ) × IsSecond check_ranges text after v × (m ≡ record n { second = v })
-Asks check_ranges TimeBlanks n text after m = IsSilent cfws n text after m
-Asks check_ranges OffsetHour n text after m = IsZone n text after m ⊎ IsSignedHour check_ranges n text after m
-Asks check_ranges OffsetMinute n text after m = IsOffsetMinute check_ranges n.offset_sign n text after m
-Asks check_ranges EndBlanks n text after m = IsSilent opt_cfws n text after m
+PlaceSyntax check_ranges TimeBlanks n text after m = IsSilent cfws n text after m
+PlaceSyntax check_ranges OffsetHour n text after m = IsZone n text after m ⊎ IsSignedHour check_ranges n text after m
+PlaceSyntax check_ranges OffsetMinute n text after m = IsOffsetMinute check_ranges n.offset_sign n text after m
+PlaceSyntax check_ranges EndBlanks n text after m = IsSilent opt_cfws n text after m
 
 -- the numbers before any place is parsed
 abbrev pub nothing_read : Numbers
@@ -145,11 +145,11 @@ places = day_places ++ (to_offset_places ++ offset_places)
 
 -- the bytes are the texts of the fifteen places, with these numbers, and then the rest
 abbrev pub HasForm : Bool → List ℕ → List ℕ → Numbers → Type 0
-HasForm check_ranges bytes rest m = Stand (Asks check_ranges) places nothing_read bytes rest m
+HasForm check_ranges bytes rest m = MatchesPlaces (PlaceSyntax check_ranges) places nothing_read bytes rest m
 
 -- the first of the fifteen places that doesn't match
 abbrev pub FailsAt : Bool → List ℕ → Place → Type 0
-FailsAt check_ranges bytes p = StopsAt (Asks check_ranges) places nothing_read bytes p
+FailsAt check_ranges bytes p = StopsAt (PlaceSyntax check_ranges) places nothing_read bytes p
 
 -- the error of a place that doesn't match: an invalid component for a number or a name, and else an invalid literal
 abbrev pub fault : Place → Refusal

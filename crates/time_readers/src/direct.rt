@@ -8,7 +8,7 @@ ghost use Rattle.time_values.specs.Offsets.{HasOffset, offset_refusal};
 ghost use Rattle.time_values.specs.Calendar.{greatest_year};
 ghost use Rattle.time_values.specs.Refusal.{Constructs, refusal_of, refusal_of_range};
 ghost use Rattle.time_values.specs.Times.{HasClock, time_refusal};
-ghost use Rattle.time_readers.specs.Direct.{shown_second, shown_nanosecond, date_refusal, first_refusal, HasDate, IsMoment, LeapSecondMayStand, said_rfc3339, said_rfc2822, IsMade, IsNotMade, IsRefusedAfter, DirectRfc3339, DirectRfc2822};
+ghost use Rattle.time_readers.specs.Direct.{moment_second, moment_nanosecond, date_refusal, first_refusal, HasDate, IsMoment, IsLeapSecondValid, rfc3339_numbers, rfc2822_numbers, IsMade, IsNotMade, IsRefusedAfter, DirectRfc3339, DirectRfc2822};
 
 use crate::{rfc2822, rfc3339};
 use std::num::NonZero;
@@ -20,7 +20,7 @@ use time_values::{Date, Month, OffsetDateTime, Time, UtcOffset};
 ///
 /// No parser returns it. It is public because the laws of parses state what both paths make of it.
 #[derive(Clone, Copy, Debug)]
-pub struct Said {
+pub struct MomentNumbers {
     /// The year, 0 to 9999.
     pub year: u16,
     /// The number of the month, not 0.
@@ -65,7 +65,7 @@ pub fn rfc3339(input: &[u8]) -> Result<OffsetDateTime, Parse>
         })
         .into());
     }
-    whole(found.0, said_rfc3339(numbers))
+    whole(found.0, rfc3339_numbers(numbers))
 }
 
 /// Parses a whole mail date of RFC 2822, section 3.3, as a moment.
@@ -81,19 +81,19 @@ pub fn rfc2822(input: &[u8]) -> Result<OffsetDateTime, Parse>
     ensures { DirectRfc2822 greatest_year input.now result }
 {
     match rfc2822::read::<false>(input) {
-        Ok(found) => whole(found.0, said_rfc2822(found.1)),
+        Ok(found) => whole(found.0, rfc2822_numbers(found.1)),
         Err(place) => Err(rfc2822::place_fault(place).into()),
     }
 }
 
 /// The moment's numbers from those of RFC 3339. A missing fraction is 0.
 #[inline(always)]
-pub fn said_rfc3339(numbers: rfc3339::Numbers) -> Said
+pub fn rfc3339_numbers(numbers: rfc3339::Numbers) -> MomentNumbers
     requires hour { numbers.offset_hour ≤ 23 }
     requires minute { numbers.offset_minute ≤ 59 }
-    ensures { result ≡ said_rfc3339 numbers }
+    ensures { result ≡ rfc3339_numbers numbers }
 {
-    Said {
+    MomentNumbers {
         year: numbers.year,
         month: numbers.month,
         day: numbers.day,
@@ -108,10 +108,10 @@ pub fn said_rfc3339(numbers: rfc3339::Numbers) -> Said
 
 /// The moment's numbers from those of a mail date. A missing second is 0.
 #[inline(always)]
-pub fn said_rfc2822(numbers: rfc2822::Numbers) -> Said
-    ensures { result ≡ said_rfc2822 numbers }
+pub fn rfc2822_numbers(numbers: rfc2822::Numbers) -> MomentNumbers
+    ensures { result ≡ rfc2822_numbers numbers }
 {
-    Said {
+    MomentNumbers {
         year: numbers.year,
         month: numbers.month.number(),
         day: numbers.day,
@@ -126,7 +126,7 @@ pub fn said_rfc2822(numbers: rfc2822::Numbers) -> Said
 
 // The moment of a text, or an error if bytes remain after it or its numbers make no moment.
 #[inline(always)]
-fn whole(rest: &[u8], said: Said) -> Result<OffsetDateTime, Parse>
+fn whole(rest: &[u8], said: MomentNumbers) -> Result<OffsetDateTime, Parse>
     requires year { said.year ≤ greatest_year }
     requires month { said.month ≢ 0 }
     ensures { MatchResult result
@@ -144,15 +144,15 @@ fn whole(rest: &[u8], said: Said) -> Result<OffsetDateTime, Parse>
 
 // The moment of the numbers, or an error if one is out of range or a leap second may not be there.
 #[inline(always)]
-fn moment(said: Said) -> Result<OffsetDateTime, ComponentRange>
+fn moment(said: MomentNumbers) -> Result<OffsetDateTime, ComponentRange>
     requires year { said.year ≤ greatest_year }
     requires month { said.month ≢ 0 }
     ensures { MatchResult result
         (λ v. IsMade greatest_year said v)
         (λ e. IsNotMade greatest_year said (refusal_of_range e)) }
 {
-    let moment = shown(said)?;
-    if leap_second_may_stand(said, moment) {
+    let moment = moment_of(said)?;
+    if is_leap_second_valid(said, moment) {
         return Ok(moment);
     }
     Err(ComponentRange {
@@ -163,16 +163,16 @@ fn moment(said: Said) -> Result<OffsetDateTime, ComponentRange>
 
 // Whether a second of 60, if the text has one, is the last second of a month in UTC.
 #[inline(always)]
-#[tactic(auto, unfolding(crate::specs::Direct::LeapSecondMayStand))]
-fn leap_second_may_stand(said: Said, moment: OffsetDateTime) -> bool
-    ensures { IsTrue result ↔ LeapSecondMayStand greatest_year said moment }
+#[tactic(auto, unfolding(crate::specs::Direct::IsLeapSecondValid))]
+fn is_leap_second_valid(said: MomentNumbers, moment: OffsetDateTime) -> bool
+    ensures { IsTrue result ↔ IsLeapSecondValid greatest_year said moment }
 {
     said.second != 60 || moment.is_valid_leap_second_stand_in()
 }
 
 // The moment of the numbers, with a second of 60 accepted in any minute.
 #[inline(always)]
-fn shown(said: Said) -> Result<OffsetDateTime, ComponentRange>
+fn moment_of(said: MomentNumbers) -> Result<OffsetDateTime, ComponentRange>
     requires year { said.year ≤ greatest_year }
     requires month { said.month ≢ 0 }
     ensures { MatchResult result
@@ -188,7 +188,7 @@ fn shown(said: Said) -> Result<OffsetDateTime, ComponentRange>
 // The date.
 #[inline(always)]
 #[tactic(auto, using(crate::proofs::MailRanges::month_refused, crate::proofs::MailRanges::date_made))]
-fn date(said: Said) -> Result<Date, ComponentRange>
+fn date(said: MomentNumbers) -> Result<Date, ComponentRange>
     requires year { said.year ≤ greatest_year }
     requires month { said.month ≢ 0 }
     ensures { Constructs (date_refusal greatest_year said) (HasDate said) result }
@@ -211,9 +211,9 @@ fn month(number: u8) -> Result<Month, ComponentRange>
 
 // The time. A leap second becomes the nanosecond before it.
 #[inline(always)]
-fn clock(said: Said) -> Result<Time, ComponentRange>
-    ensures { Constructs (time_refusal said.hour said.minute (shown_second said) (shown_nanosecond said))
-        (HasClock said.hour said.minute (shown_second said) (shown_nanosecond said)) result }
+fn clock(said: MomentNumbers) -> Result<Time, ComponentRange>
+    ensures { Constructs (time_refusal said.hour said.minute (moment_second said) (moment_nanosecond said))
+        (HasClock said.hour said.minute (moment_second said) (moment_nanosecond said)) result }
 {
     let (second, nanosecond) = if said.second == 60 {
         (59, 999_999_999)
@@ -225,7 +225,7 @@ fn clock(said: Said) -> Result<Time, ComponentRange>
 
 // The offset. That of UTC is a constant: a choice between two equal results, and no second way of reading.
 #[inline(always)]
-fn offset(said: Said) -> Result<UtcOffset, ComponentRange>
+fn offset(said: MomentNumbers) -> Result<UtcOffset, ComponentRange>
     ensures { Constructs (offset_refusal said.offset_hour said.offset_minute (pos 0))
         (HasOffset said.offset_hour said.offset_minute (pos 0)) result }
 {

@@ -8,9 +8,9 @@
 //! bytes at once. Where it returns `None`, `grammar` decides: without `fast` the results are equal, and take more
 //! steps.
 ghost use Rattle.std.specs.Prelude.{◌≡◌, true, false, MatchOption};
-ghost use Rattle.time_readers.specs.IsoPieces.{GivesPart, GivesPartOrFault};
+ghost use Rattle.time_readers.specs.IsoPieces.{ReturnsPart, ReturnsPartOrFault};
 ghost use Rattle.time_readers.specs.IsoDates.{iso_date, date_text};
-ghost use Rattle.time_readers.specs.IsoTimes.{GivesDateAndTime, not_basic, is_extended, basic_where_unknown, extended_where_unknown, time_text};
+ghost use Rattle.time_readers.specs.IsoTimes.{ReturnsDateAndTime, not_basic, is_extended, basic_where_unknown, extended_where_unknown, time_text};
 
 pub mod fast;
 mod grammar;
@@ -154,7 +154,7 @@ pub enum OffsetNumbers {
 /// form matches after the year, it is the error of the third form if there is a `W`, and else of the first.
 #[inline(always)]
 pub fn date(input: &[u8]) -> Result<Part<'_, DateNumbers>, ParseFromDescription>
-    ensures { GivesPartOrFault iso_date (date_text input.now) result }
+    ensures { ReturnsPartOrFault iso_date (date_text input.now) result }
 {
     match fast::date(input) {
         Some(found) => Ok(found),
@@ -173,7 +173,7 @@ pub fn date(input: &[u8]) -> Result<Part<'_, DateNumbers>, ParseFromDescription>
 /// Returns `None` for any other text, for a number out of its range, and for a fraction of a second that rounds to 1.
 #[inline(always)]
 pub fn time<'a>(input: &'a [u8], kind: ExtendedKind, needs_t: bool) -> Option<Part<'a, TimeNumbers>>
-    ensures { GivesPart (time_text needs_t kind input.now) result }
+    ensures { ReturnsPart (time_text needs_t kind input.now) result }
 {
     match fast::time(input, kind) {
         Some(found) => Some(found),
@@ -187,7 +187,7 @@ pub fn time<'a>(input: &'a [u8], kind: ExtendedKind, needs_t: bool) -> Option<Pa
 /// required.
 #[inline(always)]
 pub fn date_and_time(input: &[u8]) -> Result<DateAndTime<'_>, ParseFromDescription>
-    ensures { GivesDateAndTime input.now result }
+    ensures { ReturnsDateAndTime input.now result }
 {
     // The two fast results are returned separately: joined before their use, they would cost a moment some fifty
     // instructions more.

@@ -4,20 +4,20 @@ ghost use Rattle.std.specs.Prelude.{ℕ, List, Bool, true, false};
 ghost use Rattle.time_values.specs.Calendar.{greatest_year};
 ghost use Rattle.time_readers.specs.Direct.{IsDirectRfc3339, RefusesRfc3339, IsDirectRfc2822, RefusesRfc2822};
 ghost use Rattle.time_readers.specs.Readers.{Reader};
-ghost use Rattle.time_readers.specs.Laws.{OneForm, Takes, IsRepeated, IsoPiecesAreCuts, OneTimeRow, OneOffsetRow, OneFraction, RangedForms, OneDirect};
+ghost use Rattle.time_readers.specs.Laws.{OneForm, Consumes, IsRepeated, IsoPiecesAreCuts, OneTimeRow, OneOffsetRow, OneFraction, RangedForms, OneDirect};
 ghost use Rattle.time_readers.specs.Rfc2822 as rfc2822;
 ghost use Rattle.time_readers.specs.Rfc3339 as rfc3339;
 
 /// Parsed as RFC 3339, bytes have one result or one first place that doesn't match, and never both.
 pub fn law_one_form()
     ensures { (check_ranges : Bool) (bytes : List ℕ)
-        → OneForm (rfc3339.Asks check_ranges) rfc3339.places rfc3339.nothing_read bytes }
+        → OneForm (rfc3339.PlaceSyntax check_ranges) rfc3339.places rfc3339.nothing_read bytes }
 {}
 
 /// Parsed as a mail date of RFC 2822, bytes have one result or one first place that doesn't match, and never both.
 pub fn law_one_mail_date()
     ensures { (check_ranges : Bool) (bytes : List ℕ)
-        → OneForm (rfc2822.Asks check_ranges) rfc2822.places rfc2822.nothing_read bytes }
+        → OneForm (rfc2822.PlaceSyntax check_ranges) rfc2822.places rfc2822.nothing_read bytes }
 {}
 
 /// With range checks a text of RFC 3339 or a mail date matches exactly if it does without them and its numbers are in
@@ -30,7 +30,7 @@ pub fn law_ranged_forms()
 
 /// A reader that consumes a byte or more whenever it succeeds is repeated until it rejects.
 pub fn law_repeated()
-    ensures { (p : Reader) → Takes p → IsRepeated p }
+    ensures { (p : Reader) → Consumes p → IsRepeated p }
 {}
 
 /// Each piece of ISO 8601, defined as a function, finds exactly the prefix that spells its value.

@@ -8,7 +8,7 @@ ghost use Rattle.time_values.specs.Refusal.{refusal_of_description};
 ghost use Rattle.time_readers.specs.MailBlanks as spec;
 ghost use Rattle.time_readers.specs.MailBlanks.{zone_literal};
 ghost use Rattle.time_readers.specs.PlaceAnswers.{Reads, Walks};
-ghost use Rattle.time_readers.specs.Rfc2822.{Asks, day_places, to_offset_places, offset_places, HasForm, FailsAt, fault};
+ghost use Rattle.time_readers.specs.Rfc2822.{PlaceSyntax, day_places, to_offset_places, offset_places, HasForm, FailsAt, fault};
 ghost use Rattle.time_readers.specs.declared.rfc2822.Place.TheVariants as place;
 
 pub mod fast;
@@ -124,7 +124,7 @@ fn to_day<'a, const CHECK_RANGES: bool>(
     input: &'a [u8],
     numbers: &mut Numbers,
 ) -> Result<&'a [u8], Place>
-    ensures { Walks (Asks CHECK_RANGES) day_places numbers.old input.now result numbers.new }
+    ensures { Walks (PlaceSyntax CHECK_RANGES) day_places numbers.old input.now result numbers.new }
 {
     let rest = weekday_name(input, numbers).ok_or(Place::WeekdayName)?;
     grammar::day::<CHECK_RANGES>(rest, numbers).ok_or(Place::Day)
@@ -133,7 +133,7 @@ fn to_day<'a, const CHECK_RANGES: bool>(
 // Parses blanks, and then nothing or a weekday's name, a comma and blanks.
 #[inline(always)]
 fn weekday_name<'a>(input: &'a [u8], numbers: &mut Numbers) -> Option<&'a [u8]>
-    ensures { Reads (Asks false place.WeekdayName numbers.old) input.now result numbers.new }
+    ensures { Reads (PlaceSyntax false place.WeekdayName numbers.old) input.now result numbers.new }
 {
     match fast::weekday_name(input, numbers) {
         Some(rest) => Some(rest),
@@ -147,7 +147,7 @@ fn to_offset<'a, const CHECK_RANGES: bool>(
     input: &'a [u8],
     numbers: &mut Numbers,
 ) -> Result<&'a [u8], Place>
-    ensures { Walks (Asks CHECK_RANGES) to_offset_places numbers.old input.now result numbers.new }
+    ensures { Walks (PlaceSyntax CHECK_RANGES) to_offset_places numbers.old input.now result numbers.new }
 {
     match fast::to_offset::<CHECK_RANGES>(input, numbers) {
         Some(rest) => Ok(rest),
@@ -162,7 +162,7 @@ fn to_offset_by_places<'a, const CHECK_RANGES: bool>(
     input: &'a [u8],
     numbers: &mut Numbers,
 ) -> Result<&'a [u8], Place>
-    ensures { Walks (Asks CHECK_RANGES) to_offset_places numbers.old input.now result numbers.new }
+    ensures { Walks (PlaceSyntax CHECK_RANGES) to_offset_places numbers.old input.now result numbers.new }
 {
     if CHECK_RANGES {
         to_offset_apart::<CHECK_RANGES>(input, numbers)
@@ -177,7 +177,7 @@ fn to_offset_apart<'a, const CHECK_RANGES: bool>(
     input: &'a [u8],
     numbers: &mut Numbers,
 ) -> Result<&'a [u8], Place>
-    ensures { Walks (Asks CHECK_RANGES) to_offset_places numbers.old input.now result numbers.new }
+    ensures { Walks (PlaceSyntax CHECK_RANGES) to_offset_places numbers.old input.now result numbers.new }
 {
     grammar::to_offset::<CHECK_RANGES>(input, numbers)
 }
@@ -188,7 +188,7 @@ fn offset<'a, const CHECK_RANGES: bool>(
     input: &'a [u8],
     numbers: &mut Numbers,
 ) -> Result<&'a [u8], Place>
-    ensures { Walks (Asks CHECK_RANGES) offset_places numbers.old input.now result numbers.new }
+    ensures { Walks (PlaceSyntax CHECK_RANGES) offset_places numbers.old input.now result numbers.new }
 {
     match fast::offset::<CHECK_RANGES>(input, numbers) {
         Some(rest) => Ok(rest),

@@ -17,7 +17,7 @@ use Rattle.time_values.proofs.NumberLemmas.{month_number_in, days_from_monday_in
 use Rattle.time_record.specs.Record.{Record, IsInRanges}
 use Rattle.time_record.specs.Cells.{bit, build, option_at, value_at, is_one, bool_cell, month_in, month_cell, weekday_in, weekday_cell, IsCell, IsSound, or_zero, from_bits, bits_of, mask_of, bytes_of, shorts_of, words_of}
 use Rattle.time_record.specs.CellAnswers.{holds}
-use Rattle.time_record.specs.Laws.{HeldInRanges}
+use Rattle.time_record.specs.Laws.{StoresInRanges}
 use Rattle.time_record.specs.Inverse.{record_of, fields_of, AreSound}
 use Rattle.time_record.specs.declared.parsed.Parsed.TheInside.{Inside}
 
@@ -333,7 +333,7 @@ module _ (Y : ℕ) where
   unfolding fields_of
   fields_keep r ranges = fields_sound Y r ranges
 
-  pub each_held : HeldInRanges Y
+  pub each_held : StoresInRanges Y
   each_held = record {
     in_ranges = held_in_ranges;
     held = λ r ranges. (fields_of r, fields_keep r ranges, record_back r);

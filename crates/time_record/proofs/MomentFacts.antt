@@ -12,20 +12,20 @@ use Rattle.time_values.specs.declared.timestamp.Timestamp.{Timestamp}
 use Rattle.time_values.specs.declared.utc_date_time.UtcDateTime.{UtcDateTime}
 use Rattle.time_values.specs.declared.utc_offset.UtcOffset.{UtcOffset}
 use Rattle.time_values.specs.Dates.{IsDateWithin}
-use Rattle.time_values.specs.Instants.{IsInstant, IsLeapSecondStandIn, clock_nanos, instant}
+use Rattle.time_values.specs.Instants.{IsInstant, IsLastNanosecondOfMonth, clock_nanos, instant}
 use Rattle.time_values.specs.Refusal.{Refusal, insufficient, range}
 use Rattle.time_values.proofs.CalendarTests.{clock_is, date, first_is, instant_decided, last_is, moment_is, offset, time, year_decided}
 use Rattle.time_values.proofs.InstantLemmas.{clock_nanos_within}
 use Rattle.time_values.proofs.StandardFacts.{hour_ahead, last_nanosecond, midnight, utc, y10000-01-01, y9999-12-31}
 use Rattle.time_record.specs.Record.{Record, empty, put, unix_timestamp_nanos_is}
 use Rattle.time_record.specs.Resolution.{IsDated, IsInstantOfParts, IsMoment, IsMomentOfParts, IsOffset, IsOffsetOrUtc, IsTimed, IsTimestamp}
-use Rattle.time_record.specs.Resolution.{IsUtcMoment, IsUtcMomentOfParts, by_ordinal, is_leap_second, stand_in}
+use Rattle.time_record.specs.Resolution.{IsUtcMoment, IsUtcMomentOfParts, by_ordinal, is_leap_second, replace_leap_second}
 use Rattle.time_record.proofs.ResolutionLemmas.{IsMoment-one, IsUtcMoment-one}
 use Rattle.time_record.proofs.StandardFacts.{row_decided}
 
 -- ---- Steps to a moment
 
-module _ (Y : ℕ) (r : Record) (d : Date) (t : Time) (o : UtcOffset) (dated : IsDated Y r (Ok d)) (timed : IsTimed (stand_in r) (Ok t)) where
+module _ (Y : ℕ) (r : Record) (d : Date) (t : Time) (o : UtcOffset) (dated : IsDated Y r (Ok d)) (timed : IsTimed (replace_leap_second r) (Ok t)) where
   -- with its own offset
   at_offset : IsOffset r (Ok o) → is_leap_second r ≡ false → IsMomentOfParts Y r (Ok (record { date = d; time = t; offset = o }))
   unfolding IsMomentOfParts
@@ -34,7 +34,7 @@ module _ (Y : ℕ) (r : Record) (d : Date) (t : Time) (o : UtcOffset) (dated : I
   module _ (at : IsOffsetOrUtc r (Ok o)) where
     -- in UTC, for a leap second at the end of a month
     in_utc : (u : UtcDateTime) → clock_nanos Y u.date u.time ≡ instant Y d t o → IsDateWithin Y u.date
-        → (IsTrue (is_leap_second r) → IsLeapSecondStandIn u.date u.time) → IsUtcMomentOfParts Y r (Ok u)
+        → (IsTrue (is_leap_second r) → IsLastNanosecondOfMonth u.date u.time) → IsUtcMomentOfParts Y r (Ok u)
     unfolding IsUtcMomentOfParts
     in_utc u is within end = inr (d, dated, inr (t, timed, inr (o, at, inr (u, (is, within), ((refl, refl), end)))))
 
@@ -45,7 +45,7 @@ module _ (Y : ℕ) (r : Record) (d : Date) (t : Time) (o : UtcOffset) (dated : I
 
     -- and for a leap second that isn't at the end of a month
     misplaced : (u : UtcDateTime) → clock_nanos Y u.date u.time ≡ instant Y d t o → IsDateWithin Y u.date → IsTrue (is_leap_second r)
-        → (IsLeapSecondStandIn u.date u.time → ⊥) → IsUtcMomentOfParts Y r (Err (range (codes "second") true))
+        → (IsLastNanosecondOfMonth u.date u.time → ⊥) → IsUtcMomentOfParts Y r (Err (range (codes "second") true))
     unfolding IsUtcMomentOfParts
     misplaced u is within leap none = inr (d, dated, inr (t, timed, inr (o, at, inr (u, (is, within), (leap, none, refl)))))
 

@@ -10,7 +10,7 @@ use Rattle.time_values.specs.declared.time.Time.{Time}
 use Rattle.time_values.specs.declared.timestamp.Timestamp.{Timestamp}
 use Rattle.time_values.specs.declared.utc_date_time.UtcDateTime.{UtcDateTime}
 use Rattle.time_values.specs.declared.utc_offset.UtcOffset.{UtcOffset}
-use Rattle.time_values.specs.Instants.{IsInstant, IsLeapSecondMoment, IsLeapSecondStandIn, clock_nanos, instant}
+use Rattle.time_values.specs.Instants.{IsInstant, IsLeapSecondMoment, IsLastNanosecondOfMonth, clock_nanos, instant}
 use Rattle.time_values.specs.Offsets.{HasOffset, IsUtc, offset_refusal}
 use Rattle.time_values.specs.Calendar.{greatest_year}
 use Rattle.time_values.specs.Refusal.{Refusal, insufficient}
@@ -21,7 +21,7 @@ use Rattle.time_values.proofs.InstantLemmas.{same_moment, same_offset, same_offs
 use Rattle.time_record.specs.Record.{Record}
 use Rattle.time_record.specs.Resolution.{IsConstructed, IsDated, IsInUtc, IsInstantOfParts, IsMoment, IsMomentOfParts, IsOffset, IsOffsetOr}
 use Rattle.time_record.specs.Resolution.{IsOffsetOrUtc, IsPlain, IsStamped, IsTimed, IsTimestamp, IsUtcMoment, IsUtcMomentOfParts, Judged, Then}
-use Rattle.time_record.specs.Resolution.{Clock, clock_of, is_leap_second, offset_part, offset_seconds_of, stand_in, HasRow, IsRowDate, Row}
+use Rattle.time_record.specs.Resolution.{Clock, clock_of, is_leap_second, offset_part, offset_seconds_of, replace_leap_second, HasRow, IsRowDate, Row}
 use Rattle.time_record.specs.Resolution.{by_iso_week, by_monday_week, by_month_and_day, by_ordinal, by_sunday_week, first_row}
 
 -- at most one value has the property
@@ -42,7 +42,7 @@ pub Then-next : {A Stops : Type 0} {Gives Next : A → Type 0} (a : A) → Gives
 Then-next a given next = inr (a, given, next)
 
 -- without a leap second the time of a record is its own
-pub IsTimed-no_leap : (r : Record) (result : Result Time Refusal) → is_leap_second r ≡ false → IsTimed r result → IsTimed (stand_in r) result
+pub IsTimed-no_leap : (r : Record) (result : Result Time Refusal) → is_leap_second r ≡ false → IsTimed r result → IsTimed (replace_leap_second r) result
 IsTimed-no_leap r result none timed =
     subst (λ (leap : Bool). IsTimed (if leap then record r { second = Some 59; subsecond = Some 999_999_999 } else r) result) (sym none) timed
 
@@ -166,7 +166,7 @@ IsMomentOfParts-one : (r : Record) → IsOne (IsMomentOfParts greatest_year r)
 unfolding IsMomentOfParts
 IsMomentOfParts-one r =
     Then-one (IsDated greatest_year r) _ (IsDated-one r)
-    (λ d. Then-one (IsTimed (stand_in r)) _ (IsTimed-one (stand_in r))
+    (λ d. Then-one (IsTimed (replace_leap_second r)) _ (IsTimed-one (replace_leap_second r))
     (λ t. Then-one (IsOffset r) _ (IsOffset-one r)
     (λ o. Judged-one (is_leap_second r) (IsLeapSecondMoment greatest_year (instant greatest_year d t o))
     (λ (v : OffsetDateTime). (v.date ≡ d) × (v.time ≡ t) × (v.offset ≡ o))
@@ -194,10 +194,10 @@ IsUtcMomentOfParts-one : (r : Record) → IsOne (IsUtcMomentOfParts greatest_yea
 unfolding IsUtcMomentOfParts
 IsUtcMomentOfParts-one r =
     Then-one (IsDated greatest_year r) _ (IsDated-one r)
-    (λ d. Then-one (IsTimed (stand_in r)) _ (IsTimed-one (stand_in r))
+    (λ d. Then-one (IsTimed (replace_leap_second r)) _ (IsTimed-one (replace_leap_second r))
     (λ t. Then-one (IsOffsetOrUtc r) _ (IsOffsetOrUtc-one r)
     (λ o. Then-one (IsInUtc greatest_year (instant greatest_year d t o)) _ (IsInUtc-one (instant greatest_year d t o))
-    (λ u. Judged-one (is_leap_second r) (IsLeapSecondStandIn u.date u.time) (λ (v : UtcDateTime). (v.date ≡ u.date) × (v.time ≡ u.time))
+    (λ u. Judged-one (is_leap_second r) (IsLastNanosecondOfMonth u.date u.time) (λ (v : UtcDateTime). (v.date ≡ u.date) × (v.time ≡ u.time))
     (λ a b h k. same_utc a b (h.0 ∙ sym k.0) (h.1 ∙ sym k.1))))))
 
 pub IsUtcMoment-one : (r : Record) → IsOne (IsUtcMoment greatest_year r)

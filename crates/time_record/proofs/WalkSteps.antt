@@ -12,7 +12,7 @@ use Rattle.time_components.specs.declared.inspect.Step.{Step}
 use Rattle.time_components.specs.declared.inspect.Step.TheVariants as step
 use Rattle.time_record.specs.Reading.{places, places_of_all, Begins, BeginsAll, raised, Reads, ReadsAll, RefusesAll, Answers, Counts, CountsAll}
 use Rattle.time_record.specs.Reading.{NoReading, IsFault, Refuses}
-use Rattle.time_record.specs.WalkSteps.{IsLeaf, leaf_refusal, Goes, RefusesLeaf, Unread}
+use Rattle.time_record.specs.WalkSteps.{IsLeaf, leaf_refusal, Resumes, RefusesLeaf, Unread}
 use Rattle.time_record.specs.Record.{Record}
 use Rattle.time_record.proofs.Counting.{BeginsAll-within_places, Counts-leaf, places-item}
 use Rattle.time_record.proofs.Unique.{trees_from, trees_from-item, ReadsAll-more, RefusesAll-more, RefusesAll-here}
@@ -57,30 +57,30 @@ module _ {X : Type 0} {f : X → Tree} {xs : List X} {i : ℕ} {t : Tree} (h : H
   HasItem-places = subst (λ u. places u ≤ places_of_all (trees (map f xs))) h.tree (places-item f xs i h.item h.within h.is)
 
 -- nothing was read yet
-pub Goes-start : (Y : ℕ) (all : Trees) (b : List ℕ) (r : Record) → Goes Y all b r 0 all b r
-Goes-start Y all b r = record { reads = λ rest q h. h; refuses = λ e h. h; begins = λ m h. subst (BeginsAll Y all b r) (omega arith) h }
+pub Resumes-start : (Y : ℕ) (all : Trees) (b : List ℕ) (r : Record) → Resumes Y all b r 0 all b r
+Resumes-start Y all b r = record { reads = λ rest q h. h; refuses = λ e h. h; begins = λ m h. subst (BeginsAll Y all b r) (omega arith) h }
 
 -- the number of items visited, in another form
-pub Goes-counted : {Y : ℕ} {all : Trees} {b0 : List ℕ} {r0 : Record} {n k : ℕ} {left : Trees} {b : List ℕ} {r : Record} → n ≡ k →
-    Goes Y all b0 r0 n left b r → Goes Y all b0 r0 k left b r
-Goes-counted {Y} {all} {b0} {r0} {n} {k} {left} {b} {r} is g = subst (λ m. Goes Y all b0 r0 m left b r) is g
+pub Resumes-counted : {Y : ℕ} {all : Trees} {b0 : List ℕ} {r0 : Record} {n k : ℕ} {left : Trees} {b : List ℕ} {r : Record} → n ≡ k →
+    Resumes Y all b0 r0 n left b r → Resumes Y all b0 r0 k left b r
+Resumes-counted {Y} {all} {b0} {r0} {n} {k} {left} {b} {r} is g = subst (λ m. Resumes Y all b0 r0 m left b r) is g
 
 -- two stretches of reading in turn
-pub Goes-further : {Y : ℕ} {all : Trees} {b0 : List ℕ} {r0 : Record} {n : ℕ} {left : Trees} {b : List ℕ} {r : Record}
-    {k : ℕ} {least : Trees} {c : List ℕ} {s : Record} → Goes Y all b0 r0 n left b r → Goes Y left b r k least c s →
-    Goes Y all b0 r0 (n + k) least c s
-Goes-further {Y} {all} {b0} {r0} {n} {left} {b} {r} {k} g h = record {
+pub Resumes-further : {Y : ℕ} {all : Trees} {b0 : List ℕ} {r0 : Record} {n : ℕ} {left : Trees} {b : List ℕ} {r : Record}
+    {k : ℕ} {least : Trees} {c : List ℕ} {s : Record} → Resumes Y all b0 r0 n left b r → Resumes Y left b r k least c s →
+    Resumes Y all b0 r0 (n + k) least c s
+Resumes-further {Y} {all} {b0} {r0} {n} {left} {b} {r} {k} g h = record {
   reads = λ rest q x. g.reads rest q (h.reads rest q x);
   refuses = λ e x. g.refuses e (h.refuses e x);
   begins = λ m x. subst (BeginsAll Y all b0 r0) (omega arith) (g.begins (k + m) (h.begins m x));
 }
 
-module _ {Y : ℕ} {all : Trees} {b0 : List ℕ} {r0 : Record} {n : ℕ} {left : Trees} {b : List ℕ} {r : Record} (g : Goes Y all b0 r0 n left b r) where
+module _ {Y : ℕ} {all : Trees} {b0 : List ℕ} {r0 : Record} {n : ℕ} {left : Trees} {b : List ℕ} {r : Record} (g : Resumes Y all b0 r0 n left b r) where
   module _ (t : Tree) (ts : Trees) (is : left ≡ more t ts) where
     -- the next tree is read, which visits k items
-    pub Goes-reads : {mid : List ℕ} {q : Record} (k : ℕ) → Begins Y t b r k → Reads Y t b r mid q → Goes Y all b0 r0 (n + k) ts mid q
+    pub Resumes-reads : {mid : List ℕ} {q : Record} (k : ℕ) → Begins Y t b r k → Reads Y t b r mid q → Resumes Y all b0 r0 (n + k) ts mid q
     unfolding BeginsAll
-    Goes-reads {mid} {q} k begun h = record {
+    Resumes-reads {mid} {q} k begun h = record {
       reads = λ rest p x. g.reads rest p (subst (λ us. ReadsAll Y us b r rest p) (sym is) (ReadsAll-more Y t ts b r mid q rest p h x));
       refuses = λ e x. g.refuses e (subst (λ us. RefusesAll Y us b r e) (sym is) (RefusesAll-more Y t ts b r mid q e h x));
       begins = λ m x.
@@ -89,20 +89,20 @@ module _ {Y : ℕ} {all : Trees} {b0 : List ℕ} {r0 : Record} {n : ℕ} {left :
     }
 
     -- a leaf
-    pub Goes-leaf : {mid : List ℕ} {q : Record} → IsLeaf t → Reads Y t b r mid q → Goes Y all b0 r0 (n + 1) ts mid q
-    Goes-leaf leaf h = Goes-reads 1 (Begins-leaf Y t b r leaf) h
+    pub Resumes-leaf : {mid : List ℕ} {q : Record} → IsLeaf t → Reads Y t b r mid q → Resumes Y all b0 r0 (n + 1) ts mid q
+    Resumes-leaf leaf h = Resumes-reads 1 (Begins-leaf Y t b r leaf) h
 
     -- the next tree doesn't match
-    pub Goes-refused : {e : Refusal} → Refuses Y t b r e → Refuses Y (sequence all) b0 r0 e
+    pub Resumes-refused : {e : Refusal} → Refuses Y t b r e → Refuses Y (sequence all) b0 r0 e
     unfolding Reads IsFault
-    Goes-refused {e} h =
+    Resumes-refused {e} h =
         let refused = g.refuses e (subst (λ us. RefusesAll Y us b r e) (sym is) (RefusesAll-here Y t ts b r e h)) in
         record { unread = refused.unread; fault = refused.fault }
 
   -- no tree is left
-  pub Goes-end : left ≡ tree_none → Reads Y (sequence all) b0 r0 b r
+  pub Resumes-end : left ≡ tree_none → Reads Y (sequence all) b0 r0 b r
   unfolding Reads ReadsAll
-  Goes-end is = g.reads b r (subst (λ ts. ReadsAll Y ts b r b r) (sym is) (refl, refl))
+  Resumes-end is = g.reads b r (subst (λ ts. ReadsAll Y ts b r b r) (sym is) (refl, refl))
 
 -- Adding two is adding one twice.
 pub raised_twice : (count new : ℕ) → new ≡ raised count 2 → new ≡ raised (raised count 1) 1
@@ -116,24 +116,24 @@ raised_further count uncounted left least fewer within = omega arith
 -- The result of the trees that are left is that of all, and `now` is the count after those that were read.
 pub record Walked (Y : ℕ) (all : Trees) (b0 : List ℕ) (r0 : Record) (left : Trees) (b : List ℕ) (r : Record) (old now : ℕ) : Type 0 where
   pub so_far : ℕ
-  pub goes : Goes Y all b0 r0 so_far left b r
+  pub goes : Resumes Y all b0 r0 so_far left b r
   pub stands : now ≡ raised old so_far
 
 pub Walked-start : (Y : ℕ) (all : Trees) (b : List ℕ) (r : Record) (old : ℕ) → Walked Y all b r all b r old old
-Walked-start Y all b r old = record { so_far = 0; goes = Goes-start Y all b r; stands = omega arith }
+Walked-start Y all b r old = record { so_far = 0; goes = Resumes-start Y all b r; stands = omega arith }
 
 module _ {Y : ℕ} {all : Trees} {b0 : List ℕ} {r0 : Record} {left : Trees} {b : List ℕ} {r : Record} {old now : ℕ}
     (w : Walked Y all b0 r0 left b r old now) where
   -- leaves are read
-  pub Walked-further : (k : ℕ) {least : Trees} {c : List ℕ} {s : Record} (next : ℕ) → Goes Y left b r k least c s → next ≡ raised now k →
+  pub Walked-further : (k : ℕ) {least : Trees} {c : List ℕ} {s : Record} (next : ℕ) → Resumes Y left b r k least c s → next ≡ raised now k →
       Walked Y all b0 r0 least c s old next
-  Walked-further k next g is = let s = w.stands in record { so_far = w.so_far + k; goes = Goes-further w.goes g; stands = omega arith }
+  Walked-further k next g is = let s = w.stands in record { so_far = w.so_far + k; goes = Resumes-further w.goes g; stands = omega arith }
 
   module _ (t : Tree) (ts : Trees) (is : left ≡ more t ts) (next : ℕ) (c : Counts Y t b r now next) where
     -- an item is read
     pub Walked-reads : {mid : List ℕ} {q : Record} → Reads Y t b r mid q → Walked Y all b0 r0 ts mid q old next
     Walked-reads h = let s = w.stands in let e = c.rises in
-        record { so_far = w.so_far + c.begun; goes = Goes-reads w.goes t ts is c.begun c.begins h; stands = omega arith }
+        record { so_far = w.so_far + c.begun; goes = Resumes-reads w.goes t ts is c.begun c.begins h; stands = omega arith }
 
     -- an item doesn't match
     pub Walked-counts_refused : NoReading Y t b r → CountsAll Y all b0 r0 old next
@@ -170,7 +170,7 @@ module _ (Y : ℕ) (all : Trees) (t : Tree) (is : all ≡ more t tree_none) (b :
   pub Answers-one : (read : Result (Bor (List ℕ)) ParseFromDescription) (r' : Record) → Answers Y t b r read r' → Answers Y (sequence all) b r read r'
   unfolding Reads ReadsAll
   Answers-one (Ok rest) r' h = subst (λ ts. Reads Y (sequence ts) b r rest.now r') (sym is) (rest.now, r', h, (refl, refl))
-  Answers-one (Err e) r' h = (Goes-refused (Goes-start Y all b r) t tree_none is h.0, h.1)
+  Answers-one (Err e) r' h = (Resumes-refused (Resumes-start Y all b r) t tree_none is h.0, h.1)
 
   pub Counts-one : (read : Result (Bor (List ℕ)) ParseFromDescription) (r' : Record) (old now : ℕ) → Answers Y t b r read r' →
       Counts Y t b r old now → CountsAll Y all b r old now

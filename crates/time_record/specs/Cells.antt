@@ -84,8 +84,8 @@ build option set = record {
 }
 
 -- the least and the greatest value of each cell
-abbrev pub lows : ℕ → List ℤ
-lows Y =
+abbrev pub least_values : ℕ → List ℤ
+least_values Y =
     (pos 0) ∷ (pos 0) ∷ (pos 1) ∷ (pos 0) ∷
     (pos 0) ∷ (pos 1) ∷ (pos 0) ∷ (pos 1) ∷
     (pos 0) ∷ (pos 1) ∷ (pos 0) ∷ (pos 0) ∷
@@ -93,8 +93,8 @@ lows Y =
     (neg_ℤ (pos (Y / 100))) ∷ (neg_ℤ (pos (Y / 100))) ∷ (pos 1) ∷ (neg_ℤ (pos Y)) ∷
     (neg_ℤ (pos Y)) ∷ (pos 0) ∷ (first_instant Y) ∷ []
 
-abbrev pub highs : ℕ → List ℤ
-highs Y =
+abbrev pub greatest_values : ℕ → List ℤ
+greatest_values Y =
     (pos 99) ∷ (pos 99) ∷ (pos 12) ∷ (pos 53) ∷
     (pos 53) ∷ (pos 53) ∷ (pos 6) ∷ (pos 31) ∷
     (pos 23) ∷ (pos 12) ∷ (pos 1) ∷ (pos 59) ∷
@@ -103,7 +103,7 @@ highs Y =
     (pos Y) ∷ (pos 999_999_999) ∷ (last_instant Y) ∷ []
 
 abbrev pub InCell : ℕ → ℕ → ℤ → Type 0
-InCell Y i v = (slice_index_or (lows Y) i (pos 0) ≤ℤ v) × (v ≤ℤ slice_index_or (highs Y) i (pos 0))
+InCell Y i v = (slice_index_or (least_values Y) i (pos 0) ≤ℤ v) × (v ≤ℤ slice_index_or (greatest_values Y) i (pos 0))
 
 -- a value that is there is in its range, and one that isn't is 0
 abbrev pub IsCell : ℕ → ℕ → Bool → ℤ → Type 0

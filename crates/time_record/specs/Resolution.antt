@@ -16,7 +16,7 @@ use Rattle.time_values.specs.declared.utc_date_time.UtcDateTime.{UtcDateTime}
 use Rattle.time_values.specs.declared.plain_date_time.PlainDateTime.{PlainDateTime}
 use Rattle.time_values.specs.declared.offset_date_time.OffsetDateTime.{OffsetDateTime}
 use Rattle.time_values.specs.declared.error.TryFromParsed.{TryFromParsed}
-use Rattle.time_values.specs.Instants.{clock_nanos, instant, IsInstant, IsLeapSecondMoment, IsLeapSecondStandIn}
+use Rattle.time_values.specs.Instants.{clock_nanos, instant, IsInstant, IsLeapSecondMoment, IsLastNanosecondOfMonth}
 use Rattle.time_values.specs.Offsets.{HasOffset, IsUtc, offset_refusal}
 use Rattle.time_values.specs.Moments.{plain_date, plain_time, offset_date, offset_time, offset_of, utc_date, utc_time, utc_instant, nanoseconds}
 use Rattle.time_values.specs.Times as Times
@@ -105,9 +105,9 @@ IsRowDate Y row result = MatchResult result (HasRow Y row)
     (λ e. ((d : Date) → HasRow Y row d → ⊥) × (e ≡ row_refusal Y row))
 
 -- a conversion's result, with the content of its error
-abbrev pub parsed_seen : {V : Type 0} → Result V TryFromParsed → Result V Refusal
-parsed_seen (Ok v) = Ok v
-parsed_seen (Err e) = Err (refusal_of_parsed e)
+abbrev pub erased_conversion : {V : Type 0} → Result V TryFromParsed → Result V Refusal
+erased_conversion (Ok v) = Ok v
+erased_conversion (Err e) = Err (refusal_of_parsed e)
 
 -- a value with P, or the given error
 abbrev pub IsConstructed : {V : Type 0} → Option Refusal → (V → Type 0) → Result V Refusal → Type 0
@@ -200,8 +200,8 @@ abbrev pub is_leap_second : Record → Bool
 is_leap_second r = r.leap_second_allowed && option_map_or (λ s. s == 60) r.second false
 
 -- the record with a leap second replaced by the last nanosecond before it
-abbrev pub stand_in : Record → Record
-stand_in r =
+abbrev pub replace_leap_second : Record → Record
+replace_leap_second r =
     if is_leap_second r then record r { second = Some 59; subsecond = Some 999_999_999 } else r
 
 -- a value with P; or, for a leap second that isn't at a month's end, its error
@@ -211,7 +211,7 @@ Judged leap AtEnd P (Err e) = IsTrue leap × (AtEnd → ⊥) × (e ≡ range (co
 
 -- the moment of a date, a time and an offset, or their first error, in that order
 unfoldable pub IsMomentOfParts : ℕ → Record → Result OffsetDateTime Refusal → Type 0
-IsMomentOfParts Y r = Then (IsDated Y r) (λ d. Then (IsTimed (stand_in r)) (λ t. Then (IsOffset r)
+IsMomentOfParts Y r = Then (IsDated Y r) (λ d. Then (IsTimed (replace_leap_second r)) (λ t. Then (IsOffset r)
     (λ o. Judged (is_leap_second r) (IsLeapSecondMoment Y (instant Y d t o))
     (λ v. (offset_date v ≡ d) × (offset_time v ≡ t) × (offset_of v ≡ o)))))
 
@@ -228,9 +228,9 @@ IsInUtc Y n (Err e) = (IsInstant Y n → ⊥) × (e ≡ range (codes "year") tru
 
 -- the moment in UTC of a date, a time and an offset, or their first error, in that order, and then its own
 unfoldable pub IsUtcMomentOfParts : ℕ → Record → Result UtcDateTime Refusal → Type 0
-IsUtcMomentOfParts Y r = Then (IsDated Y r) (λ d. Then (IsTimed (stand_in r)) (λ t. Then (IsOffsetOrUtc r)
+IsUtcMomentOfParts Y r = Then (IsDated Y r) (λ d. Then (IsTimed (replace_leap_second r)) (λ t. Then (IsOffsetOrUtc r)
     (λ o. Then (IsInUtc Y (instant Y d t o))
-    (λ u. Judged (is_leap_second r) (IsLeapSecondStandIn (utc_date u) (utc_time u))
+    (λ u. Judged (is_leap_second r) (IsLastNanosecondOfMonth (utc_date u) (utc_time u))
     (λ v. (utc_date v ≡ utc_date u) × (utc_time v ≡ utc_time u))))))
 
 -- the moment of a record in UTC

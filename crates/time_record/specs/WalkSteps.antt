@@ -12,7 +12,7 @@ use Rattle.time_record.specs.Record.{Record}
 
 -- The result of reading the trees that are left is that of reading all: those before them were read, and the number of
 -- items visited so far is added.
-pub record Goes (Y : ℕ) (all : Trees) (b0 : List ℕ) (r0 : Record) (begun : ℕ) (left : Trees) (b : List ℕ)
+pub record Resumes (Y : ℕ) (all : Trees) (b0 : List ℕ) (r0 : Record) (begun : ℕ) (left : Trees) (b : List ℕ)
     (r : Record) : Type 0 where
   pub reads : (rest : List ℕ) (q : Record) → ReadsAll Y left b r rest q → ReadsAll Y all b0 r0 rest q
   pub refuses : (e : Refusal) → RefusesAll Y left b r e → RefusesAll Y all b0 r0 e

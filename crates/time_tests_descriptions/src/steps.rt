@@ -301,7 +301,7 @@ mod strftime {
     }
 
     // Texts, each with a description of version 2 that has the same steps.
-    static DESCRIPTIONS: [(&[u8], &[u8]); 44] = [
+    static DESCRIPTIONS: [(&[u8], &[u8]); 51] = [
         (b"%a", b"[weekday repr:short]"),
         (b"%A", b"[weekday]"),
         (b"%b", b"[month repr:short]"),
@@ -322,6 +322,12 @@ mod strftime {
         (b"%m", b"[month]"),
         (b"%M", b"[minute]"),
         (b"%S", b"[second]"),
+        (b"%f", b"[subsecond]"),
+        (b"%3f", b"[subsecond digits:3]"),
+        (b"%6f", b"[subsecond digits:6]"),
+        (b"%9f", b"[subsecond digits:9]"),
+        (b"%.f", b"[optional [.[subsecond]]]"),
+        (b"%N", b"[subsecond digits:9]"),
         (b"%p", b"[period]"),
         (b"%P", b"[period case:lower]"),
         (b"%s", b"[unix_timestamp]"),
@@ -331,6 +337,7 @@ mod strftime {
         (b"%V", b"[week_number]"),
         (b"%W", b"[week_number repr:monday]"),
         (b"%z", b"[offset_hour sign:mandatory][offset_minute]"),
+        (b"%:z", b"[offset_hour sign:mandatory]:[offset_minute]"),
         (b"%n", b"\n"),
         (b"%t", b"\t"),
         (b"%%", b"%"),
@@ -383,7 +390,7 @@ mod strftime {
     }
 
     // Texts, each with its first error.
-    static FAULTS: [(&[u8], InvalidFormatDescription<'static>); 10] = [
+    static FAULTS: [(&[u8], InvalidFormatDescription<'static>); 14] = [
         (
             b"ab%",
             InvalidFormatDescription::InvalidComponentName {
@@ -455,6 +462,35 @@ mod strftime {
             InvalidFormatDescription::InvalidModifier {
                 value: b"0",
                 index: 1,
+            },
+        ),
+        // `.` and the digits are flags of `f` alone, and `:` of `z` alone.
+        (
+            b"a%.d",
+            InvalidFormatDescription::InvalidModifier {
+                value: b".",
+                index: 2,
+            },
+        ),
+        (
+            b"a%3N",
+            InvalidFormatDescription::InvalidModifier {
+                value: b"3",
+                index: 2,
+            },
+        ),
+        (
+            b"a%:H",
+            InvalidFormatDescription::InvalidModifier {
+                value: b":",
+                index: 2,
+            },
+        ),
+        (
+            b"a%_f",
+            InvalidFormatDescription::InvalidModifier {
+                value: b"_",
+                index: 2,
             },
         ),
     ];

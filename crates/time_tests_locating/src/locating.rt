@@ -526,7 +526,7 @@ mod iso8601 {
 }
 
 // The text of what was expected.
-mod shown {
+mod display {
     use std::test::Fail;
     use time_locating::Expected;
 
@@ -539,7 +539,7 @@ mod shown {
     ];
 
     #[test]
-    fn shown(rt: HostRuntime) -> Result<(), Fail> {
+    fn displayed_expectations(rt: HostRuntime) -> Result<(), Fail> {
         for (expected, text) in &DISPLAYED {
             let printed = format!(in rt.alloc(); "{expected}")?;
             assert!(rt; printed.as_str() == *text, "{text}");

@@ -1,12 +1,17 @@
-//! Readers of digits, signs and single bytes.
+//! Parsers of digits, signs and single bytes.
 ghost use Rattle.std.specs.Prelude.{◌≤◌};
 
-use crate::components::{Answer, answers};
-use time_readers::combinator::{
+use time_digits::combinator::{
     any_digit, ascii_char, ascii_char_ignore_case, exactly_n_digits, exactly_n_digits_padded,
     n_to_m_digits, n_to_m_digits_padded, one_or_two_digits, sign,
 };
-use time_readers::{Integer, Padding, ParsedItem, Sign};
+use time_digits::{Integer, Padding, ParsedItem, Sign};
+
+// The value at the start of a text, and the bytes after it.
+fn found<T: Copy>(item: Option<ParsedItem<'_, T>>) -> Option<(T, &[u8])> {
+    let ParsedItem(rest, value) = item?;
+    Some((value, rest))
+}
 
 // Whether the result is the value with that rest.
 fn reads<T: PartialEq + Copy>(answer: Option<ParsedItem<'_, T>>, value: T, rest: &[u8]) -> bool {
@@ -34,7 +39,7 @@ fn reads_behind_spaces() -> bool {
 }
 
 // Texts, their padding, and their number of two digits.
-static PADDED: [(&[u8], Padding, Answer<u8>); 3] = [
+static PADDED: [(&[u8], Padding, Option<(u8, &[u8])>); 3] = [
     (b" 7", Padding::Space, Some((7, b""))),
     (b"7x", Padding::None, Some((7, b"x"))),
     (b"7x", Padding::Zero, None),
@@ -45,7 +50,7 @@ fn digits_and_record(rt: HostRuntime) {
     assert!(rt; reads_as_many_as_fit());
     assert!(rt; reads_behind_spaces());
     for (input, padding, expected) in &PADDED {
-        assert!(rt; answers(exactly_n_digits_padded::<2, u8>(input, *padding), *expected));
+        assert!(rt; found(exactly_n_digits_padded::<2, u8>(input, *padding)) == *expected);
     }
     assert!(rt; reads(exactly_n_digits::<9>(b"9999999990"), 999_999_999, b"0"));
     assert!(rt; exactly_n_digits::<9>(b"/234567891").is_none());
@@ -114,8 +119,8 @@ fn greatest_numbers(rt: HostRuntime) {
 
 // Runs of an exact number of digits, with each byte at each place.
 mod word_digits {
-    use crate::components::answers;
-    use time_readers::combinator::exactly_n_digits;
+    use super::found;
+    use time_digits::combinator::exactly_n_digits;
 
     // The number of the digits, or nothing if a byte is not a digit.
     fn number(digits: &[u8]) -> Option<u32> {
@@ -142,7 +147,7 @@ mod word_digits {
         requires least { 1 ≤ N }
         requires most { N ≤ 9 }
     {
-        answers(exactly_n_digits::<N>(input), number_in_front(input, N))
+        found(exactly_n_digits::<N>(input)) == number_in_front(input, N)
     }
 
     // Eleven digits, with one replaced by another byte.

@@ -1,6 +1,6 @@
 //! Time zones: their names, local times, and the example of their page.
 ghost use Rattle.std.specs.Prelude.{IfSome};
-ghost use Rattle.time_zones.specs.Zones.{IsShownIn};
+ghost use Rattle.time_zones.specs.Zones.{HasLocalTime};
 
 mod suffixes;
 
@@ -53,7 +53,7 @@ fn answer_of(zone: &TimeZone<'_>, minute: Minute) -> Option<Answer> {
             earlier.offset().whole_seconds(),
             later.offset().whole_seconds(),
         ),
-        Err(NotOne::Untold) => Answer::OutsideZoneRange,
+        Err(NotOne::OutsideZoneRange) => Answer::OutsideZoneRange,
     })
 }
 
@@ -107,12 +107,12 @@ fn by_setting(alloc: Global, setting: &str) -> Option<NamedZone> {
 
 /// The first moment with the local time in the zone.
 fn first_moment(clock: PlainDateTime, zone: &TimeZone<'_>) -> Option<OffsetDateTime>
-    ensures { IfSome result (IsShownIn zone.now clock) }
+    ensures { IfSome result (HasLocalTime zone.now clock) }
 {
     match assume_zone(clock, zone) {
         Ok(moment) => Some(moment),
         Err(NotOne::Fold { earlier, .. }) => Some(earlier),
-        Err(NotOne::Gap | NotOne::Untold) => None,
+        Err(NotOne::Gap | NotOne::OutsideZoneRange) => None,
     }
 }
 
@@ -430,7 +430,7 @@ mod checking {
     use super::{BERLIN, Minute, NEW_YORK, by_setting};
     use std::alloc::Global;
     use time_values::Month::{January, July, November};
-    use time_zones::SuffixFault::{CriticalKey, OtherOffset, UnknownZone, Untold};
+    use time_zones::SuffixFault::{CriticalKey, OtherOffset, OutsideZoneRange, UnknownZone};
     use time_zones::{NamedZone, SuffixFault, Zones, check_suffix, find_zones, read_suffix};
 
     // Berlin and New York, by their rules, and UTC.
@@ -492,7 +492,7 @@ mod checking {
             (10000, January, 1, 12, 0),
             1,
             b"[Europe/Berlin]",
-            Some(Untold),
+            Some(OutsideZoneRange),
         ),
         ((10000, January, 1, 12, 0), 1, b"[+01:00]", None),
     ];

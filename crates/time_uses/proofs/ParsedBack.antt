@@ -5,7 +5,7 @@ use Rattle.time.specs.Types.{Auto, OffsetDateTime, Parse, Unwritable}
 use Rattle.time.specs.Words.{direct, greatest_year, seen, moment_text, offset_time, unwritable_3339, IsMomentOutcome, OneMomentOutcome, RefusesRfc3339, Writes}
 use Rattle.time.specs.parsing.Rfc3339.{Reads, Refuses}
 use Rattle.time.specs.parsing.Written.{written, IsCut, KeepsAll, ReadsBack}
-use Rattle.time.specs.values.Shown.{Items}
+use Rattle.time.specs.values.DisplayTexts.{Items}
 use Rattle.time.specs.values.Times as Times
 use Rattle.time.proofs.OneOutcome.{same_Ok}
 

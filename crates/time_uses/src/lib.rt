@@ -2,7 +2,7 @@
 #![tactic(auto)]
 
 ghost use Rattle.std.specs.Prelude.{◌≡◌, ◌≢◌, None, Some};
-ghost use Rattle.time.specs.Words.{greatest_year, direct, RefusesRfc2822, IsDated, IsTimed, IsMoment, IsUtcMoment, IsOutcome, IsFront, IsMomentOutcome, IsErrorAt, begun, empty, put, refusal_of, seen, seen_front, year_is, unwritable_3339};
+ghost use Rattle.time.specs.Words.{greatest_year, direct, RefusesRfc2822, IsDated, IsTimed, IsMoment, IsUtcMoment, IsOutcome, IsFront, IsMomentOutcome, IsErrorAt, begun, empty, put, refusal_of, seen, erased_prefix_result, year_is, unwritable_3339};
 ghost use Rattle.time.specs.parsing.Rfc3339 as rfc3339;
 ghost use Rattle.time.specs.parsing.Rfc2822 as rfc2822;
 ghost use Rattle.time.specs.parsing.Iso8601 as iso8601;
@@ -20,7 +20,7 @@ use time::{Date, OffsetDateTime, Time, UtcDateTime, laws};
 /// The moment at the beginning of a line of a log, by RFC 3339, and the rest of the line.
 pub fn log_line(line: &[u8]) -> Result<(OffsetDateTime, &[u8]), Parse>
     ensures { IsFront (IsMoment greatest_year) (rfc3339.Reads greatest_year) (rfc3339.Refuses greatest_year)
-        line.now empty (seen_front result) }
+        line.now empty (erased_prefix_result result) }
 {
     Rfc3339.parse_front(line, None)
 }

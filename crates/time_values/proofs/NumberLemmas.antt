@@ -19,7 +19,7 @@ use Rattle.time_values.specs.Calendar.{years_before, days_of_months, leap_day, g
 use Rattle.time_values.specs.Dates.{day_number}
 use Rattle.time_values.specs.declared.error.ComponentRange.{ComponentRange}
 use Rattle.time_values.specs.Refusal.{Refusal, Constructs, refusal_of_range}
-use Rattle.time_values.specs.Shown.{significant}
+use Rattle.time_values.specs.DisplayTexts.{significant}
 use Rattle.time_values.proofs.YearLemmas.{days_of_years_closed, year_start-next, year_length-leap_day, days_of_months_closed}
 
 -- ---- Tables of numbers, tested at each index

@@ -10,7 +10,7 @@ use Rattle.time_values.specs.declared.time.Time.{Time}
 use Rattle.time_values.specs.declared.utc_offset.UtcOffset.{UtcOffset}
 use Rattle.time_values.specs.Calendar.{IsIsoWeek, day_limit, is_leap_year, iso_weeks_in, month_length, weekday_of}
 use Rattle.time_values.specs.Dates.{IsDateWithin, IsIsoDate, IsIsoDateRefusal, day_number, weekday, weekdays_so_far}
-use Rattle.time_values.specs.Instants.{IsInstant, IsLeapSecondMoment, IsLeapSecondStandIn, clock_nanos, instant}
+use Rattle.time_values.specs.Instants.{IsInstant, IsLeapSecondMoment, IsLastNanosecondOfMonth, clock_nanos, instant}
 use Rattle.time_values.specs.Refusal.{range}
 use Rattle.time_values.proofs.CalendarTests.{clock_is, date, day, day_is, decide_eq, has_iso_week_decided, instant_decided, is_iso_week}
 use Rattle.time_values.proofs.CalendarTests.{iso_date_decided, iso_day_decided, iso_week_decided, iso_weeks_is, limit_is, moment_is, offset, time}
@@ -331,11 +331,11 @@ leap_second_moments = (
 )
 
 -- a moment at another time of the day, or on another day, isn't one
-not_at : (Y : ℕ) (n : ℤ) (d : Date) (t : Time) → (Y + 1) % 400 ≡ 0 → IsDateWithin Y d → clock_nanos Y d t ≡ n → (IsLeapSecondStandIn d t → ⊥)
+not_at : (Y : ℕ) (n : ℤ) (d : Date) (t : Time) → (Y + 1) % 400 ≡ 0 → IsDateWithin Y d → clock_nanos Y d t ≡ n → (IsLastNanosecondOfMonth d t → ⊥)
     → IsLeapSecondMoment Y n → ⊥
 not_at Y n d t whole within shown none (other_date, other_time, is, leap, inside) =
     let same = same_moment_within Y other_date d other_time t whole inside within (is ∙ sym shown) in
-    none (subst (λ x. IsLeapSecondStandIn x t) same.0 (subst (λ x. IsLeapSecondStandIn other_date x) same.1 leap))
+    none (subst (λ x. IsLastNanosecondOfMonth x t) same.0 (subst (λ x. IsLastNanosecondOfMonth other_date x) same.1 leap))
 
 -- the nanosecond before it, the end of the day before, and the end of a morning
 pub no_leap_second_moments : (IsLeapSecondMoment 9_999 (pos 1_483_228_799_999_999_998) → ⊥)

@@ -51,12 +51,12 @@ abbrev pub timestamp_refusal : ℕ → ℤ → Option Refusal
 timestamp_refusal Y n = if is_instant Y n then None else Some (range (codes "timestamp") false)
 
 -- the last nanosecond of a month
-abbrev pub IsLeapSecondStandIn : Date → Time → Type 0
-IsLeapSecondStandIn date time =
+abbrev pub IsLastNanosecondOfMonth : Date → Time → Type 0
+IsLastNanosecondOfMonth date time =
     (nanos_of_day time + 1 ≡ nanos_per_day)
     × (day date ≡ month_length (year date) (month_number (month date)))
 
 -- the instant is the last nanosecond of a month in UTC
 abbrev pub IsLeapSecondMoment : ℕ → ℤ → Type 0
 IsLeapSecondMoment Y n =
-    (date : Date) × (time : Time) × (clock_nanos Y date time ≡ n) × IsLeapSecondStandIn date time × IsDateWithin Y date
+    (date : Date) × (time : Time) × (clock_nanos Y date time ≡ n) × IsLastNanosecondOfMonth date time × IsDateWithin Y date

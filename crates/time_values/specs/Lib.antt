@@ -7,6 +7,6 @@ pub mod March
 pub mod Names
 pub mod Offsets
 pub mod Refusal
-pub mod Shown
+pub mod DisplayTexts
 pub mod Sign
 pub mod Times

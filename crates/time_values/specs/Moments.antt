@@ -61,8 +61,8 @@ nanoseconds t = t.nanoseconds
 -- ---- Local times at other offsets, in nanoseconds since 1970-01-01T00:00:00 at the offset
 
 -- the local time of an instant, at that offset
-abbrev pub shown_at : ℤ → UtcOffset → ℤ
-shown_at instant offset = instant +ℤ (offset_seconds offset *ℤ pos 1_000_000_000)
+abbrev pub local_time_at : ℤ → UtcOffset → ℤ
+local_time_at instant offset = instant +ℤ (offset_seconds offset *ℤ pos 1_000_000_000)
 
 -- ---- Lengths of time, in nanoseconds
 

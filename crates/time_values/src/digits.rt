@@ -1,6 +1,6 @@
 //! Decimal digits of numbers, and of a second's fraction.
 ghost use Rattle.std.specs.Prelude.{◌≡◌, ◌<◌, ◌/◌, ◌+◌, ◌≤◌, ◌++◌, length};
-ghost use Rattle.time_values.specs.Shown.{fixed, significant, fraction_shown};
+ghost use Rattle.time_values.specs.DisplayTexts.{fixed, significant, fraction_display};
 
 use crate::text::Text;
 
@@ -21,7 +21,7 @@ static PAIRS: [u16; 100] = [
 //
 // They are loaded as one number, so that one instruction stores them.
 #[inline(always)]
-#[tactic(auto, using(crate::proofs::NumberLemmas::pairs_at), unfolding(crate::specs::Shown::fixed))]
+#[tactic(auto, using(crate::proofs::NumberLemmas::pairs_at), unfolding(crate::specs::DisplayTexts::fixed))]
 pub fn pair(n: u8) -> [u8; 2]
     requires { n < 100 }
     ensures { result ≡ fixed 2 n }
@@ -42,7 +42,7 @@ fn hundreds(n: u32) -> u32
 
 /// The four digits of a number below 10000.
 #[inline(always)]
-#[tactic(auto, unfolding(crate::specs::Shown::fixed))]
+#[tactic(auto, unfolding(crate::specs::DisplayTexts::fixed))]
 pub fn four(n: u32) -> [u8; 4]
     requires { n < 10_000 }
     ensures { result ≡ fixed 4 n }
@@ -55,7 +55,7 @@ pub fn four(n: u32) -> [u8; 4]
 
 /// The nine digits of a number below 1000000000.
 #[inline(always)]
-#[tactic(auto, unfolding(crate::specs::Shown::fixed))]
+#[tactic(auto, unfolding(crate::specs::DisplayTexts::fixed))]
 pub fn nine(n: u32) -> [u8; 9]
     requires { n < 1_000_000_000 }
     ensures { result ≡ fixed 9 n }
@@ -69,7 +69,7 @@ pub fn nine(n: u32) -> [u8; 9]
 }
 
 /// The five digits of a number below 100000.
-#[tactic(auto, unfolding(crate::specs::Shown::fixed))]
+#[tactic(auto, unfolding(crate::specs::DisplayTexts::fixed))]
 pub fn five(n: u32) -> [u8; 5]
     requires { n < 100_000 }
     ensures { result ≡ fixed 5 n }
@@ -79,7 +79,7 @@ pub fn five(n: u32) -> [u8; 5]
 }
 
 /// The six digits of a number below 1000000.
-#[tactic(auto, unfolding(crate::specs::Shown::fixed))]
+#[tactic(auto, unfolding(crate::specs::DisplayTexts::fixed))]
 pub fn six(n: u32) -> [u8; 6]
     requires { n < 1_000_000 }
     ensures { result ≡ fixed 6 n }
@@ -127,7 +127,7 @@ pub fn append_fraction(text: &mut Text, count: usize, nanosecond: u32)
     requires count { count ≤ 9 }
     requires nanosecond { nanosecond < 1_000_000_000 }
     requires room { length text.old.items ≤ 25 }
-    ensures text { text.new.items ≡ text.old.items ++ fraction_shown count nanosecond }
+    ensures text { text.new.items ≡ text.old.items ++ fraction_display count nanosecond }
     ensures room { length text.new.items ≤ length text.old.items + 10 }
 {
     if count == 0 {

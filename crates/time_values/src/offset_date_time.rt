@@ -1,5 +1,5 @@
 ghost use Rattle.std.specs.Prelude.{◌≡◌, ◌↔◌, IsTrue, IfSome, IfNone, pos, ◌*ℤ◌};
-ghost use Rattle.time_values.specs.Moments.{shown_at, offset_date, offset_time, offset_of, offset_instant, utc_instant};
+ghost use Rattle.time_values.specs.Moments.{local_time_at, offset_date, offset_time, offset_of, offset_instant, utc_instant};
 ghost use Rattle.time_values.specs.Instants as Instants;
 ghost use Rattle.time_values.specs.Offsets.{IsUtc};
 ghost use Rattle.time_values.specs.Calendar.{greatest_year};
@@ -136,7 +136,7 @@ impl OffsetDateTime {
         ensures instant { IfSome result (λ v. offset_instant greatest_year v ≡ offset_instant greatest_year self) }
         ensures offset { IfSome result (λ v. offset_of v ≡ offset) }
         ensures none { IfNone result (¬ (Instants.IsInstant greatest_year
-            (shown_at (offset_instant greatest_year self) offset))) }
+            (local_time_at (offset_instant greatest_year self) offset))) }
     {
         let clock = clock_with(self.date, self.time, self.offset, offset)?;
         Some(OffsetDateTime {
@@ -149,7 +149,7 @@ impl OffsetDateTime {
     /// The moment at another offset, at which its date must be in range. If this isn't known, call
     /// [`checked_to_offset`](OffsetDateTime::checked_to_offset).
     pub fn to_offset(self, offset: UtcOffset) -> OffsetDateTime
-        requires { Instants.IsInstant greatest_year (shown_at (offset_instant greatest_year self) offset) }
+        requires { Instants.IsInstant greatest_year (local_time_at (offset_instant greatest_year self) offset) }
         ensures instant { offset_instant greatest_year result ≡ offset_instant greatest_year self }
         ensures offset { offset_of result ≡ offset }
     {

@@ -1,6 +1,6 @@
 //! A text of at most 35 bytes.
 ghost use Rattle.std.specs.Prelude.{◌≡◌, ◌+◌, ◌≤◌, [], ◌++◌, take, length, Some};
-ghost use Rattle.time_values.specs.Shown.{Items};
+ghost use Rattle.time_values.specs.DisplayTexts.{Items};
 
 use std::marker::Model;
 use std::{fmt, str};

@@ -1,5 +1,5 @@
 ghost use Rattle.std.specs.Prelude.{◌≡◌, ◌↔◌, IsTrue, IfSome, IfNone, pos, ◌*ℤ◌};
-ghost use Rattle.time_values.specs.Moments.{shown_at, utc_date, utc_time, utc_instant, offset_of, offset_instant};
+ghost use Rattle.time_values.specs.Moments.{local_time_at, utc_date, utc_time, utc_instant, offset_of, offset_instant};
 ghost use Rattle.time_values.specs.Instants as Instants;
 ghost use Rattle.time_values.specs.Calendar.{greatest_year};
 ghost use Rattle.time_values.specs.Refusal.{Constructs};
@@ -112,7 +112,7 @@ impl UtcDateTime {
         ensures instant { IfSome result (λ v. offset_instant greatest_year v ≡ utc_instant greatest_year self) }
         ensures offset { IfSome result (λ v. offset_of v ≡ offset) }
         ensures none { IfNone result (¬ (Instants.IsInstant greatest_year
-            (shown_at (utc_instant greatest_year self) offset))) }
+            (local_time_at (utc_instant greatest_year self) offset))) }
     {
         OffsetDateTime::from(self).checked_to_offset(offset)
     }
@@ -120,7 +120,7 @@ impl UtcDateTime {
     /// The moment at another offset, at which its date must be in range. If this isn't known, call
     /// [`checked_to_offset`](UtcDateTime::checked_to_offset).
     pub fn to_offset(self, offset: UtcOffset) -> OffsetDateTime
-        requires { Instants.IsInstant greatest_year (shown_at (utc_instant greatest_year self) offset) }
+        requires { Instants.IsInstant greatest_year (local_time_at (utc_instant greatest_year self) offset) }
         ensures instant { offset_instant greatest_year result ≡ utc_instant greatest_year self }
         ensures offset { offset_of result ≡ offset }
     {
@@ -141,7 +141,7 @@ impl UtcDateTime {
 
     /// Whether this moment may represent a leap second: it is the last nanosecond of a month.
     pub fn is_valid_leap_second_stand_in(self) -> bool
-        ensures { IsTrue result ↔ Instants.IsLeapSecondStandIn (utc_date self) (utc_time self) }
+        ensures { IsTrue result ↔ Instants.IsLastNanosecondOfMonth (utc_date self) (utc_time self) }
     {
         self.time.is_last_nanosecond()
             && self.date.day() == self.date.month().length(self.date.year())

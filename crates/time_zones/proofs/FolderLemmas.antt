@@ -28,15 +28,15 @@ use Rattle.time_values.specs.declared.offset_date_time.OffsetDateTime.{OffsetDat
 use Rattle.time_values.specs.declared.plain_date_time.PlainDateTime.{PlainDateTime}
 use Rattle.time_values.specs.declared.utc_offset.UtcOffset.{UtcOffset}
 use Rattle.time_values.proofs.InstantLemmas.{instant_is, same_moment, same_offset_by_parts}
-use Rattle.time_zones.specs.Zones.{Shows, IsShownIn, IsOnlyMoment, IsNotOne, IsAnswer, GivesBack, HasZoneOffset}
+use Rattle.time_zones.specs.Zones.{Shows, HasLocalTime, IsOnlyMoment, IsNotOne, IsAnswer, RoundTrips, HasZoneOffset}
 use Rattle.time_zones.specs.declared.clocks.NotOne.{NotOne}
-use Rattle.time_zones.specs.declared.clocks.NotOne.TheVariants.{Gap, Fold, Untold}
+use Rattle.time_zones.specs.declared.clocks.NotOne.TheVariants.{Gap, Fold, OutsideZoneRange}
 use Rattle.time_zones.specs.Finding.{Giving, IsZoneOf, zone_named, IsInserted, IsZoneIfAny, IsFoundIn, IsOfNone, AddsFound, AreZonesOf, offset_in}
 use Rattle.time_zones.specs.declared.finding.NamedZone.{NamedZone}
 use Rattle.time_zones.specs.declared.finding.NamedZone.TheVariants.{Utc, Rule, Table}
 use Rattle.time_zones.specs.declared.place.Place.TheVariants as At
 use Rattle.time_zones.specs.declared.zones.Zones.{Zones}
-use Rattle.time_zones.specs.Suffix.{Checked, compared, HasItsOffset, GoesWithNamed, GoesWithZone, OneCheck, Zone, named, at_offset}
+use Rattle.time_zones.specs.Suffix.{Checked, compared, HasItsOffset, AgreesWithNamed, AgreesWithZone, OneCheck, Zone, named, at_offset}
 use Rattle.time_zones.specs.declared.checking.SuffixFault.TheVariants.{UnknownZone, OtherOffset}
 
 -- ---- One result: moments with one local time and instant are equal
@@ -89,9 +89,9 @@ same_by_instant a b e o =
     same_value a b clock.0 clock.1 (same_offset_by_seconds a.offset b.offset o)
 
 -- a moment with that local time in a zone has it at its instant
-pub IsShownIn-Shows : (zone : TimeZone) (clock : PlainDateTime) (m : OffsetDateTime) → IsShownIn zone clock m
+pub HasLocalTime-Shows : (zone : TimeZone) (clock : PlainDateTime) (m : OffsetDateTime) → HasLocalTime zone clock m
     → Shows zone (plain_instant greatest_year clock) (offset_instant greatest_year m)
-IsShownIn-Shows zone clock m h =
+HasLocalTime-Shows zone clock m h =
     let reading : offset_instant greatest_year m +ℤ nanos_of_seconds (offset_seconds (offset_of m))
     ≡ clock_nanos greatest_year (offset_date m) (offset_time m) = omega (arith, ints, offset_instant_is m) in
     let same : clock_nanos greatest_year (offset_date m) (offset_time m) ≡ plain_instant greatest_year clock = rw (h.0, h.1) refl in
@@ -115,40 +115,40 @@ is_answer zone clock (Err why) ok err = err
 pub one_answer : (zone : TimeZone) (clock : PlainDateTime) (a b : Result OffsetDateTime NotOne)
     → IsAnswer zone clock a → IsAnswer zone clock b → a ≡ b
 one_answer zone clock (Ok a) (Ok b) p q =
-    ap Ok (same_shown zone a b p.0.2 q.0.2 (q.1 _ (IsShownIn-Shows zone clock a p.0)))
-one_answer zone clock (Ok a) (Err Gap) p q = absurd (q.0 _ (IsShownIn-Shows zone clock a p.0))
-one_answer zone clock (Ok a) (Err Untold) p q = absurd (q.0 _ (IsShownIn-Shows zone clock a p.0))
+    ap Ok (same_shown zone a b p.0.2 q.0.2 (q.1 _ (HasLocalTime-Shows zone clock a p.0)))
+one_answer zone clock (Ok a) (Err Gap) p q = absurd (q.0 _ (HasLocalTime-Shows zone clock a p.0))
+one_answer zone clock (Ok a) (Err OutsideZoneRange) p q = absurd (q.0 _ (HasLocalTime-Shows zone clock a p.0))
 one_answer zone clock (Ok a) (Err (Fold e l)) p q =
-    absurd (omega (arith, ints, p.1 _ (IsShownIn-Shows zone clock e q.0), p.1 _ (IsShownIn-Shows zone clock l q.1), q.2))
-one_answer zone clock (Err Gap) (Ok b) p q = absurd (p.0 _ (IsShownIn-Shows zone clock b q.0))
+    absurd (omega (arith, ints, p.1 _ (HasLocalTime-Shows zone clock e q.0), p.1 _ (HasLocalTime-Shows zone clock l q.1), q.2))
+one_answer zone clock (Err Gap) (Ok b) p q = absurd (p.0 _ (HasLocalTime-Shows zone clock b q.0))
 one_answer zone clock (Err Gap) (Err Gap) p q = refl
-one_answer zone clock (Err Gap) (Err Untold) p q = absurd (q.1 p.1)
-one_answer zone clock (Err Gap) (Err (Fold e l)) p q = absurd (p.0 _ (IsShownIn-Shows zone clock e q.0))
-one_answer zone clock (Err Untold) (Ok b) p q = absurd (p.0 _ (IsShownIn-Shows zone clock b q.0))
-one_answer zone clock (Err Untold) (Err Gap) p q = absurd (p.1 q.1)
-one_answer zone clock (Err Untold) (Err Untold) p q = refl
-one_answer zone clock (Err Untold) (Err (Fold e l)) p q = absurd (p.0 _ (IsShownIn-Shows zone clock e q.0))
+one_answer zone clock (Err Gap) (Err OutsideZoneRange) p q = absurd (q.1 p.1)
+one_answer zone clock (Err Gap) (Err (Fold e l)) p q = absurd (p.0 _ (HasLocalTime-Shows zone clock e q.0))
+one_answer zone clock (Err OutsideZoneRange) (Ok b) p q = absurd (p.0 _ (HasLocalTime-Shows zone clock b q.0))
+one_answer zone clock (Err OutsideZoneRange) (Err Gap) p q = absurd (p.1 q.1)
+one_answer zone clock (Err OutsideZoneRange) (Err OutsideZoneRange) p q = refl
+one_answer zone clock (Err OutsideZoneRange) (Err (Fold e l)) p q = absurd (p.0 _ (HasLocalTime-Shows zone clock e q.0))
 one_answer zone clock (Err (Fold e l)) (Ok b) p q =
-    absurd (omega (arith, ints, q.1 _ (IsShownIn-Shows zone clock e p.0), q.1 _ (IsShownIn-Shows zone clock l p.1), p.2))
-one_answer zone clock (Err (Fold e l)) (Err Gap) p q = absurd (q.0 _ (IsShownIn-Shows zone clock e p.0))
-one_answer zone clock (Err (Fold e l)) (Err Untold) p q = absurd (q.0 _ (IsShownIn-Shows zone clock e p.0))
+    absurd (omega (arith, ints, q.1 _ (HasLocalTime-Shows zone clock e p.0), q.1 _ (HasLocalTime-Shows zone clock l p.1), p.2))
+one_answer zone clock (Err (Fold e l)) (Err Gap) p q = absurd (q.0 _ (HasLocalTime-Shows zone clock e p.0))
+one_answer zone clock (Err (Fold e l)) (Err OutsideZoneRange) p q = absurd (q.0 _ (HasLocalTime-Shows zone clock e p.0))
 one_answer zone clock (Err (Fold e l)) (Err (Fold e' l')) p q =
-    let e-in = q.3 _ (IsShownIn-Shows zone clock e p.0) in
-    let l-in = q.3 _ (IsShownIn-Shows zone clock l p.1) in
-    let e'-in = p.3 _ (IsShownIn-Shows zone clock e' q.0) in
-    let l'-in = p.3 _ (IsShownIn-Shows zone clock l' q.1) in
+    let e-in = q.3 _ (HasLocalTime-Shows zone clock e p.0) in
+    let l-in = q.3 _ (HasLocalTime-Shows zone clock l p.1) in
+    let e'-in = p.3 _ (HasLocalTime-Shows zone clock e' q.0) in
+    let l'-in = p.3 _ (HasLocalTime-Shows zone clock l' q.1) in
     ap Err (same_fold e l e' l'
     (same_shown zone e e' p.0.2 q.0.2 (omega (arith, ints, e-in.0, e'-in.0)))
     (same_shown zone l l' p.1.2 q.1.2 (omega (arith, ints, l-in.1, l'-in.1))))
 
 -- the local time of a moment resolves to it, or to a fold around it
 pub answers_back : (zone : TimeZone) (clock : PlainDateTime) (m shown : OffsetDateTime) (a : Result OffsetDateTime NotOne)
-    → IsAnswer zone clock a → IsShownIn zone clock shown → offset_instant greatest_year shown ≡ offset_instant greatest_year m → GivesBack m a
-answers_back zone clock m shown (Ok back) p h e = sym (p.1 _ (IsShownIn-Shows zone clock shown h)) ∙ e
-answers_back zone clock m shown (Err Gap) p h e = absurd (p.0 _ (IsShownIn-Shows zone clock shown h))
-answers_back zone clock m shown (Err Untold) p h e = absurd (p.0 _ (IsShownIn-Shows zone clock shown h))
+    → IsAnswer zone clock a → HasLocalTime zone clock shown → offset_instant greatest_year shown ≡ offset_instant greatest_year m → RoundTrips m a
+answers_back zone clock m shown (Ok back) p h e = sym (p.1 _ (HasLocalTime-Shows zone clock shown h)) ∙ e
+answers_back zone clock m shown (Err Gap) p h e = absurd (p.0 _ (HasLocalTime-Shows zone clock shown h))
+answers_back zone clock m shown (Err OutsideZoneRange) p h e = absurd (p.0 _ (HasLocalTime-Shows zone clock shown h))
 answers_back zone clock m shown (Err (Fold earlier later)) p h e =
-    let within = p.3 _ (IsShownIn-Shows zone clock shown h) in
+    let within = p.3 _ (HasLocalTime-Shows zone clock shown h) in
     (omega (arith, ints, within.0, e), omega (arith, ints, within.1, e))
 
 -- a moment that has the zone's offset is the one at its instant
@@ -258,7 +258,7 @@ compared-other own zone false h e = rw (false_from_ne_true (int_eq own zone) (λ
 
 -- a moment that has the offset of the kit's zone agrees with the zone that was found
 pub goes_with_found : (found : Option NamedZone) (m : OffsetDateTime) (zone : TimeZone) (r : Checked) → IsZoneIfAny found (Some zone)
-    → HasItsOffset m (Zone.offset_at zone) r → MatchOption found (r ≡ Err UnknownZone) (λ z. GoesWithNamed true m z r)
+    → HasItsOffset m (Zone.offset_at zone) r → MatchOption found (r ≡ Err UnknownZone) (λ z. AgreesWithNamed true m z r)
 goes_with_found None m zone r h k = absurd h
 goes_with_found (Some z) m zone r h (inl k) = inl k
 goes_with_found (Some z) m zone r h (inr k) =
@@ -270,18 +270,18 @@ one_with_offset m zone r q (inl h) (inr k) = absurd (h.0 k.0)
 one_with_offset m zone r q (inr h) (inl k) = absurd (k.0 h.0)
 one_with_offset m zone r q (inr h) (inr k) = h.1 ∙ sym k.1
 
-one_named : (tells : Bool) (m : OffsetDateTime) (zone : NamedZone) (r q : Checked) → GoesWithNamed tells m zone r → GoesWithNamed tells m zone q → r ≡ q
+one_named : (tells : Bool) (m : OffsetDateTime) (zone : NamedZone) (r q : Checked) → AgreesWithNamed tells m zone r → AgreesWithNamed tells m zone q → r ≡ q
 one_named true m zone r q h k = one_with_offset m (offset_in zone) r q h k
 one_named false m zone r q h k = h ∙ sym k
 
 one_found : (tells : Bool) (m : OffsetDateTime) (found : Option NamedZone) (r q : Checked)
-    → MatchOption found (r ≡ Err UnknownZone) (λ zone. GoesWithNamed tells m zone r)
-    → MatchOption found (q ≡ Err UnknownZone) (λ zone. GoesWithNamed tells m zone q) → r ≡ q
+    → MatchOption found (r ≡ Err UnknownZone) (λ zone. AgreesWithNamed tells m zone r)
+    → MatchOption found (q ≡ Err UnknownZone) (λ zone. AgreesWithNamed tells m zone q) → r ≡ q
 one_found tells m None r q h k = h ∙ sym k
 one_found tells m (Some zone) r q h k = one_named tells m zone r q h k
 
-one_zone : (zones : Zones) (tells : Bool) (m : OffsetDateTime) (zone : Zone) (r q : Checked) → GoesWithZone zones tells m zone r
-    → GoesWithZone zones tells m zone q → r ≡ q
+one_zone : (zones : Zones) (tells : Bool) (m : OffsetDateTime) (zone : Zone) (r q : Checked) → AgreesWithZone zones tells m zone r
+    → AgreesWithZone zones tells m zone q → r ≡ q
 one_zone zones tells m (named name) r q h k = one_found tells m (zone_named zones name) r q h k
 one_zone zones true m (at_offset o) r q h k = h ∙ sym k
 one_zone zones false m (at_offset o) r q h k = h ∙ sym k

@@ -10,8 +10,8 @@ use Rattle.jiff_tz.specs.PosixReader.{read_whole}
 use Rattle.time_values.specs.Offsets.{offset_seconds}
 use Rattle.time_values.specs.declared.utc_offset.UtcOffset.{UtcOffset}
 use Rattle.time_zones.specs.Suffix.{IsWord, is_key_initial, is_key_char, IsHourMinute, IsNumOffset, IsSuffixKey, AreSuffixValues, flagged, bracketed, IsTimeZonePart, NamesInFolder, WrittenIsSuffix}
-use Rattle.time_zones.specs.SuffixFronts.{is_held, IsKeyed, BeginsBracketed}
-use Rattle.time_zones.specs.Finding.{IsPart, IsZoneName, IsRuleOrPath, AsksForPath, AsksBySetting}
+use Rattle.time_zones.specs.SuffixFronts.{is_bracket_char, IsKeyed, BeginsBracketed}
+use Rattle.time_zones.specs.Finding.{IsPart, IsZoneName, IsRuleOrPath, IsPlaceOfPath, IsPlaceOfSetting}
 use Rattle.time_zones.specs.declared.place.Place.{Place}
 
 -- ---- Lists whose elements pass a test, up to the first that doesn't
@@ -172,45 +172,45 @@ same_head a b xs ys e = cc
 other_head : (a b : ℕ) (xs ys : List ℕ) → a ≢ b → a ∷ xs ≡ b ∷ ys → ⊥
 other_head a b xs ys differs e = differs (same_head a b xs ys e)
 
-flag_not_held : is_held 33 ≡ false
+flag_not_held : is_bracket_char 33 ≡ false
 flag_not_held = refl
 
-held_no_flag : (x r rest : List ℕ) → AllPass is_held x → x ++ 93 ∷ r ≢ 33 ∷ rest
+held_no_flag : (x r rest : List ℕ) → AllPass is_bracket_char x → x ++ 93 ∷ r ≢ 33 ∷ rest
 held_no_flag [] r rest h e = absurd (other_head 93 33 r rest (omega arith) e)
 held_no_flag (b ∷ x) r rest h e =
     let same = same_head b 33 (x ++ 93 ∷ r) rest e in
-    absurd (false≢true (sym flag_not_held ∙ ap is_held (sym same) ∙ head_passes is_held b x h))
+    absurd (false≢true (sym flag_not_held ∙ ap is_bracket_char (sym same) ∙ head_passes is_bracket_char b x h))
 
 -- brackets at the start of a text are determined
-pub brackets_once : (c d : Bool) (x y r s : List ℕ) → AllPass is_held x → AllPass is_held y → bracketed c x ++ r ≡ bracketed d y ++ s
+pub brackets_once : (c d : Bool) (x y r s : List ℕ) → AllPass is_bracket_char x → AllPass is_bracket_char y → bracketed c x ++ r ≡ bracketed d y ++ s
     → (c ≡ d) × (x ≡ y) × (r ≡ s)
 brackets_once c d x y r s h k e =
     let opened : 91 ∷ flagged c (x ++ 93 ∷ r) ≡ 91 ∷ flagged d (y ++ 93 ∷ s) = sym (bracketed_front c x r) ∙ e ∙ bracketed_front d y s in
     let same : flagged c (x ++ 93 ∷ r) ≡ flagged d (y ++ 93 ∷ s) = cc in
     let flags = flag_once c d (x ++ 93 ∷ r) (y ++ 93 ∷ s) (λ _ rest. held_no_flag x r rest h) (λ _ rest. held_no_flag y s rest k) same in
-    let parts = cut_once is_held 93 refl x y r s h k flags.1 in
+    let parts = cut_once is_bracket_char 93 refl x y r s h k flags.1 in
     (flags.0, parts.0, parts.1)
 
 pub brackets_found : (text begun after inside left rest : List ℕ) (c : Bool) (n : ℕ) → text ≡ 91 ∷ begun → begun ≡ flagged c after
-    → n ≡ prefix_len is_held after → inside ≡ take n after → left ≡ drop n after → left ≡ 93 ∷ rest → BeginsBracketed text c inside rest
+    → n ≡ prefix_len is_bracket_char after → inside ≡ take n after → left ≡ drop n after → left ≡ 93 ∷ rest → BeginsBracketed text c inside rest
 brackets_found text begun after inside left rest c n opens flag count cut back closes =
     let front = cut ∙ ap (λ m. take m after) count in
     let cut_there : inside ++ left ≡ after = ap (λ x. x ++ left) cut ∙ ap (λ y. take n after ++ y) back ∙ take-append-drop n after in
     let whole_after : after ≡ inside ++ 93 ∷ rest = sym cut_there ∙ ap (λ y. inside ++ y) closes in
     record {
       whole = opens ∙ ap (λ t. 91 ∷ t) (flag ∙ ap (flagged c) whole_after) ∙ sym (bracketed_front c inside rest);
-      are_held = subst (AllPass is_held) (sym front) (front_passes is_held after);
+      are_bracket_chars = subst (AllPass is_bracket_char) (sym front) (front_passes is_bracket_char after);
     }
 
 pub no_brackets : (text begun after left : List ℕ) (c : Bool) (n : ℕ) → text ≡ 91 ∷ begun → begun ≡ flagged c after
-    → (c ≡ false → (rest : List ℕ) → begun ≢ 33 ∷ rest) → n ≡ prefix_len is_held after → left ≡ drop n after
+    → (c ≡ false → (rest : List ℕ) → begun ≢ 33 ∷ rest) → n ≡ prefix_len is_bracket_char after → left ≡ drop n after
     → ((rest : List ℕ) → left ≢ 93 ∷ rest) → (d : Bool) (inside rest : List ℕ) → BeginsBracketed text d inside rest → ⊥
 no_brackets text begun after left c n opens flag none count back unclosed d inside rest h =
     let both : 91 ∷ begun ≡ 91 ∷ flagged d (inside ++ 93 ∷ rest) = sym opens ∙ h.whole ∙ bracketed_front d inside rest in
     let same : flagged c after ≡ flagged d (inside ++ 93 ∷ rest) = cc in
     let unflagged : (c ≡ false → (rest : List ℕ) → after ≢ 33 ∷ rest) = λ is left e. none is left (flag ∙ ap (λ b. flagged b after) is ∙ e) in
-    let flags = flag_once c d after (inside ++ 93 ∷ rest) unflagged (λ _ left. held_no_flag inside rest left h.are_held) same in
-    unclosed rest (back ∙ ap (λ m. drop m after) count ∙ left_of_cut is_held 93 refl after inside rest h.are_held flags.1)
+    let flags = flag_once c d after (inside ++ 93 ∷ rest) unflagged (λ _ left. held_no_flag inside rest left h.are_bracket_chars) same in
+    unclosed rest (back ∙ ap (λ m. drop m after) count ∙ left_of_cut is_bracket_char 93 refl after inside rest h.are_bracket_chars flags.1)
 
 -- no byte of the text is c
 abbrev pub Lacks : ℕ → List ℕ → Type 0
@@ -257,10 +257,10 @@ part_of_one name lacks is = subst (All IsPart) (split_alone 47 name lacks) is 0 
 
 -- a setting that isn't empty and doesn't begin with a colon
 pub by_text : (setting : List ℕ) (place : Option Place) → setting ≢ [] → ((rest : List ℕ) → setting ≢ 58 ∷ rest)
-    → IsRuleOrPath (read_whole setting) setting place → AsksBySetting setting place
+    → IsRuleOrPath (read_whole setting) setting place → IsPlaceOfSetting setting place
 by_text [] place some colon h = absurd (some refl)
 by_text (c ∷ rest) place some colon h = elim (c == 58)
-    as (λ b. (c == 58) ≡ b → MatchBool b (AsksForPath rest place) (IsRuleOrPath (read_whole (c ∷ rest)) (c ∷ rest) place)) [
+    as (λ b. (c == 58) ≡ b → MatchBool b (IsPlaceOfPath rest place) (IsRuleOrPath (read_whole (c ∷ rest)) (c ∷ rest) place)) [
       | true ↦ λ e. let same : c ≡ 58 = grind (arith, nat_tests) in absurd (colon rest (ap (λ x. x ∷ rest) same))
       | false ↦ λ e. h
     ] refl

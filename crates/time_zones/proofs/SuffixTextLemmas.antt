@@ -11,7 +11,7 @@ use Rattle.std.proofs.lemmas.Bool.Decides.{nat_tests}
 use Rattle.std.proofs.lemmas.Int.{ints}
 use Rattle.time_values.specs.declared.utc_offset.UtcOffset.{UtcOffset}
 use Rattle.time_zones.specs.Suffix.{is_zone_initial, is_zone_char, is_key_char, IsTimeZonePart, IsTimeZoneName, two_digits, IsHourMinute, IsNumOffset, Zone, named, at_offset, IsZoneText, AreSuffixValues, Tag, IsSuffixTag, bracketed, ZoneTag, IsZoneTag, tag_text, tags_text, critical_key}
-use Rattle.time_zones.specs.SuffixFronts.{is_held, IsKeyed, BeginsBracketed, BeginsWithZone, HasNoZone, BeginsWithTag, HasNoTag}
+use Rattle.time_zones.specs.SuffixFronts.{is_bracket_char, IsKeyed, BeginsBracketed, BeginsWithZone, HasNoZone, BeginsWithTag, HasNoTag}
 use Rattle.time_zones.proofs.FolderLemmas.{same_offset_by_seconds}
 use Rattle.time_zones.proofs.NameLemmas.{head_passes, tail_passes, cons_passes, none_passes, append_passes, more_pass, word_passes, or_left, or_right, key_passes, same_head, all_cons, brackets_once}
 
@@ -77,8 +77,8 @@ zone_bytes : (text : List ℕ) (z : Zone) → IsZoneText text z → AllPass is_z
 zone_bytes text (named name) h = subst (AllPass is_zone_byte) (sym h.0) (name_passes name h.1)
 zone_bytes text (at_offset o) h = offset_passes text o h
 
-pub zone_held : (text : List ℕ) (z : Zone) → IsZoneText text z → AllPass is_held text
-zone_held text z h = more_pass is_zone_byte is_held (λ x e. or_left _ _ e) text (zone_bytes text z h)
+pub zone_held : (text : List ℕ) (z : Zone) → IsZoneText text z → AllPass is_bracket_char text
+zone_held text z h = more_pass is_zone_byte is_bracket_char (λ x e. or_left _ _ e) text (zone_bytes text z h)
 
 lacks : (p : ℕ → Bool) (c : ℕ) → p c ≡ false → (xs r : List ℕ) → AllPass p (xs ++ c ∷ r) → ⊥
 lacks p c fails [] r h = false≢true (sym fails ∙ head_passes p c r h)
@@ -118,25 +118,25 @@ alphanumeric_in_zone x e = alphanumeric_of (is_in_range 65 90 x) (is_in_range 97
 key_in_zone : (x : ℕ) → is_key_char x ≡ true → is_zone_char x ≡ true
 key_in_zone x e = key_of (is_in_range 65 90 x) (is_in_range 97 122 x) (x == 46) (x == 95) (is_in_range 48 57 x) (x == 45) (x == 43) e
 
-zone_char_held : (x : ℕ) → is_zone_char x ≡ true → is_held x ≡ true
+zone_char_held : (x : ℕ) → is_zone_char x ≡ true → is_bracket_char x ≡ true
 zone_char_held x e = or_left _ _ (or_left _ _ (or_left _ _ e))
 
-value_held : (x : ℕ) → (is_ascii_alphanumeric x || x == 45) ≡ true → is_held x ≡ true
+value_held : (x : ℕ) → (is_ascii_alphanumeric x || x == 45) ≡ true → is_bracket_char x ≡ true
 value_held x e = elim (or_cases (is_ascii_alphanumeric x) (x == 45) e) [
   | inl letter ↦ zone_char_held x (alphanumeric_in_zone x letter)
   | inr dash ↦ zone_char_held x (or_left _ _ (or_right _ _ dash))
 ]
 
-values_held : (values : List ℕ) → AreSuffixValues values → AllPass is_held values
+values_held : (values : List ℕ) → AreSuffixValues values → AllPass is_bracket_char values
 values_held values h =
-    more_pass (λ b. is_ascii_alphanumeric b || b == 45) is_held value_held values
+    more_pass (λ b. is_ascii_alphanumeric b || b == 45) is_bracket_char value_held values
     (parts_pass is_ascii_alphanumeric 45 values (λ k d l. (h k d l).1))
 
-pub tag_held : (t : Tag) → IsSuffixTag t → AllPass is_held (t.key ++ 61 ∷ t.values)
+pub tag_held : (t : Tag) → IsSuffixTag t → AllPass is_bracket_char (t.key ++ 61 ∷ t.values)
 tag_held t h =
-    append_passes is_held t.key (61 ∷ t.values)
-    (more_pass is_key_char is_held (λ x e. zone_char_held x (key_in_zone x e)) t.key (key_passes t.key h.0))
-    (cons_passes is_held 61 t.values refl (values_held t.values h.1))
+    append_passes is_bracket_char t.key (61 ∷ t.values)
+    (more_pass is_key_char is_bracket_char (λ x e. zone_char_held x (key_in_zone x e)) t.key (key_passes t.key h.0))
+    (cons_passes is_bracket_char 61 t.values refl (values_held t.values h.1))
 
 initial_step : (x : ℕ) (parts : List (List ℕ)) (b : Bool) → All IsTimeZonePart (cond b ([] ∷ parts) (onto_first x parts)) → is_zone_initial x ≡ true
 initial_step x parts true h = absurd (h 0 [] (omega arith)).0
@@ -193,19 +193,19 @@ pub tag_brackets : (text : List ℕ) (t : Tag) (rest : List ℕ) → BeginsWithT
     → BeginsBracketed text t.is_critical (t.key ++ 61 ∷ t.values) rest
 tag_brackets text t rest h = record {
   whole = h.whole;
-  are_held = tag_held t h.is_tag;
+  are_bracket_chars = tag_held t h.is_tag;
 }
 
 pub zone_brackets : (text : List ℕ) (z : ZoneTag) (rest front : List ℕ) → text ≡ front ++ rest → (h : IsZoneTag front z)
     → BeginsBracketed text z.is_critical h.inside rest
 zone_brackets text z rest front e h = record {
   whole = e ∙ ap (λ x. x ++ rest) h.whole;
-  are_held = zone_held h.inside z.zone h.is_zone;
+  are_bracket_chars = zone_held h.inside z.zone h.is_zone;
 }
 
 pub same_brackets : (text : List ℕ) (c d : Bool) (x y r s : List ℕ) → BeginsBracketed text c x r → BeginsBracketed text d y s
     → (c ≡ d) × (x ≡ y) × (r ≡ s)
-same_brackets text c d x y r s h k = brackets_once c d x y r s h.are_held k.are_held (sym h.whole ∙ k.whole)
+same_brackets text c d x y r s h k = brackets_once c d x y r s h.are_bracket_chars k.are_bracket_chars (sym h.whole ∙ k.whole)
 
 pub no_tag_unbracketed : (text : List ℕ) → ((c : Bool) (inside rest : List ℕ) → BeginsBracketed text c inside rest → ⊥) → HasNoTag text
 no_tag_unbracketed text none t rest h = none t.is_critical (t.key ++ 61 ∷ t.values) rest (tag_brackets text t rest h)

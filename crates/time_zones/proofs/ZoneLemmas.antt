@@ -37,7 +37,7 @@ use Rattle.time_values.specs.Calendar.{greatest_year}
 use Rattle.time_values.specs.declared.offset_date_time.OffsetDateTime.{OffsetDateTime}
 use Rattle.time_values.specs.declared.plain_date_time.PlainDateTime.{PlainDateTime}
 use Rattle.time_zones.specs.Spread.{HasOneOffset, IsRowOffset, HasOffset, Covers, IsSide, IsOfDst, IsOfRule, rule_text}
-use Rattle.time_zones.specs.Zones.{Shows, HasClock, IsShownIn, IsOnlyMoment, HasOneSource}
+use Rattle.time_zones.specs.Zones.{Shows, HasClock, HasLocalTime, IsOnlyMoment, HasOneSource}
 use Rattle.time_zones.specs.declared.spread.Spread.{Spread}
 use Rattle.time_zones.proofs.TableLemmas.{table_side}
 
@@ -248,9 +248,9 @@ pub told_between : (reading s : ℤ) → IsTimestampNanos (reading -ℤ nanos_of
 told_between reading s first last within = omega (arith, ints, first, last, within)
 
 -- a moment at an offset that the zone has there has that local time in the zone
-pub clock-IsShownIn : (zone : TimeZone) (clock : PlainDateTime) (m : OffsetDateTime) (s : ℤ) → HasClock clock s m
-    → HasOffset zone (plain_instant greatest_year clock) s → IsShownIn zone clock m
-clock-IsShownIn zone clock m s h o =
+pub clock-HasLocalTime : (zone : TimeZone) (clock : PlainDateTime) (m : OffsetDateTime) (s : ℤ) → HasClock clock s m
+    → HasOffset zone (plain_instant greatest_year clock) s → HasLocalTime zone clock m
+clock-HasLocalTime zone clock m s h o =
     let at = sym h.instant in
     (h.date, h.time, h.offset ∙ subst (λ n. s ≡ Zone.offset_at zone n) at (sym o.same), subst IsTimestampNanos at o.told)
 
@@ -269,7 +269,7 @@ one_moment zone clock m o second is same has =
     let reading = plain_instant greatest_year clock in
     let at = same (reading -ℤ nanos_of_seconds o.seconds)
     (near reading (reading -ℤ nanos_of_seconds o.seconds) o.seconds second o.in_range (omega (arith, ints)) is) in (
-      clock-IsShownIn zone clock m o.seconds has record { told = at.0; same = sym at.1 },
+      clock-HasLocalTime zone clock m o.seconds has record { told = at.0; same = sym at.1 },
       λ n h.
           let there = same n (near reading n (Zone.offset_at zone n) second (zone_offset_in zone n) h.1 is) in
           omega (arith, ints, there.1, h.1, has.instant),

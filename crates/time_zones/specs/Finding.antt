@@ -34,12 +34,12 @@ abbrev pub IsZoneName : List ℕ → Type 0
 IsZoneName name = All IsPart (slice_split (λ b. b == 47) name)
 
 -- the place that a name specifies; none if it would leave the folder
-abbrev pub AsksFor : List ℕ → Option Place → Type 0
-AsksFor name None = (name ≢ codes "UTC") × (¬ (IsZoneName name))
-AsksFor name (Some PlaceUtc) = name ≡ codes "UTC"
-AsksFor name (Some (PlaceRule rule)) = ⊥
-AsksFor name (Some (InFolder below)) = (below.now ≡ name) × (name ≢ codes "UTC") × IsZoneName name
-AsksFor name (Some (AtPath path)) = ⊥
+abbrev pub IsPlaceOfName : List ℕ → Option Place → Type 0
+IsPlaceOfName name None = (name ≢ codes "UTC") × (¬ (IsZoneName name))
+IsPlaceOfName name (Some PlaceUtc) = name ≡ codes "UTC"
+IsPlaceOfName name (Some (PlaceRule rule)) = ⊥
+IsPlaceOfName name (Some (InFolder below)) = (below.now ≡ name) × (name ≢ codes "UTC") × IsZoneName name
+IsPlaceOfName name (Some (AtPath path)) = ⊥
 
 -- the file at a path
 abbrev pub IsFileAt : List ℕ → Option Place → Type 0
@@ -55,8 +55,8 @@ is_absolute [] = false
 is_absolute (c ∷ rest) = c == 47
 
 -- the place that a path or a name specifies
-abbrev pub AsksForPath : List ℕ → Option Place → Type 0
-AsksForPath text place = MatchBool (is_absolute text) (IsFileAt text place) (AsksFor text place)
+abbrev pub IsPlaceOfPath : List ℕ → Option Place → Type 0
+IsPlaceOfPath text place = MatchBool (is_absolute text) (IsFileAt text place) (IsPlaceOfName text place)
 
 -- the place that a rule specifies
 abbrev pub IsRule : TzText → Option Place → Type 0
@@ -69,23 +69,23 @@ IsRule text (Some (AtPath at)) = ⊥
 -- the place of a rule if the text is one, and else of a path or a name
 abbrev pub IsRuleOrPath : Option TzText → List ℕ → Option Place → Type 0
 IsRuleOrPath (Some rule) text place = IsRule rule place
-IsRuleOrPath None text place = AsksForPath text place
+IsRuleOrPath None text place = IsPlaceOfPath text place
 
 -- the place that a value of TZ specifies: UTC if it is empty, a path or a name after a colon
-abbrev pub AsksBySetting : List ℕ → Option Place → Type 0
-AsksBySetting [] place = place ≡ Some PlaceUtc
-AsksBySetting (c ∷ rest) place =
-    MatchBool (c == 58) (AsksForPath rest place) (IsRuleOrPath (read_whole (c ∷ rest)) (c ∷ rest) place)
+abbrev pub IsPlaceOfSetting : List ℕ → Option Place → Type 0
+IsPlaceOfSetting [] place = place ≡ Some PlaceUtc
+IsPlaceOfSetting (c ∷ rest) place =
+    MatchBool (c == 58) (IsPlaceOfPath rest place) (IsRuleOrPath (read_whole (c ∷ rest)) (c ∷ rest) place)
 
 -- the place of the system's zone: the one that TZ specifies, if it is set
 abbrev pub IsLocal : Option (List ℕ) → Option Place → Type 0
 IsLocal None place = IsFileAt (codes "/etc/localtime") place
-IsLocal (Some setting) place = AsksBySetting setting place
+IsLocal (Some setting) place = IsPlaceOfSetting setting place
 
 -- the place that a name specifies, which may be `local`
-abbrev pub IsAsked : Option (List ℕ) → List ℕ → Option Place → Type 0
-IsAsked setting name place =
-    ((name ≡ codes "local") × IsLocal setting place) ⊎ ((name ≢ codes "local") × AsksFor name place)
+abbrev pub IsRequestedPlace : Option (List ℕ) → List ℕ → Option Place → Type 0
+IsRequestedPlace setting name place =
+    ((name ≡ codes "local") × IsLocal setting place) ⊎ ((name ≢ codes "local") × IsPlaceOfName name place)
 
 -- the possible results of reading the file at a path
 abbrev pub Giving : Type 1
@@ -140,7 +140,7 @@ IsFoundAt Gives folder (Some (Place.AtPath path)) r = ReadsTo Gives path.now Non
 -- the possible results of finding the zone of a name
 abbrev pub IsFound : Giving → List ℕ → Option (List ℕ) → List ℕ → Result NamedZone ZoneFault → Type 0
 IsFound Gives folder setting name r =
-    (place : Option Place) × IsAsked setting name place × IsFoundAt Gives folder place r
+    (place : Option Place) × IsRequestedPlace setting name place × IsFoundAt Gives folder place r
 
 -- why the value of a variable isn't known
 abbrev pub IsVariableFault : ZoneFault → Type 0
@@ -163,7 +163,7 @@ pub record IsInserted (old new : Zones) (name : List ℕ) (zone : NamedZone) : T
 
 -- the possible results of finding the zone of a name in the folder
 abbrev pub IsFoundIn : Giving → List ℕ → List ℕ → Result NamedZone ZoneFault → Type 0
-IsFoundIn Gives folder name r = (place : Option Place) × AsksFor name place × IsFoundAt Gives folder place r
+IsFoundIn Gives folder name r = (place : Option Place) × IsPlaceOfName name place × IsFoundAt Gives folder place r
 
 -- no zone has the name: finding it gives a fault other than one of memory
 abbrev pub IsOfNone : Giving → List ℕ → List ℕ → Type 0

@@ -14,9 +14,9 @@ use Rattle.time_zones.specs.declared.suffix.Suffixed.{Suffixed}
 use Rattle.time_zones.specs.declared.suffix.ZoneText.{ZoneText}
 use Rattle.time_zones.specs.declared.suffix.ZoneText.TheVariants.{Name, Offset}
 use Rattle.time_zones.specs.declared.suffix.ZoneTag as declared
-use Rattle.time_zones.specs.Zones.{IsTold}
+use Rattle.time_zones.specs.Zones.{IsInZoneRange}
 use Rattle.time_zones.specs.declared.checking.SuffixFault.{SuffixFault}
-use Rattle.time_zones.specs.declared.checking.SuffixFault.TheVariants.{CriticalKey, UnknownZone, OtherOffset, Untold}
+use Rattle.time_zones.specs.declared.checking.SuffixFault.TheVariants.{CriticalKey, UnknownZone, OtherOffset, OutsideZoneRange}
 use Rattle.time_zones.specs.declared.finding.NamedZone.{NamedZone}
 use Rattle.time_zones.specs.declared.zones.Zones.{Zones}
 
@@ -167,7 +167,7 @@ abbrev pub NamesInFolder : Type 0
 NamesInFolder = (name : List ℕ) → IsTimeZoneName name → IsZoneName name
 
 -- the first text is a part of the second
-pub record StandsIn (part bytes : List ℕ) : Type 0 where
+pub record IsSubstring (part bytes : List ℕ) : Type 0 where
   pub before : List ℕ
   pub after : List ℕ
   pub whole : bytes ≡ before ++ (part ++ after)
@@ -182,7 +182,7 @@ pub record IsNameIn (text name : List ℕ) : Type 0 where
   pub is_critical : Bool
   pub is_end : IsTrue (is_time_end end)
   pub is_name : IsTimeZoneName name
-  pub stands : StandsIn (end ∷ bracketed is_critical name) text
+  pub stands : IsSubstring (end ∷ bracketed is_critical name) text
 
 -- ---- Suffixes that were read, as contracts view them
 
@@ -197,8 +197,8 @@ zone_tag_of z = record {
 }
 
 -- the text is a suffix with that zone, and with tags whose first critical key is that one
-abbrev pub Says : List ℕ → Suffixed → Type 0
-Says text s = (tags : List Tag) × IsSuffix text (option_map zone_tag_of s.zone) tags
+abbrev pub ParsesSuffix : List ℕ → Suffixed → Type 0
+ParsesSuffix text s = (tags : List Tag) × IsSuffix text (option_map zone_tag_of s.zone) tags
     × (option_map (λ key. key.now) s.critical_key ≡ critical_key tags)
 
 -- ---- Which suffixes agree with a moment, by RFC 9557, sections 3.3, 3.4 and 4.1.
@@ -215,30 +215,30 @@ compared own zone = if int_eq own zone then Ok tt else Err OtherOffset
 -- zones
 abbrev pub HasItsOffset : OffsetDateTime → (ℤ → ℤ) → Checked → Type 0
 HasItsOffset m zone result =
-    ((¬ (IsTold m)) × (result ≡ Err Untold))
-    ⊎ (IsTold m × (result ≡ compared (offset_seconds (offset_of m)) (zone (offset_instant greatest_year m))))
+    ((¬ (IsInZoneRange m)) × (result ≡ Err OutsideZoneRange))
+    ⊎ (IsInZoneRange m × (result ≡ compared (offset_seconds (offset_of m)) (zone (offset_instant greatest_year m))))
 
 -- a moment that specifies its offset has that of a named zone
-abbrev pub GoesWithNamed : Bool → OffsetDateTime → NamedZone → Checked → Type 0
-GoesWithNamed tells m zone result = MatchBool tells (HasItsOffset m (offset_in zone) result) (result ≡ Ok tt)
+abbrev pub AgreesWithNamed : Bool → OffsetDateTime → NamedZone → Checked → Type 0
+AgreesWithNamed tells m zone result = MatchBool tells (HasItsOffset m (offset_in zone) result) (result ≡ Ok tt)
 
 -- a moment agrees with a zone
-abbrev pub GoesWithZone : Zones → Bool → OffsetDateTime → Zone → Checked → Type 0
-GoesWithZone zones tells m (named name) result =
-    MatchOption (zone_named zones name) (result ≡ Err UnknownZone) (λ zone. GoesWithNamed tells m zone result)
-GoesWithZone zones tells m (at_offset o) result =
+abbrev pub AgreesWithZone : Zones → Bool → OffsetDateTime → Zone → Checked → Type 0
+AgreesWithZone zones tells m (named name) result =
+    MatchOption (zone_named zones name) (result ≡ Err UnknownZone) (λ zone. AgreesWithNamed tells m zone result)
+AgreesWithZone zones tells m (at_offset o) result =
     MatchBool tells (result ≡ compared (offset_seconds (offset_of m)) (offset_seconds o)) (result ≡ Ok tt)
 
 -- A moment agrees with a suffix that has that zone and that critical key. A program that doesn't know the key has to
 -- reject the suffix, and no key is known here.
-abbrev pub GoesWith : Zones → Bool → OffsetDateTime → Option ZoneTag → Option (List ℕ) → Checked → Type 0
-GoesWith zones tells m z (Some key) result = result ≡ Err CriticalKey
-GoesWith zones tells m None None result = result ≡ Ok tt
-GoesWith zones tells m (Some z) None result = GoesWithZone zones tells m z.zone result
+abbrev pub AgreesWith : Zones → Bool → OffsetDateTime → Option ZoneTag → Option (List ℕ) → Checked → Type 0
+AgreesWith zones tells m z (Some key) result = result ≡ Err CriticalKey
+AgreesWith zones tells m None None result = result ≡ Ok tt
+AgreesWith zones tells m (Some z) None result = AgreesWithZone zones tells m z.zone result
 
 -- checking a suffix and a moment has one result
 abbrev pub OneCheck : Type 0
 OneCheck =
     (zones : Zones) (tells : Bool) (m : OffsetDateTime) (zone : Option ZoneTag) (key : Option (List ℕ))
     (result other : Checked)
-    → GoesWith zones tells m zone key result → GoesWith zones tells m zone key other → result ≡ other
+    → AgreesWith zones tells m zone key result → AgreesWith zones tells m zone key other → result ≡ other

@@ -5,8 +5,8 @@ use Rattle.std.specs.List.{AllPass}
 use Rattle.time_zones.specs.Suffix.{is_zone_char, IsSuffixKey, AreSuffixValues, bracketed, ZoneTag, Tag, IsZoneTagIfAny, tag_text, IsSuffixTag, tags_text}
 
 -- the bytes that brackets may contain
-abbrev pub is_held : ℕ → Bool
-is_held b = is_zone_char b || b == 47 || b == 58 || b == 61
+abbrev pub is_bracket_char : ℕ → Bool
+is_bracket_char b = is_zone_char b || b == 47 || b == 58 || b == 61
 
 -- suffix-key "=" suffix-values
 pub record IsKeyed (text key values : List ℕ) : Type 0 where
@@ -17,7 +17,7 @@ pub record IsKeyed (text key values : List ℕ) : Type 0 where
 -- the text begins with these brackets, followed by the rest
 pub record BeginsBracketed (text : List ℕ) (is_critical : Bool) (inside rest : List ℕ) : Type 0 where
   pub whole : text ≡ bracketed is_critical inside ++ rest
-  pub are_held : AllPass is_held inside
+  pub are_bracket_chars : AllPass is_bracket_char inside
 
 -- the text begins with a zone or none, followed by the rest
 pub record BeginsWithZone (text : List ℕ) (zone : Option ZoneTag) (rest : List ℕ) : Type 0 where

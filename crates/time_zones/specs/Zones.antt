@@ -13,15 +13,15 @@ use Rattle.time_values.specs.Calendar.{greatest_year}
 use Rattle.time_values.specs.declared.offset_date_time.OffsetDateTime.{OffsetDateTime}
 use Rattle.time_values.specs.declared.plain_date_time.PlainDateTime.{PlainDateTime}
 use Rattle.time_zones.specs.declared.clocks.NotOne.{NotOne}
-use Rattle.time_zones.specs.declared.clocks.NotOne.TheVariants.{Gap, Fold, Untold}
+use Rattle.time_zones.specs.declared.clocks.NotOne.TheVariants.{Gap, Fold, OutsideZoneRange}
 use Rattle.time_zones.specs.declared.checking.SuffixFault.{SuffixFault}
 use Rattle.time_zones.specs.declared.checking.SuffixFault.TheVariants as Suffix
 use Rattle.time_zones.specs.declared.zone_fault.ZoneFault.{ZoneFault}
 use Rattle.time_zones.specs.declared.zone_fault.ZoneFault.TheVariants as Fault
 
 -- the moment is in the range of zones
-abbrev pub IsTold : OffsetDateTime → Type 0
-IsTold m = IsTimestampNanos (offset_instant greatest_year m)
+abbrev pub IsInZoneRange : OffsetDateTime → Type 0
+IsInZoneRange m = IsTimestampNanos (offset_instant greatest_year m)
 
 -- the moment has the offset that clocks of the zone have then
 abbrev pub HasZoneOffset : TimeZone → OffsetDateTime → Type 0
@@ -39,39 +39,39 @@ pub record HasClock (clock : PlainDateTime) (s : ℤ) (m : OffsetDateTime) : Typ
   pub instant : offset_instant greatest_year m ≡ plain_instant greatest_year clock -ℤ nanos_of_seconds s
 
 -- clocks of the zone show the date and time at the moment, with its offset
-abbrev pub IsShownIn : TimeZone → PlainDateTime → OffsetDateTime → Type 0
-IsShownIn zone clock m =
-    (offset_date m ≡ plain_date clock) × (offset_time m ≡ plain_time clock) × HasZoneOffset zone m × IsTold m
+abbrev pub HasLocalTime : TimeZone → PlainDateTime → OffsetDateTime → Type 0
+HasLocalTime zone clock m =
+    (offset_date m ≡ plain_date clock) × (offset_time m ≡ plain_time clock) × HasZoneOffset zone m × IsInZoneRange m
 
 -- the fact holds for each instant at which clocks of the zone show the date and time
 abbrev pub AtEach : TimeZone → PlainDateTime → (ℤ → Type 0) → Type 0
 AtEach zone clock P = (n : ℤ) → Shows zone (plain_instant greatest_year clock) n → P n
 
 -- the moment of the date and time is in the range of zones at every offset
-abbrev pub IsToldAtEachOffset : PlainDateTime → Type 0
-IsToldAtEachOffset clock =
+abbrev pub IsInZoneRangeAtEachOffset : PlainDateTime → Type 0
+IsInZoneRangeAtEachOffset clock =
     (s : ℤ) → IsOffsetSeconds s → IsTimestampNanos (plain_instant greatest_year clock -ℤ nanos_of_seconds s)
 
 -- the moment is the only one at which clocks of the zone show the date and time
 abbrev pub IsOnlyMoment : TimeZone → PlainDateTime → OffsetDateTime → Type 0
-IsOnlyMoment zone clock m = IsShownIn zone clock m × AtEach zone clock (λ n. n ≡ offset_instant greatest_year m)
+IsOnlyMoment zone clock m = HasLocalTime zone clock m × AtEach zone clock (λ n. n ≡ offset_instant greatest_year m)
 
 -- clocks of the zone never show the date and time
-abbrev pub IsNeverShown : TimeZone → PlainDateTime → Type 0
-IsNeverShown zone clock = AtEach zone clock (λ n. ⊥)
+abbrev pub IsNonexistent : TimeZone → PlainDateTime → Type 0
+IsNonexistent zone clock = AtEach zone clock (λ n. ⊥)
 
 -- the moments are the first and the last at which clocks of the zone show the date and time, and differ
 abbrev pub AreFirstAndLast : TimeZone → PlainDateTime → OffsetDateTime → OffsetDateTime → Type 0
 AreFirstAndLast zone clock first last =
-    IsShownIn zone clock first × IsShownIn zone clock last
+    HasLocalTime zone clock first × HasLocalTime zone clock last
     × (offset_instant greatest_year first <ℤ offset_instant greatest_year last)
     × AtEach zone clock (IsBetween (offset_instant greatest_year first) (offset_instant greatest_year last))
 
 -- why a date and time isn't exactly one moment in the zone
 abbrev pub IsNotOne : TimeZone → PlainDateTime → NotOne → Type 0
-IsNotOne zone clock Gap = IsNeverShown zone clock × IsToldAtEachOffset clock
+IsNotOne zone clock Gap = IsNonexistent zone clock × IsInZoneRangeAtEachOffset clock
 IsNotOne zone clock (Fold earlier later) = AreFirstAndLast zone clock earlier later
-IsNotOne zone clock Untold = IsNeverShown zone clock × (¬ (IsToldAtEachOffset clock))
+IsNotOne zone clock OutsideZoneRange = IsNonexistent zone clock × (¬ (IsInZoneRangeAtEachOffset clock))
 
 -- the zone has a rule or a table, and not one after the other
 abbrev pub HasOneSource : TimeZone → Type 0
@@ -86,7 +86,7 @@ abbrev pub HasNoThird : TimeZone → PlainDateTime → NotOne → Type 0
 HasNoThird zone clock Gap = Unit {0}
 HasNoThird zone clock (Fold earlier later) =
     AtEach zone clock (λ n. (n ≡ offset_instant greatest_year earlier) ⊎ (n ≡ offset_instant greatest_year later))
-HasNoThird zone clock Untold = Unit {0}
+HasNoThird zone clock OutsideZoneRange = Unit {0}
 
 -- the result for a date and time
 abbrev pub IsAnswer : TimeZone → PlainDateTime → Result OffsetDateTime NotOne → Type 0
@@ -94,13 +94,13 @@ IsAnswer zone clock (Ok m) = IsOnlyMoment zone clock m
 IsAnswer zone clock (Err why) = IsNotOne zone clock why
 
 -- the result is the moment, or a fold around it
-abbrev pub GivesBack : OffsetDateTime → Result OffsetDateTime NotOne → Type 0
-GivesBack m (Ok back) = offset_instant greatest_year back ≡ offset_instant greatest_year m
-GivesBack m (Err Gap) = ⊥
-GivesBack m (Err (Fold earlier later)) =
+abbrev pub RoundTrips : OffsetDateTime → Result OffsetDateTime NotOne → Type 0
+RoundTrips m (Ok back) = offset_instant greatest_year back ≡ offset_instant greatest_year m
+RoundTrips m (Err Gap) = ⊥
+RoundTrips m (Err (Fold earlier later)) =
     IsBetween (offset_instant greatest_year earlier) (offset_instant greatest_year later)
     (offset_instant greatest_year m)
-GivesBack m (Err Untold) = ⊥
+RoundTrips m (Err OutsideZoneRange) = ⊥
 
 -- ---- Printed messages of errors
 
@@ -108,14 +108,14 @@ GivesBack m (Err Untold) = ⊥
 abbrev pub not_one_text : NotOne → List ℕ
 not_one_text Gap = codes "clocks of the time zone leave out this date and time"
 not_one_text (Fold earlier later) = codes "clocks of the time zone show this date and time more than once"
-not_one_text Untold = codes "no time zone tells of this date and time"
+not_one_text OutsideZoneRange = codes "no time zone tells of this date and time"
 
 -- the message for a suffix that doesn't agree with its moment
 abbrev pub suffix_fault_text : SuffixFault → List ℕ
 suffix_fault_text Suffix.CriticalKey = codes "a key of its suffix is critical, and not known"
 suffix_fault_text Suffix.UnknownZone = codes "there is no time zone of the name in its suffix"
 suffix_fault_text Suffix.OtherOffset = codes "the time zone in its suffix has another offset then"
-suffix_fault_text Suffix.Untold = codes "no time zone tells of that time"
+suffix_fault_text Suffix.OutsideZoneRange = codes "no time zone tells of that time"
 
 -- the message for a zone that wasn't found; the reason of an unreadable or a malformed file is the kit's
 abbrev pub fault_text : ZoneFault → Option (List ℕ)

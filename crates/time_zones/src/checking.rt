@@ -3,7 +3,7 @@ ghost use Rattle.std.specs.Prelude.{◌≡◌, option_map};
 ghost use Rattle.time_values.specs.Moments.{offset_of};
 ghost use Rattle.time_values.specs.Offsets.{offset_seconds};
 ghost use Rattle.jiff_tz.specs.Zone as Zone;
-ghost use Rattle.time_zones.specs.Suffix.{compared, HasItsOffset, GoesWithZone, GoesWith, zone_of, zone_tag_of};
+ghost use Rattle.time_zones.specs.Suffix.{compared, HasItsOffset, AgreesWithZone, AgreesWith, zone_of, zone_tag_of};
 
 use crate::clocks::{has_zone_offset, is_same};
 use crate::suffix::{Suffixed, ZoneText};
@@ -22,7 +22,7 @@ pub enum SuffixFault {
     /// The moment's offset differs from the zone's.
     OtherOffset,
     /// The moment is outside the range of zones: before the year -9999 or after 9999, or within a day of either end.
-    Untold,
+    OutsideZoneRange,
 }
 
 impl fmt::Display for SuffixFault {
@@ -36,7 +36,7 @@ impl fmt::Display for SuffixFault {
             SuffixFault::CriticalKey => "a key of its suffix is critical, and not known",
             SuffixFault::UnknownZone => "there is no time zone of the name in its suffix",
             SuffixFault::OtherOffset => "the time zone in its suffix has another offset then",
-            SuffixFault::Untold => "no time zone tells of that time",
+            SuffixFault::OutsideZoneRange => "no time zone tells of that time",
         })
     }
 }
@@ -60,47 +60,47 @@ fn check_zone(moment: OffsetDateTime, zone: &TimeZone<'_>) -> Result<(), SuffixF
     match has_zone_offset(moment, zone) {
         Some(true) => Ok(()),
         Some(false) => Err(SuffixFault::OtherOffset),
-        None => Err(SuffixFault::Untold),
+        None => Err(SuffixFault::OutsideZoneRange),
     }
 }
 
 // Checks that the moment agrees with the zone of a suffix.
-fn check_told(
+fn check_zone_text(
     zone: ZoneText<'_>,
     moment: OffsetDateTime,
-    tells_offset: bool,
+    has_local_offset: bool,
     zones: &Zones,
 ) -> Result<(), SuffixFault>
-    ensures { GoesWithZone zones.now tells_offset moment (zone_of zone.entry) result }
+    ensures { AgreesWithZone zones.now has_local_offset moment (zone_of zone.entry) result }
 {
     match zone {
         ZoneText::Name(name) => match zones.get(name) {
-            Some(zone) if tells_offset => check_zone(moment, &zone),
+            Some(zone) if has_local_offset => check_zone(moment, &zone),
             Some(_) => Ok(()),
             None => Err(SuffixFault::UnknownZone),
         },
-        ZoneText::Offset(offset) if tells_offset => check_fixed(moment, offset),
+        ZoneText::Offset(offset) if has_local_offset => check_fixed(moment, offset),
         ZoneText::Offset(_) => Ok(()),
     }
 }
 
 /// Checks that the suffix agrees with the moment, by RFC 9557, sections 3.3, 3.4 and 4.1: none of its keys is critical,
 /// since none is known, `zones` has its zone, and the moment has the zone's offset. `Z` and `-00:00` specify no offset
-/// of a zone: for them `tells_offset` is false, and a zone of any offset agrees with the moment.
+/// of a zone: for them `has_local_offset` is false, and a zone of any offset agrees with the moment.
 pub fn check_suffix(
     suffix: &Suffixed<'_>,
     moment: OffsetDateTime,
-    tells_offset: bool,
+    has_local_offset: bool,
     zones: &Zones,
 ) -> Result<(), SuffixFault>
-    ensures { GoesWith zones.now tells_offset moment (option_map zone_tag_of suffix.now.zone)
+    ensures { AgreesWith zones.now has_local_offset moment (option_map zone_tag_of suffix.now.zone)
         (option_map (λ key. key.now) suffix.now.critical_key) result }
 {
     if suffix.critical_key.is_some() {
         return Err(SuffixFault::CriticalKey);
     }
     match suffix.zone {
-        Some(tag) => check_told(tag.zone, moment, tells_offset, zones),
+        Some(tag) => check_zone_text(tag.zone, moment, has_local_offset, zones),
         None => Ok(()),
     }
 }

@@ -8,7 +8,7 @@ ghost use Rattle.jiff_tz.specs.Zone as Zone;
 ghost use Rattle.time_values.specs.Moments.{offset_instant, plain_instant};
 ghost use Rattle.time_values.specs.Offsets.{offset_seconds};
 ghost use Rattle.time_values.specs.Calendar.{greatest_year};
-ghost use Rattle.time_zones.specs.Zones.{HasClock, IsTold, HasZoneOffset, IsOnlyMoment, IsNotOne, HasOneSource, HasNoThird};
+ghost use Rattle.time_zones.specs.Zones.{HasClock, IsInZoneRange, HasZoneOffset, IsOnlyMoment, IsNotOne, HasOneSource, HasNoThird};
 
 mod fast;
 
@@ -32,7 +32,7 @@ fn offset_from(offset: Offset) -> UtcOffset
 /// The offset of the zone at the moment. `None` before the year -9999 and after 9999, and within a day of either end,
 /// for which no zone has an offset.
 pub fn offset_at(zone: &TimeZone<'_>, moment: OffsetDateTime) -> Option<UtcOffset>
-    ensures told { IsSome result ↔ IsTold moment }
+    ensures told { IsSome result ↔ IsInZoneRange moment }
     ensures value { IfSome result (λ o. offset_seconds o ≡ Zone.offset_at zone.now (offset_instant greatest_year moment)) }
 {
     let second = moment.unix_timestamp();
@@ -47,7 +47,7 @@ pub fn offset_at(zone: &TimeZone<'_>, moment: OffsetDateTime) -> Option<UtcOffse
 
 /// The moment at the offset of the zone. `None` if [`offset_at`] returns `None`.
 pub fn checked_to_zone(moment: OffsetDateTime, zone: &TimeZone<'_>) -> Option<OffsetDateTime>
-    ensures told { IsSome result ↔ IsTold moment }
+    ensures told { IsSome result ↔ IsInZoneRange moment }
     ensures instant { IfSome result (λ v. offset_instant greatest_year v ≡ offset_instant greatest_year moment) }
     ensures offset { IfSome result (HasZoneOffset zone.now) }
 {
@@ -66,7 +66,7 @@ pub(crate) fn is_same(a: UtcOffset, b: UtcOffset) -> bool
 /// if [`offset_at`] returns `None`. An offset of whole minutes doesn't equal an offset with seconds, as many zones had
 /// before 1920.
 pub fn has_zone_offset(moment: OffsetDateTime, zone: &TimeZone<'_>) -> Option<bool>
-    ensures told { IsSome result ↔ IsTold moment }
+    ensures told { IsSome result ↔ IsInZoneRange moment }
     ensures value { IfSome result (λ same. IsTrue same ↔ HasZoneOffset zone.now moment) }
 {
     let shown = offset_at(zone, moment)?;
@@ -87,7 +87,7 @@ pub enum NotOne {
     },
     /// The local time occurs at no moment in the range of zones, and is outside the years -9999 to 9999 or within two
     /// days of their ends.
-    Untold,
+    OutsideZoneRange,
 }
 
 impl fmt::Display for NotOne {
@@ -100,7 +100,7 @@ impl fmt::Display for NotOne {
         f.write_str(match self {
             NotOne::Gap => "clocks of the time zone leave out this date and time",
             NotOne::Fold { .. } => "clocks of the time zone show this date and time more than once",
-            NotOne::Untold => "no time zone tells of this date and time",
+            NotOne::OutsideZoneRange => "no time zone tells of this date and time",
         })
     }
 }
@@ -108,7 +108,7 @@ impl fmt::Display for NotOne {
 impl std::error::Error for NotOne {}
 
 // Whether the moment of the date and time is in the range of zones at every offset.
-fn is_told_at_each_offset(civil: DateTime) -> bool
+fn is_in_zone_range_at_each_offset(civil: DateTime) -> bool
     ensures { IsTrue result ↔ ((s : ℤ) → IsOffsetSeconds s → IsTimestampNanos (civil_nanos civil -ℤ nanos_of_seconds s)) }
 {
     Offset::MIN.to_timestamp(civil).is_ok() && Offset::MAX.to_timestamp(civil).is_ok()
@@ -139,13 +139,13 @@ fn assume_by_offsets(clock: PlainDateTime, zone: &TimeZone<'_>) -> Result<Offset
     ensures two { HasOneSource zone.now → IfErr result (HasNoThird zone.now clock) }
 {
     let Some(civil) = civil_from(clock) else {
-        return Err(NotOne::Untold);
+        return Err(NotOne::OutsideZoneRange);
     };
     let Some(spread) = spread_at(zone, civil) else {
-        if is_told_at_each_offset(civil) {
+        if is_in_zone_range_at_each_offset(civil) {
             return Err(NotOne::Gap);
         }
-        return Err(NotOne::Untold);
+        return Err(NotOne::OutsideZoneRange);
     };
     let earlier = moment_with(clock, spread.greatest);
     if spread.least.seconds < spread.greatest.seconds {

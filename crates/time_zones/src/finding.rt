@@ -3,7 +3,7 @@ ghost use Rattle.std.specs.Prelude.{◌≡◌, ◌≢◌, ◌↔◌, Ok, Err, So
 ghost use Rattle.time_zones.specs.Finding.{IsZoneOf, ReadsTo, IsFoundAt, IsFound, IsVariableFault, name_of, IsZoneName};
 
 use crate::files::{Disk, ReadFault, ZoneFiles};
-use crate::place::{Place, asked};
+use crate::place::{Place, requested_place};
 use crate::zone_fault::ZoneFault;
 use jiff_core::Error;
 use jiff_tz::{TimeZone, Tzif, posix};
@@ -121,7 +121,7 @@ pub fn find_zone_in<F: ZoneFiles>(
 ) -> Result<NamedZone, ZoneFault>
     ensures { IsFound (F.gives files.now) folder.now (option_map (λ s. s.now) setting.entry) name.now result }
 {
-    find_at(alloc, files, folder, asked(setting, name))
+    find_at(alloc, files, folder, requested_place(setting, name))
 }
 
 // The value of a variable, if it is set.
@@ -185,5 +185,5 @@ pub fn find_zone<R: Env + Files + AllocGlobal>(rt: &R, name: &str) -> Result<Nam
         Some(setting) => Some(setting.as_str()),
         None => None,
     };
-    find_on_disk(rt, asked(setting, name))
+    find_on_disk(rt, requested_place(setting, name))
 }

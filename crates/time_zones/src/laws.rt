@@ -1,7 +1,7 @@
 //! Laws of the local times of zones. Each contract is a law of what the function returns.
 ghost use Rattle.std.specs.Prelude.{◌≡◌, ◌↔◌, Some, IsSome, IfSome, Result};
 ghost use Rattle.time_zones.specs.Suffix.{OneCheck, OneSuffix, NamesInFolder, WrittenIsSuffix};
-ghost use Rattle.time_zones.specs.Zones.{IsTold, HasZoneOffset, IsAnswer, GivesBack};
+ghost use Rattle.time_zones.specs.Zones.{IsInZoneRange, HasZoneOffset, IsAnswer, RoundTrips};
 ghost use Rattle.time_zones.specs.declared.clocks.NotOne.{NotOne as NotOne_};
 ghost use Rattle.time_values.specs.declared.offset_date_time.OffsetDateTime.{OffsetDateTime as Moment};
 
@@ -14,8 +14,8 @@ pub fn law_read_back(
     moment: OffsetDateTime,
     zone: &TimeZone<'_>,
 ) -> Option<Result<OffsetDateTime, NotOne>>
-    ensures told { IsSome result ↔ IsTold moment }
-    ensures back { IfSome result (GivesBack moment) }
+    ensures told { IsSome result ↔ IsInZoneRange moment }
+    ensures back { IfSome result (RoundTrips moment) }
 {
     let shown = checked_to_zone(moment, zone)?;
     Some(assume_zone(PlainDateTime::new(shown.date(), shown.time()), zone))
@@ -23,7 +23,7 @@ pub fn law_read_back(
 
 /// Converting a moment that has the zone's offset to the zone leaves it unchanged.
 pub fn law_left_as_it_is(moment: OffsetDateTime, zone: &TimeZone<'_>) -> Option<OffsetDateTime>
-    ensures { IsTold moment → HasZoneOffset zone.now moment → result ≡ Some moment }
+    ensures { IsInZoneRange moment → HasZoneOffset zone.now moment → result ≡ Some moment }
 {
     checked_to_zone(moment, zone)
 }

@@ -1,6 +1,6 @@
 //! Finds the place of a zone from its name and from the variable `TZ`.
 ghost use Rattle.std.specs.Prelude.{◌≡◌, ◌↔◌, IsTrue, option_map};
-ghost use Rattle.time_zones.specs.Finding.{IsPart, IsZoneName, AsksFor, AsksForPath, AsksBySetting, IsAsked};
+ghost use Rattle.time_zones.specs.Finding.{IsPart, IsZoneName, IsPlaceOfName, IsPlaceOfPath, IsPlaceOfSetting, IsRequestedPlace};
 
 use jiff_tz::posix;
 
@@ -40,7 +40,7 @@ fn is_zone_name(name: &str) -> bool
 
 /// The place that a name specifies. `None` if it would leave the folder of zones.
 pub(crate) fn named(name: &str) -> Option<Place<'_>>
-    ensures { AsksFor name.now result }
+    ensures { IsPlaceOfName name.now result }
 {
     if name == "UTC" {
         return Some(Place::Utc);
@@ -53,7 +53,7 @@ pub(crate) fn named(name: &str) -> Option<Place<'_>>
 
 // The place that a path or a name specifies.
 fn at_path(text: &str) -> Option<Place<'_>>
-    ensures { AsksForPath text.now result }
+    ensures { IsPlaceOfPath text.now result }
 {
     match text.as_bytes() {
         [b'/', ..] => Some(Place::AtPath(text)),
@@ -63,7 +63,7 @@ fn at_path(text: &str) -> Option<Place<'_>>
 
 // The place that a value of `TZ` specifies.
 fn by_setting(setting: &str) -> Option<Place<'_>>
-    ensures { AsksBySetting setting.now result }
+    ensures { IsPlaceOfSetting setting.now result }
 {
     if setting.is_empty() {
         return Some(Place::Utc);
@@ -78,8 +78,8 @@ fn by_setting(setting: &str) -> Option<Place<'_>>
 }
 
 /// The place that a name specifies. `local` is the place that `TZ` specifies, or /etc/localtime if `TZ` isn't set.
-pub(crate) fn asked<'a>(setting: Option<&'a str>, name: &'a str) -> Option<Place<'a>>
-    ensures { IsAsked (option_map (λ s. s.now) setting.entry) name.now result }
+pub(crate) fn requested_place<'a>(setting: Option<&'a str>, name: &'a str) -> Option<Place<'a>>
+    ensures { IsRequestedPlace (option_map (λ s. s.now) setting.entry) name.now result }
 {
     if name != "local" {
         return named(name);

@@ -2,7 +2,7 @@
 ghost use Rattle.std.specs.Prelude.{◌≡◌, ◌≢◌, ◌<◌, ◌≤◌, ℕ, Bool, false, List, [], ◌∷◌, Some, length, take, option_map, IfSome, IfNone};
 ghost use Rattle.std.specs.List.{prefix_len};
 ghost use Rattle.time_zones.specs.Suffix as suffix;
-ghost use Rattle.time_zones.specs.Suffix.{Zone, IsZoneText, Tag, critical_key, IsLongest, Says, zone_of, zone_tag_of};
+ghost use Rattle.time_zones.specs.Suffix.{Zone, IsZoneText, Tag, critical_key, IsLongest, ParsesSuffix, zone_of, zone_tag_of};
 ghost use Rattle.time_zones.specs.SuffixFronts as fronts;
 ghost use Rattle.time_zones.specs.SuffixFronts.{BeginsBracketed, BeginsWithZone, HasNoZone, BeginsWithTag, HasNoTag, BeginsWithTags};
 
@@ -36,18 +36,20 @@ fn zone_of(text: &[u8]) -> Option<ZoneText<'_>>
 }
 
 // Whether the byte may be inside brackets, after a flag.
-fn is_held(byte: u8) -> bool
-    ensures { result ≡ fronts.is_held byte }
+fn is_bracket_char(byte: u8) -> bool
+    ensures { result ≡ fronts.is_bracket_char byte }
 {
     is_zone_char(byte) || matches!(byte, b'/' | b':' | b'=')
 }
 
 // The number of such bytes at the start of the text.
-fn held_len(text: &[u8]) -> usize
-    ensures count { result ≡ prefix_len fronts.is_held text.now }
+fn bracket_len(text: &[u8]) -> usize
+    ensures count { result ≡ prefix_len fronts.is_bracket_char text.now }
     ensures within { result ≤ length text.now }
 {
-    text.iter().take_while(|byte| is_held(**byte)).count()
+    text.iter()
+        .take_while(|byte| is_bracket_char(**byte))
+        .count()
 }
 
 // Whether the text starts with a flag, and the rest after it.
@@ -77,7 +79,7 @@ fn brackets(text: &[u8]) -> Option<(Bracketed<'_>, &[u8])>
         → BeginsBracketed text.now is_critical inside rest → ⊥) }
 {
     let (is_critical, begun) = flag(after(text, b'[')?);
-    let (inside, left) = begun.split_at(held_len(begun));
+    let (inside, left) = begun.split_at(bracket_len(begun));
     let rest = after(left, b']')?;
     Some((
         Bracketed {
@@ -161,7 +163,7 @@ pub struct Suffixed<'a> {
 /// there is such a zone.
 pub fn read_suffix(text: &[u8]) -> Suffixed<'_>
     ensures within { result.len ≤ length text.now }
-    ensures says { Says (take result.len text.now) result }
+    ensures says { ParsesSuffix (take result.len text.now) result }
     ensures longest { IsLongest text.now result.len }
 {
     let (zone, tags) = zone_if_any(text);

@@ -61,7 +61,7 @@ static inline int has_pages(void)
     return page && other_page;
 }
 
-/* Twenty texts of moments, and how many of the prefixes of each are a moment too, as `+05` of `+05:30`. The first five
+/* Texts of moments, and how many of the prefixes of each are a moment too, as `+05` of `+05:30`. The first five
  * are the examples of RFC 3339, section 5.8; the next three of RFC 2822, appendix A. */
 typedef struct {
     uint32_t format;
@@ -90,6 +90,10 @@ static const row rows[] = {
     { PELZAUNE_ISO8601, "2021-01-02T03,5Z", 0, { 2021, 0, 0, 1, 2, 3, 30, 0 } },
     { PELZAUNE_ISO8601, "+012345-06-07T08:09:10+05:30", 1, { 12345, 0, 19800, 6, 7, 8, 9, 10 } },
     { PELZAUNE_ISO8601, "-000001-12-31T23:59:59.9Z", 0, { -1, 900000000, 0, 12, 31, 23, 59, 59 } },
+    { PELZAUNE_RFC3339_STRICT, "1985-04-12T23:20:50Z", 0, { 1985, 0, 0, 4, 12, 23, 20, 50 } },
+    { PELZAUNE_RFC3339_STRICT, "1985-04-12t23:20:50Z", 0, { 1985, 0, 0, 4, 12, 23, 20, 50 } },
+    { PELZAUNE_RFC3339_STRICT, "1985-04-12 23:20:50Z", 0, { 1985, 0, 0, 4, 12, 23, 20, 50 } },
+    { PELZAUNE_RFC3339_STRICT, "1990-12-31T15:59:60-08:00", 0, { 1990, 999999999, -28800, 12, 31, 15, 59, 59 } },
 };
 enum { ROWS = sizeof rows / sizeof *rows };
 

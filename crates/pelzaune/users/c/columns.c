@@ -21,7 +21,9 @@ static void test_columns(void)
     EXPECT(pelzaune_column(PELZAUNE_RFC3339, NULL, 0, entries, 6, &refused) == 0 && refused == 0 && entries[2] == 7);
     EXPECT(pelzaune_column(PELZAUNE_RFC3339, TEXT("\n"), entries, 6, &refused) == 1 && refused == 1 && entries[0] == PELZAUNE_NO_COUNT);
     EXPECT(pelzaune_column(PELZAUNE_RFC3339, TEXT("\n\n1970-01-01T00:00:01Z\r\n"), entries, 6, &refused) == 3 && refused == 3);
-    EXPECT(pelzaune_column(4, FOUR, entries, 6, &refused) == 4 && refused == 4 && entries[3] == PELZAUNE_NO_COUNT);
+    EXPECT(pelzaune_column(5, FOUR, entries, 6, &refused) == 4 && refused == 4 && entries[3] == PELZAUNE_NO_COUNT);
+    EXPECT(pelzaune_column(PELZAUNE_RFC3339_STRICT, TEXT("1970-01-02_00:00:00Z\n1970-01-02 00:00:00Z\n"), entries, 6, &refused) == 2
+        && refused == 1 && entries[0] == PELZAUNE_NO_COUNT && entries[1] == four_counts[0]);
     EXPECT(pelzaune_column(PELZAUNE_RFC2822, TEXT("Fri, 02 Jan 1970 00:00:00 GMT\n1970-01-01T00:00:00Z\n"), entries, 6, &refused) == 2
         && refused == 1 && entries[0] == four_counts[0]);
     EXPECT(pelzaune_column(PELZAUNE_ISO8601, TEXT("1970-002T00Z\n1970-002\n"), entries, 6, &refused) == 2 && refused == 1
@@ -125,6 +127,7 @@ static void test_texts_of_moments(void)
 {
     pelzaune_moment m = { 1985, 520000000, 0, 4, 12, 23, 20, 50 };
     EXPECT(writes(PELZAUNE_RFC3339, &m, "1985-04-12T23:20:50.52Z"));
+    EXPECT(writes(PELZAUNE_RFC3339_STRICT, &m, "1985-04-12T23:20:50.52Z"));
     EXPECT(writes(PELZAUNE_ISO8601, &m, "1985-04-12T23:20:50.520000000Z"));
     EXPECT(writes(PELZAUNE_RFC2822, &m, "Fri, 12 Apr 1985 23:20:50 +0000"));
     m.offset = -30600;
@@ -155,7 +158,7 @@ static void test_texts_of_moments(void)
     EXPECT(refuses(1, &wrong) == PELZAUNE_RANGE + 256 * 19);
     /* components that the format can't write */
     wrong.offset = 93599;
-    EXPECT(refuses(1, &wrong) == PELZAUNE_NO_TEXT + 256 * 14 && refuses(3, &wrong) == PELZAUNE_NO_TEXT + 256 * 14);
+    EXPECT(refuses(1, &wrong) == PELZAUNE_NO_TEXT + 256 * 14 && refuses(4, &wrong) == PELZAUNE_NO_TEXT + 256 * 14 && refuses(3, &wrong) == PELZAUNE_NO_TEXT + 256 * 14);
     EXPECT(refuses(2, &wrong) == PELZAUNE_NO_TEXT + 256 * 16);
     wrong.offset = 1;
     EXPECT(refuses(1, &wrong) == PELZAUNE_NO_TEXT + 256 * 16 && refuses(2, &wrong) == PELZAUNE_NO_TEXT + 256 * 16);
@@ -172,7 +175,7 @@ static void test_read_back(void)
 {
     int right = 1;
     for (const row *it = rows; it < rows + ROWS; it++)
-        for (uint32_t format = 1; format <= 3; format++) {
+        for (uint32_t format = 1; format <= 4; format++) {
             uint8_t text[PELZAUNE_MOMENT_TEXT];
             size_t length;
             pelzaune_moment m, kept = it->value;

@@ -53,7 +53,7 @@ static int refuses(const uint8_t *text, size_t length)
     int64_t n;
     size_t index = 0;
     int refused = 1;
-    for (uint32_t format = 1; format <= 3; format++)
+    for (uint32_t format = 1; format <= 4; format++)
         refused &= pelzaune_parse_moment(format, text, length, &m) && pelzaune_parse_local(format, text, length, &l)
             && pelzaune_parse_utc(format, text, length, &l) && pelzaune_parse_date(format, text, length, &d)
             && pelzaune_parse_time(format, text, length, &t) && pelzaune_parse_offset(format, text, length, &offset)
@@ -97,7 +97,7 @@ int main(void)
     if (!text) return 2;
     memcpy(text, "1970-01-01T00:00:00.", 20);
     text[HUGE - 1] = 'Z';
-    EXPECT(has(PELZAUNE_RFC3339, text, HUGE, 111111111));
+    EXPECT(has(PELZAUNE_RFC3339, text, HUGE, 111111111) && has(PELZAUNE_RFC3339_STRICT, text, HUGE, 111111111));
     /* Very many blanks. */
     text = filled(' ');
     if (!text) return 2;

@@ -15,7 +15,7 @@
 
 static uint32_t format_named(const char *name)
 {
-    if (strcasecmp(name, "rfc3339") == 0) return PELZAUNE_RFC3339;
+    if (strcasecmp(name, "rfc3339") == 0) return PELZAUNE_RFC3339_STRICT;
     if (strcasecmp(name, "rfc2822") == 0) return PELZAUNE_RFC2822;
     if (strcasecmp(name, "iso8601") == 0) return PELZAUNE_ISO8601;
     return 0;
@@ -40,7 +40,7 @@ static pelzaune_status print_line(uint32_t format, int separator, const char *li
 
 int main(int argc, char **argv)
 {
-    uint32_t format = argc > 1 ? format_named(argv[1]) : PELZAUNE_RFC3339;
+    uint32_t format = argc > 1 ? format_named(argv[1]) : PELZAUNE_RFC3339_STRICT;
     int separator = argc > 2 ? argv[2][0] : ' ';
     if (!format || !separator || argc > 3) {
         fprintf(stderr, "usage: log_seconds [rfc3339|rfc2822|iso8601] [SEPARATOR]\n");

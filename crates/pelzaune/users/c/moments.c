@@ -84,10 +84,27 @@ static void test_border(const border *it)
     expect(pelzaune_column(PELZAUNE_RFC3339, text, length, &entry, 1, &refused) == 1 && !refused && entry == count, it->text, __LINE__);
 }
 
+/* The strict format has the same result, but for a text with another byte between date and time. */
+static void test_strict(const border *it)
+{
+    size_t length = strlen(it->text);
+    const uint8_t *text = at_end(it->text, length);
+    pelzaune_moment m = { 7, 7, 7, 7, 7, 7, 7, 7 };
+    const pelzaune_moment *v = &it->value;
+    pelzaune_status wanted = it->status;
+    if (!wanted && !strchr("Tt ", text[10])) wanted = PELZAUNE_INVALID_COMPONENT + SEPARATOR;
+    expect(pelzaune_parse_moment(PELZAUNE_RFC3339_STRICT, text, length, &m) == wanted, it->text, __LINE__);
+    if (wanted) expect(m.year == 7 && m.offset == 7 && m.month == 7 && m.second == 7, it->text, __LINE__);
+    else expect(m.year == v->year && m.second == v->second && m.nanosecond == v->nanosecond && m.offset == v->offset, it->text, __LINE__);
+}
+
 int main(void)
 {
     if (!has_pages()) return 2;
-    for (size_t k = 0; k < sizeof borders / sizeof *borders; k++) test_border(&borders[k]);
+    for (size_t k = 0; k < sizeof borders / sizeof *borders; k++) {
+        test_border(&borders[k]);
+        test_strict(&borders[k]);
+    }
     printf("%d passed, %d failed\n", passed, failed);
     return failed != 0;
 }

@@ -31,6 +31,7 @@ static uint8_t buffer[256];
 
 static void nothing(void) {}
 static void rfc3339(void) { pelzaune_parse_moment(PELZAUNE_RFC3339, BYTES("2021-01-02T03:04:05.123456789+05:30"), &moment); }
+static void strict(void) { pelzaune_parse_date(PELZAUNE_RFC3339_STRICT, BYTES("2021-01-02_03:04:05Z"), &date); }
 static void leap_second(void) { pelzaune_parse_instant(PELZAUNE_RFC3339, BYTES("2016-12-31T23:59:60Z"), &instant); }
 static void mail_date(void) { pelzaune_parse_moment(PELZAUNE_RFC2822, BYTES(COMMENT "Sat, 02 " COMMENT " Jan 21 03:04:05 EST" COMMENT), &moment); }
 static void week_date(void) { pelzaune_parse_moment(PELZAUNE_ISO8601, BYTES("2020-W53-6T03:04:05,123456789+05:30"), &moment); }
@@ -49,6 +50,7 @@ static void read_choices(void) { pelzaune_read_parts(PELZAUNE_BRACKETS_2, BYTES(
 static void described(void) { pelzaune_described_instant(&held, BYTES("10/Oct/2000:13:55:36 -0700"), &instant); }
 static void described_deep(void) { pelzaune_described_time(&deep, BYTES("12"), &time_of_day); }
 static void locate(void) { pelzaune_locate(PELZAUNE_RFC2822, BYTES("Sat, 02 " COMMENT " Jan 21 03:04:65"), &place); }
+static void locate_strict(void) { pelzaune_locate(PELZAUNE_RFC3339_STRICT, BYTES("2021-01-02_03:04:05Z"), &place); }
 static void locate_iso(void) { pelzaune_locate(PELZAUNE_ISO8601, BYTES("2021-01-02T03:04:65"), &place); }
 static void read_locate(void) { pelzaune_read_locate(PELZAUNE_BRACKETS_2, BYTES(DEEP), BYTES("x"), &place); }
 static void column(void) { pelzaune_column(PELZAUNE_RFC2822, BYTES("02 Jan 2021 03:04 EST\n" COMMENT "x\n"), entries, 4, &refused); }
@@ -62,14 +64,14 @@ static void format_moment(void)
 static void write_text(void) { pelzaune_write_text(PELZAUNE_RANGE_OF_OTHERS + 256, buffer, sizeof buffer); }
 
 static const struct { const char *name; void (*run)(void); } calls[] = {
-    { "parse_moment, RFC 3339", rfc3339 }, { "parse_instant, a leap second", leap_second }, { "parse_moment, comments", mail_date },
-    { "parse_moment, a week", week_date }, { "parse_local", iso_local }, { "parse_utc", utc }, { "parse_date", only_date },
+    { "parse_moment, RFC 3339", rfc3339 }, { "parse_date, strict", strict }, { "parse_instant, a leap second", leap_second },
+    { "parse_moment, comments", mail_date }, { "parse_moment, a week", week_date }, { "parse_local", iso_local }, { "parse_utc", utc }, { "parse_date", only_date },
     { "parse_time", only_time }, { "parse_offset", only_offset }, { "parse_nanoseconds", nanoseconds }, { "parse_parts", all_parts },
     { "check_description", check }, { "describe", describe }, { "read_local", read_text }, { "read_parts, deep", read_deep },
     { "read_parts, choices", read_choices }, { "described_instant", described }, { "described_time, deep", described_deep },
-    { "locate, a mail date", locate }, { "locate, ISO 8601", locate_iso }, { "read_locate, deep", read_locate }, { "column", column },
-    { "read_column", read_column }, { "described_column", described_column }, { "format_moment", format_moment },
-    { "write_text", write_text },
+    { "locate, a mail date", locate }, { "locate, strict", locate_strict }, { "locate, ISO 8601", locate_iso },
+    { "read_locate, deep", read_locate }, { "column", column }, { "read_column", read_column },
+    { "described_column", described_column }, { "format_moment", format_moment }, { "write_text", write_text },
 };
 
 static void *start(void *call)

@@ -66,7 +66,7 @@ static int beginnings(const row *it)
 
 static void test_rows(void)
 {
-    EXPECT(ROWS == 20);
+    EXPECT(ROWS == 24);
     for (const row *it = rows; it < rows + ROWS; it++) {
         size_t length = strlen(it->text);
         pelzaune_moment m;
@@ -117,9 +117,55 @@ static void test_refusals(void)
     EXPECT(pelzaune_parse_date(PELZAUNE_ISO8601, TEXT("2020-02-29"), &d) == PELZAUNE_OK && d.day == 29);
     EXPECT(pelzaune_parse_time(PELZAUNE_ISO8601, TEXT("T03:04"), &t) == PELZAUNE_OK && t.hour == 3 && t.minute == 4);
     EXPECT(pelzaune_parse_time(PELZAUNE_RFC3339, TEXT("2016-12-31T23:59:60Z"), &t) == PELZAUNE_RANGE + 256 * 10);
-    for (uint32_t format = 4; format; format <<= 1)
+    EXPECT(pelzaune_parse_moment(5, TEXT("1985-04-12T23:20:50Z"), &m) == PELZAUNE_UNKNOWN_FORMAT);
+    for (uint32_t format = 8; format; format <<= 1)
         EXPECT(pelzaune_parse_moment(format, TEXT("1985-04-12T23:20:50Z"), &m) == PELZAUNE_UNKNOWN_FORMAT);
     EXPECT(pelzaune_parse_date(0, TEXT("1985-04-12"), &d) == PELZAUNE_UNKNOWN_FORMAT);
+}
+
+/* Whether each call that parses a text returns that status. */
+static int has_status(uint32_t format, const char *text, pelzaune_status wanted)
+{
+    size_t length = strlen(text);
+    const uint8_t *bytes = at_end(text, length);
+    pelzaune_moment m;
+    pelzaune_local l;
+    pelzaune_date d;
+    pelzaune_time t;
+    pelzaune_instant i;
+    pelzaune_parts p;
+    int32_t offset;
+    int64_t n;
+    return pelzaune_parse_moment(format, bytes, length, &m) == wanted && pelzaune_parse_local(format, bytes, length, &l) == wanted
+        && pelzaune_parse_utc(format, bytes, length, &l) == wanted && pelzaune_parse_date(format, bytes, length, &d) == wanted
+        && pelzaune_parse_time(format, bytes, length, &t) == wanted && pelzaune_parse_offset(format, bytes, length, &offset) == wanted
+        && pelzaune_parse_instant(format, bytes, length, &i) == wanted && pelzaune_parse_nanoseconds(format, bytes, length, &n) == wanted
+        && pelzaune_parse_parts(format, bytes, length, &p) == wanted;
+}
+
+/* Between date and time PELZAUNE_RFC3339 accepts any byte, and PELZAUNE_RFC3339_STRICT only `T`, `t` or a space. */
+static void test_separators(void)
+{
+    enum { NO_MONTH = PELZAUNE_INVALID_COMPONENT + 256 * 2, NO_SEPARATOR = PELZAUNE_INVALID_COMPONENT + 256 * 22 };
+    for (int byte = 1; byte < 256; byte++) {
+        char text[] = "1985-04-12T23:20:50Z";
+        text[10] = (char)byte;
+        expect(has_status(PELZAUNE_RFC3339, text, PELZAUNE_OK), text, __LINE__);
+        expect(has_status(PELZAUNE_RFC3339_STRICT, text, strchr("Tt ", byte) ? PELZAUNE_OK : NO_SEPARATOR), text, __LINE__);
+    }
+    EXPECT(has_status(PELZAUNE_RFC3339_STRICT, "1985-04-12", NO_SEPARATOR));
+    pelzaune_place p;
+    EXPECT(pelzaune_locate(PELZAUNE_RFC3339_STRICT, TEXT("1985-04-12t23:20:50Z"), &p) == PELZAUNE_OK);
+    EXPECT(pelzaune_locate(PELZAUNE_RFC3339_STRICT, TEXT("1985-04-12923:20:50Z"), &p) == NO_SEPARATOR && p.index == 10 && p.byte == 0);
+    EXPECT(pelzaune_locate(PELZAUNE_RFC3339_STRICT, TEXT("1985-04-12_23:20:50Z"), &p) == NO_SEPARATOR && p.index == 10 && p.byte == 0);
+    EXPECT(pelzaune_locate(PELZAUNE_RFC3339_STRICT, TEXT("1985-04-12T23:20:50Zx"), &p) == PELZAUNE_TRAILING && p.index == 20);
+    EXPECT(pelzaune_locate(PELZAUNE_RFC3339, TEXT("1985-04-12923:20:50Z"), &p) == PELZAUNE_OK);
+    /* The month is before the separator. A moment's parse tests the places of a text before their ranges. */
+    pelzaune_moment m;
+    pelzaune_date d;
+    EXPECT(pelzaune_parse_moment(PELZAUNE_RFC3339_STRICT, TEXT("1985-13-12923:20:50Z"), &m) == NO_SEPARATOR);
+    EXPECT(pelzaune_parse_date(PELZAUNE_RFC3339_STRICT, TEXT("1985-13-12923:20:50Z"), &d) == NO_MONTH);
+    EXPECT(pelzaune_locate(PELZAUNE_RFC3339_STRICT, TEXT("1985-13-12923:20:50Z"), &p) == NO_MONTH && p.index == 5 && p.byte == 0);
 }
 
 #define YMD DESCRIPTION("[year]-[month]-[day]")
@@ -192,7 +238,7 @@ static void test_places(void)
     EXPECT(pelzaune_locate(PELZAUNE_RFC3339, TEXT("2021-02-30T03:04:05Z"), &p) == PELZAUNE_OK);
     EXPECT(pelzaune_locate(PELZAUNE_RFC2822, TEXT("Sat, 02 Jan 2021 03:04:05 +0607"), &p) == PELZAUNE_OK);
     EXPECT(pelzaune_locate(PELZAUNE_ISO8601, TEXT("2021-01-02"), &p) == PELZAUNE_OK);
-    EXPECT(pelzaune_locate(4, TEXT("2021-13-02"), &p) == PELZAUNE_UNKNOWN_FORMAT && p.index == 77 && p.byte == 7);
+    EXPECT(pelzaune_locate(5, TEXT("2021-13-02"), &p) == PELZAUNE_UNKNOWN_FORMAT && p.index == 77 && p.byte == 7);
     /* 20:21 at the offset -13, after which "-02" remains. */
     EXPECT(pelzaune_locate(PELZAUNE_ISO8601, TEXT("2021-13-02"), &p) == PELZAUNE_TRAILING && p.index == 7 && p.byte == 0);
     EXPECT(pelzaune_locate(PELZAUNE_RFC3339, TEXT("2021-13-02T03:04:05Z"), &p) == PELZAUNE_INVALID_COMPONENT + 256 * 2 && p.index == 5 && p.byte == 0);
@@ -253,7 +299,7 @@ static int refuses_no_bytes(uint32_t format, const uint8_t *text)
 
 static void test_no_bytes(void)
 {
-    for (uint32_t format = 0; format <= 4; format++) {
+    for (uint32_t format = 0; format <= 5; format++) {
         EXPECT(refuses_no_bytes(format, page + PAGE));
         EXPECT(refuses_no_bytes(format, NULL));
     }
@@ -273,7 +319,7 @@ static void test_made_texts(void)
             text[length] = letters[(seed >> 33) % (sizeof letters - 1)];
         }
         seed = seed * UINT64_C(6364136223846793005) + 1442695040888963407;
-        uint32_t format = 1 + (uint32_t)round % 3;
+        uint32_t format = 1 + (uint32_t)round % 4;
         pelzaune_moment m = { 7, 7, 7, 7, 7, 7, 7, 7 };
         pelzaune_time t = { 7, 7, 7, 7 };
         if (pelzaune_parse_moment(format, at_end(text, length), length, &m)) right &= m.year == 7 && m.second == 7;
@@ -337,6 +383,7 @@ int main(void)
     test_rows();
     test_parts();
     test_refusals();
+    test_separators();
     test_descriptions();
     test_faults();
     test_places();

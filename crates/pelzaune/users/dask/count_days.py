@@ -2,8 +2,8 @@
 
     count_days.py FILE..
 
-Each line starts with a text of RFC 3339 and a space. Prints each day, in UTC, with its count, and then how many lines have
-no time.
+Each line starts with a text of RFC 3339, with T or t between date and time, and a space. Prints each day, in UTC, with its
+count, and then how many lines have no time.
 """
 import datetime
 import sys

@@ -2,7 +2,7 @@
 
     parse_times.py COLUMN FILE.csv..
 
-The times are those of RFC 3339, in UTC. A rejected text becomes NaT.
+The times are those of RFC 3339, with T, t or a space between date and time, in UTC. A rejected text becomes NaT.
 """
 import sys
 

@@ -72,7 +72,7 @@ class Cluster(unittest.TestCase):
             self.assertEqual([it in program.read() for it in quoted], [True])
 
     def test_days(self):
-        self.assertEqual(days(["1970-01-02T00:00:00Z a", "1969-12-31T23:59:59.9Z\n", "x\n"]), [1, -1, None])
+        self.assertEqual(days(["1970-01-02T00:00:00Z a", "1969-12-31T23:59:59.9Z\n", "1970-01-02_00:00:00Z a", "x\n"]), [1, -1, None, None])
         self.assertEqual(pelzaune.NO_COUNT, -(2**63))
 
 

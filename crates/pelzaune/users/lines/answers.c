@@ -2,9 +2,9 @@
  *
  *     answers moments|nanoseconds
  *
- * `moments` prints what time_lines does. `nanoseconds` prints the nanoseconds from 1970-01-01T00:00:00Z, or an equal
- * error, and `too wide` for an instant that doesn't fit 64 bits. It also checks that they agree with the moment and
- * with a column. */
+ * `moments` prints what time_lines does. `nanoseconds` prints what Python and JavaScript compute, for which rfc3339 is
+ * the strict format: the nanoseconds from 1970-01-01T00:00:00Z, or the error, and `too wide` for an instant that doesn't
+ * fit 64 bits. It also checks that they agree with the moment and with a column. */
 #define _POSIX_C_SOURCE 200809L
 #include "pelzaune.h"
 #include <inttypes.h>
@@ -62,6 +62,7 @@ int main(int argc, char **argv)
         uint32_t format = 0;
         for (uint32_t k = 0; k < 3; k++)
             if (strncmp(line, names[k], 7) == 0) format = k + 1;
+        if (!is_moments && format == PELZAUNE_RFC3339) format = PELZAUNE_RFC3339_STRICT;
         const uint8_t *text = (const uint8_t *)line + strlen("rfc3339\tdatetime\t");
         size_t length = (size_t)size - strlen("rfc3339\tdatetime\t") - 1;
         pelzaune_moment m;

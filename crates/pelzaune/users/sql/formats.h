@@ -2,7 +2,7 @@
  * texts.
  *
  * A format is 'rfc3339', 'rfc2822' or 'iso8601', in any case, or a description: one with a % is of strftime, and any
- * other is in brackets. */
+ * other is in brackets. 'rfc3339' accepts T, t or a space between date and time. */
 #ifndef PELZAUNE_SQL_FORMATS_H
 #define PELZAUNE_SQL_FORMATS_H
 
@@ -40,7 +40,7 @@ static inline int is_called(bytes it, const char *word)
 static inline uint32_t number_of_format(bytes name)
 {
     static const struct { const char *name; uint32_t number; } formats[] = {
-        { "rfc3339", PELZAUNE_RFC3339 }, { "rfc2822", PELZAUNE_RFC2822 }, { "iso8601", PELZAUNE_ISO8601 } };
+        { "rfc3339", PELZAUNE_RFC3339_STRICT }, { "rfc2822", PELZAUNE_RFC2822 }, { "iso8601", PELZAUNE_ISO8601 } };
     for (size_t k = 0; k < sizeof formats / sizeof *formats; k++)
         if (is_called(name, formats[k].name)) return formats[k].number;
     return 0;

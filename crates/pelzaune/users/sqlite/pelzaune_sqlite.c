@@ -12,7 +12,8 @@
  * calendar has no such date.
  *
  * A format is 'rfc3339', the default, 'rfc2822' or 'iso8601', in any case, or a description: one with a % is of strftime,
- * and any other is in brackets. A malformed description is an error, and so is a text above 1 MiB.
+ * and any other is in brackets. 'rfc3339' accepts T, t or a space between date and time. A malformed description is an
+ * error, and so is a text above 1 MiB.
  *
  *     .load ./pelzaune_sqlite */
 #include <sqlite3ext.h>
@@ -80,7 +81,7 @@ static int take_format(sqlite3_context *context, sqlite3_value *value, form *for
 /* Gets the arguments. Returns 0 if there is nothing to parse. */
 static int ask(sqlite3_context *context, int count, sqlite3_value **values, question *asked)
 {
-    asked->format.number = PELZAUNE_RFC3339;
+    asked->format.number = PELZAUNE_RFC3339_STRICT;
     for (int k = 0; k < count; k++)
         if (sqlite3_value_type(values[k]) == SQLITE_NULL) return 0;
     if (count > 1 && !take_format(context, values[1], &asked->format)) return 0;

@@ -12,6 +12,8 @@ SELECT json_extract(pelzaune_place('2021-02-30', '%Y-%m-%d'), '$.index'), json_e
 SELECT pelzaune_place('', '"'), json_extract(pelzaune_place('x', '"'), '$.expectation');
 SELECT json_extract(pelzaune_place('x', char(10)), '$.expectation'), pelzaune_place('2021-01-02', '%Y-%m-%d'), pelzaune_place('12:34', '%H:%M');
 SELECT json_extract(pelzaune_place('2021-01-02T03:04:05Zx', 'rfc3339'), '$.expectation');
+SELECT pelzaune_unix('1985-04-12t23:20:50Z'), pelzaune_unix('1985-04-12 23:20:50Z', 'RFC3339'), pelzaune_unix('1985-04-12923:20:50Z'), pelzaune_unix('1985-04-12_23:20:50Z', 'rfc3339');
+SELECT pelzaune_place('1985-04-12923:20:50Z'), json_extract(pelzaune_place('1985-13-12923:20:50Z', 'rfc3339'), '$.index');
 SELECT pelzaune_unix_ns('1970-01-02T00:00:00.000000001Z'), pelzaune_unix_ns('1969-12-31T23:59:59.999999999Z', 'RFC3339'), typeof(pelzaune_unix_ns('1970-01-02T00:00:00Z'));
 SELECT pelzaune_unix_ns('2262-04-11T23:47:16.854775807Z'), pelzaune_unix_ns('2262-04-11T23:47:16.854775808Z'), pelzaune_unix_ns('x'), pelzaune_unix_ns(NULL);
 SELECT pelzaune_date('2020-W53-6', 'iso8601'), pelzaune_date('12.04.1985', '%d.%m.%Y'), pelzaune_date('2021-02-30', '%Y-%m-%d'), date(pelzaune_date('2020-366', 'iso8601'), '+1 day');

@@ -10,8 +10,8 @@ ghost use Rattle.time_values.specs.Calendar.{greatest_year};
 ghost use Rattle.time_values.specs.Refusal.{Constructs};
 ghost use Rattle.time_digits.specs.Digits.{Cut};
 ghost use Rattle.time_readers.specs.Direct.{HasDate, IsMade, RefusesRfc3339, date_refusal};
-ghost use Rattle.time_readers.specs.Readers.{Stand};
-ghost use Rattle.time_readers.specs.Rfc3339.{Asks, offset_places};
+ghost use Rattle.time_readers.specs.Readers.{MatchesPlaces};
+ghost use Rattle.time_readers.specs.Rfc3339.{PlaceSyntax, offset_places};
 ghost use Rattle.time_readers.specs.declared.rfc3339.Place.TheVariants as place;
 ghost use Rattle.time_parsing.specs.Outcome.{direct};
 ghost use Rattle.time_parsing.specs.Rfc3339.{Reads, Refuses};
@@ -19,7 +19,7 @@ ghost use Rattle.pelzaune_ffi.specs.Results.{of_moment};
 
 use std::num::NonZero;
 use time_readers::combinator::fraction;
-use time_readers::direct::{Said, said_rfc3339};
+use time_readers::direct::{MomentNumbers, rfc3339_numbers};
 use time_readers::rfc3339::Numbers;
 use time_readers::rfc3339::fast::to_second;
 use time_values::{Date, Month, OffsetDateTime, Time, UtcOffset};
@@ -28,7 +28,7 @@ use time_values::{Date, Month, OffsetDateTime, Time, UtcOffset};
 #[inline(always)]
 fn subsecond(numbers: Numbers, rest: &[u8]) -> Option<(Numbers, &[u8])>
     requires { numbers.subsecond ≡ None }
-    ensures { IfSome result (λ found. Cut (Asks false place.Subsecond numbers) rest.now found.1.now found.0) }
+    ensures { IfSome result (λ found. Cut (PlaceSyntax false place.Subsecond numbers) rest.now found.1.now found.0) }
 {
     let [b'.', digits @ ..] = rest else {
         return Some((numbers, rest));
@@ -47,7 +47,7 @@ fn offset(numbers: Numbers, rest: &[u8]) -> Option<Numbers>
     requires utc { numbers.is_utc ≡ false }
     requires hour { numbers.offset_hour ≡ 0 }
     requires minute { numbers.offset_minute ≡ 0 }
-    ensures matches { IfSome result (λ found. Stand (Asks false) offset_places numbers rest.now [] found) }
+    ensures matches { IfSome result (λ found. MatchesPlaces (PlaceSyntax false) offset_places numbers rest.now [] found) }
     ensures second { IfSome result (λ found. found.second ≡ numbers.second) }
     ensures hour { IfSome result (λ found. found.offset_hour ≤ 23) }
     ensures minute { IfSome result (λ found. found.offset_minute ≤ 59) }
@@ -83,7 +83,7 @@ fn offset(numbers: Numbers, rest: &[u8]) -> Option<Numbers>
 
 // The offset with these numbers. That of UTC is a constant. `None`: a number is out of range.
 #[inline(always)]
-fn offset_of(parts: Said) -> Option<UtcOffset>
+fn offset_of(parts: MomentNumbers) -> Option<UtcOffset>
     ensures { IfSome result (λ o. Constructs (offset_refusal parts.offset_hour parts.offset_minute (pos 0))
         (HasOffset parts.offset_hour parts.offset_minute (pos 0)) (Ok o)) }
 {
@@ -96,7 +96,7 @@ fn offset_of(parts: Said) -> Option<UtcOffset>
 // The date with these numbers. `None`: a number is out of range.
 #[inline(always)]
 #[tactic(auto, using(crate::proofs::IsoInPlace::date_of))]
-fn date_of(parts: Said) -> Option<Date>
+fn date_of(parts: MomentNumbers) -> Option<Date>
     ensures { IfSome result (λ d. Constructs (date_refusal greatest_year parts) (HasDate parts) (Ok d)) }
 {
     let number = NonZero::<u8>::new(parts.month)?;
@@ -108,7 +108,7 @@ fn date_of(parts: Said) -> Option<Date>
 
 // The moment with these numbers, whose second isn't 60. `None`: a number is out of range.
 #[inline(always)]
-fn moment_from(parts: Said) -> Option<OffsetDateTime>
+fn moment_from(parts: MomentNumbers) -> Option<OffsetDateTime>
     requires { parts.second < 60 }
     ensures { IfSome result (λ v. IsMade greatest_year parts v) }
 {
@@ -134,5 +134,5 @@ pub(super) fn moment(text: &[u8]) -> Option<OffsetDateTime>
     let mut numbers = Numbers::NONE;
     let rest = to_second::<false>(text, &mut numbers)?;
     let (numbers, rest) = subsecond(numbers, rest)?;
-    moment_from(said_rfc3339(offset(numbers, rest)?))
+    moment_from(rfc3339_numbers(offset(numbers, rest)?))
 }

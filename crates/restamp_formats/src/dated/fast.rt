@@ -34,7 +34,7 @@ fn parse_8601<'a>(text: &'a [u8], parsed: &mut Parsed) -> Option<&'a [u8]>
 // Parses a text by a description or by ISO 8601 into a record.
 #[inline(always)]
 fn parse<'a>(reading: &Reading, text: &'a [u8], parsed: &mut Parsed) -> Option<&'a [u8]>
-    ensures { IfSome result (λ rest. ReadsRecord greatest_year reading.now text.now parsed.old rest.now parsed.new) }
+    ensures { IfSome result (λ rest. ReadsRecord reading.now text.now parsed.old rest.now parsed.new) }
 {
     match reading {
         Reading::Described(described) => described.parse_into(text, parsed).ok(),
@@ -66,7 +66,7 @@ fn read_on(
 ) -> Option<Match>
     requires clocks { defaults.now.clocks ≡ Some clocks }
     requires offset { defaults.now.offset ≡ None }
-    ensures said { IfSome result (λ said. ParsesLocally greatest_year reading.now is_prefix text.now defaults.now (Ok said)) }
+    ensures said { IfSome result (λ said. ParsesLocally reading.now is_prefix text.now defaults.now (Ok said)) }
     ensures within { IfSome result (λ said. said.start + said.length ≤ length text.now) }
 {
     let mut parsed = Parsed::new();
@@ -94,7 +94,7 @@ pub(super) fn read_once(
     text: &[u8],
     defaults: &Defaults<'_>,
 ) -> Option<Match>
-    ensures said { IfSome result (λ said. ParsesLocally greatest_year reading.now is_prefix text.now defaults.now (Ok said)) }
+    ensures said { IfSome result (λ said. ParsesLocally reading.now is_prefix text.now defaults.now (Ok said)) }
     ensures within { IfSome result (λ said. said.start + said.length ≤ length text.now) }
 {
     let (Some(clocks), None) = (defaults.clocks, defaults.offset) else {

@@ -1,10 +1,10 @@
 //! Parses a prefix by RFC 3339 without a record.
 ghost use Rattle.std.specs.Prelude.{◌≤◌, ◌+◌};
-ghost use Rattle.restamp_formats.specs.Common.{length, IfSome, Ok, greatest_year};
+ghost use Rattle.restamp_formats.specs.Common.{length, IfSome, Ok};
 ghost use Rattle.restamp_formats.specs.Reading as spec;
 
 use crate::reading::Match;
-use time_parsing::{Parsable, Rfc3339};
+use time_parsing::{Parsable, Rfc3339Strict};
 
 // How many bytes a moment has before its fraction.
 const SECOND: usize = 19;
@@ -48,11 +48,11 @@ fn moment_end(text: &[u8]) -> Option<usize>
 #[tactic(auto, using(crate::proofs::FrontLemmas::front_said))]
 #[inline(always)]
 pub(super) fn front_3339(text: &[u8]) -> Option<Match>
-    ensures said { IfSome result (λ said. spec.IsReadInFront greatest_year text.now (Ok said)) }
+    ensures said { IfSome result (λ said. spec.IsReadInFront text.now (Ok said)) }
     ensures within { IfSome result (λ said. said.start + said.length ≤ length text.now) }
 {
     let end = moment_end(text)?;
-    let Ok(moment) = Rfc3339.parse_offset_date_time(&text[..end], None) else {
+    let Ok(moment) = Rfc3339Strict.parse_offset_date_time(&text[..end], None) else {
         return None;
     };
     Some(Match {

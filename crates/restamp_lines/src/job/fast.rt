@@ -1,6 +1,5 @@
 //! Parses a timestamp without the reason of an error.
 ghost use Rattle.std.specs.Prelude.{◌≡◌, ◌+◌, ◌≤◌, length, Ok, IfSome};
-ghost use Rattle.time_values.specs.Calendar.{greatest_year};
 ghost use Rattle.restamp_formats.specs.Reading.{ParsesAs};
 
 use restamp_formats::{Brief, Defaults, Match, Reading};
@@ -14,7 +13,7 @@ pub(super) fn parse(
     text: &[u8],
     defaults: &Defaults<'_>,
 ) -> Option<Match>
-    ensures said { IfSome result (λ said. ParsesAs greatest_year reading.now is_prefix text.now defaults.now (Ok said)) }
+    ensures said { IfSome result (λ said. ParsesAs reading.now is_prefix text.now defaults.now (Ok said)) }
     ensures within { IfSome result (λ said. said.start + said.length ≤ length text.now) }
 {
     if defaults.tries_more() {

@@ -6,7 +6,7 @@ ghost use Rattle.std.specs.Prelude.{◌≡◌, IfSome, take, true};
 ghost use Rattle.std.specs.Int.NonZero.{non_zero_u16_get};
 ghost use Rattle.time_digits.specs.Digits.{Cut};
 ghost use Rattle.time_values.specs.Names as Names;
-ghost use Rattle.time_components.specs.Spelling.{period_name, IsFractionRun, IsNameOf, IsPositiveRun, IsShortOf, Says, SaysOffsetHour, SaysYear, flagged, least_digits, month, most_digits, number, signed, weekday};
+ghost use Rattle.time_components.specs.Spelling.{period_name, IsFractionRun, IsNameOf, IsPositiveRun, IsShortOf, HasMappedValue, SpellsOffsetHour, SpellsYear, flagged, least_digits, month, most_digits, number, signed, weekday};
 ghost use Rattle.time_components.specs.Spelling as Spelling;
 
 use crate::combinator::{exactly_n_digits, sign, two_digits};
@@ -22,7 +22,7 @@ pub fn year<const MOST: u8>(
     padding: Padding,
     sign_is_mandatory: bool,
 ) -> Option<ParsedItem<'_, i32>>
-    ensures { IfSome result (λ found. Cut (SaysYear sign_is_mandatory padding MOST)
+    ensures { IfSome result (λ found. Cut (SpellsYear sign_is_mandatory padding MOST)
         input.now found.0.now (signed found.1)) }
 {
     if sign_is_mandatory {
@@ -35,7 +35,7 @@ pub fn year<const MOST: u8>(
 /// Parses a day of the year of three digits. Returns `None` for another form.
 #[inline(always)]
 pub fn ordinal(input: &[u8], padding: Padding) -> Option<ParsedItem<'_, NonZero<u16>>>
-    ensures { IfSome result (λ found. Cut (Says number (IsPositiveRun padding 3))
+    ensures { IfSome result (λ found. Cut (HasMappedValue number (IsPositiveRun padding 3))
         input.now found.0.now (number (non_zero_u16_get found.1))) }
 {
     let ordinal = exactly_n_digits::<3>(input)?;
@@ -50,7 +50,7 @@ pub fn offset_hour(
     padding: Padding,
     sign_is_mandatory: bool,
 ) -> Option<ParsedItem<'_, (i8, bool)>>
-    ensures { IfSome result (λ found. Cut (SaysOffsetHour sign_is_mandatory padding)
+    ensures { IfSome result (λ found. Cut (SpellsOffsetHour sign_is_mandatory padding)
         input.now found.0.now (flagged found.1.0 found.1.1)) }
 {
     let sign = sign(input)?;
@@ -61,7 +61,7 @@ pub fn offset_hour(
 /// Parses a fraction of up to nine digits, if any number of digits is allowed. Returns `None` for another form.
 #[inline(always)]
 pub fn subsecond(input: &[u8], digits: SubsecondDigits) -> Option<ParsedItem<'_, u32>>
-    ensures { IfSome result (λ found. Cut (Says number (IsFractionRun (least_digits digits) (most_digits digits)))
+    ensures { IfSome result (λ found. Cut (HasMappedValue number (IsFractionRun (least_digits digits) (most_digits digits)))
         input.now found.0.now (number found.1)) }
 {
     match digits {
@@ -73,7 +73,7 @@ pub fn subsecond(input: &[u8], digits: SubsecondDigits) -> Option<ParsedItem<'_,
 // Parses a fraction of one to nine digits, in nanoseconds.
 #[inline(always)]
 fn short_fraction(input: &[u8]) -> Option<ParsedItem<'_, u32>>
-    ensures { IfSome result (λ found. Cut (Says number (IsFractionRun 1 32))
+    ensures { IfSome result (λ found. Cut (HasMappedValue number (IsFractionRun 1 32))
         input.now found.0.now (number found.1)) }
 {
     let mut nanoseconds = 0;
@@ -97,7 +97,7 @@ fn short_fraction(input: &[u8]) -> Option<ParsedItem<'_, u32>>
 // Parses the first three letters of a month's name, a capital and two small ones. Returns `None` for another form.
 #[inline(always)]
 pub(super) fn month_short(input: &[u8], case_sensitive: bool) -> Option<ParsedItem<'_, Month>>
-    ensures { IfSome result (λ found. Cut (Says month (IsShortOf case_sensitive Names.month_name))
+    ensures { IfSome result (λ found. Cut (HasMappedValue month (IsShortOf case_sensitive Names.month_name))
         input.now found.0.now (month found.1)) }
 {
     let [first, second, third, rest @ ..] = input else {
@@ -110,7 +110,7 @@ pub(super) fn month_short(input: &[u8], case_sensitive: bool) -> Option<ParsedIt
 // Parses the first three letters of a weekday's name, a capital and two small ones. Returns `None` for another form.
 #[inline(always)]
 pub(super) fn weekday_short(input: &[u8], case_sensitive: bool) -> Option<ParsedItem<'_, Weekday>>
-    ensures { IfSome result (λ found. Cut (Says weekday (IsShortOf case_sensitive Names.weekday_name))
+    ensures { IfSome result (λ found. Cut (HasMappedValue weekday (IsShortOf case_sensitive Names.weekday_name))
         input.now found.0.now (weekday found.1)) }
 {
     let [first, second, third, rest @ ..] = input else {
@@ -162,7 +162,7 @@ pub fn weekday_name(letters: [u8; 3]) -> Option<Weekday>
 // Parses `AM` or `PM`, if the modifiers accept capitals. Returns `None` for another form.
 #[inline(always)]
 pub(super) fn period(input: &[u8], modifiers: modifier::Period) -> Option<ParsedItem<'_, Period>>
-    ensures { IfSome result (λ found. Cut (Says Spelling.period (IsNameOf modifiers.case_sensitive (period_name modifiers.is_uppercase)))
+    ensures { IfSome result (λ found. Cut (HasMappedValue Spelling.period (IsNameOf modifiers.case_sensitive (period_name modifiers.is_uppercase)))
         input.now found.0.now (Spelling.period found.1)) }
 {
     match capitals(input) {

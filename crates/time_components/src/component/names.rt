@@ -2,7 +2,7 @@
 ghost use Rattle.std.specs.Prelude.{◌≡◌, ◌↔◌, drop, IsTrue, ◌≢◌, ◌≤◌, MatchOption};
 ghost use Rattle.time_digits.specs.Digits.{Finds};
 ghost use Rattle.time_values.specs.Names.{month_name, weekday_name};
-ghost use Rattle.time_components.specs.Spelling.{IsNamed, IsShortOf, Says, month, weekday, IsNameOf, period_name};
+ghost use Rattle.time_components.specs.Spelling.{IsNamed, IsShortOf, HasMappedValue, month, weekday, IsNameOf, period_name};
 ghost use Rattle.time_components.specs.ShortNames as ShortNames;
 ghost use Rattle.time_components.specs.ShortNames.{IsTitleCase, IsWithLetters, IsEnding, IsDayDigit, IsLetters};
 ghost use Rattle.time_components.specs.Spelling as Spelling;
@@ -13,7 +13,7 @@ use time_values::{Month, Weekday, names};
 // Parses the first three letters of a month's name.
 #[inline(always)]
 pub(super) fn month_short(input: &[u8], case_sensitive: bool) -> Option<ParsedItem<'_, Month>>
-    ensures { Finds (Says month (IsShortOf case_sensitive month_name)) month input.now result }
+    ensures { Finds (HasMappedValue month (IsShortOf case_sensitive month_name)) month input.now result }
 {
     let letters = three_letters(input, case_sensitive)?;
     let month = month_of(letters.1)?;
@@ -23,7 +23,7 @@ pub(super) fn month_short(input: &[u8], case_sensitive: bool) -> Option<ParsedIt
 // Parses the first three letters of a weekday's name.
 #[inline(always)]
 pub(super) fn weekday_short(input: &[u8], case_sensitive: bool) -> Option<ParsedItem<'_, Weekday>>
-    ensures { Finds (Says weekday (IsShortOf case_sensitive weekday_name)) weekday input.now result }
+    ensures { Finds (HasMappedValue weekday (IsShortOf case_sensitive weekday_name)) weekday input.now result }
 {
     let letters = three_letters(input, case_sensitive)?;
     let weekday = weekday_of(letters.1)?;
@@ -190,7 +190,7 @@ fn folded(letters: [u8; 2], case_sensitive: bool) -> [u8; 2]
 // Parses the half of the day.
 #[inline(always)]
 pub(super) fn period(input: &[u8], modifiers: modifier::Period) -> Option<ParsedItem<'_, Period>>
-    ensures { Finds (Says Spelling.period (IsNameOf modifiers.case_sensitive (period_name modifiers.is_uppercase)))
+    ensures { Finds (HasMappedValue Spelling.period (IsNameOf modifiers.case_sensitive (period_name modifiers.is_uppercase)))
         Spelling.period input.now result }
 {
     let modifier::Period {

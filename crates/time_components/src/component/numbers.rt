@@ -3,7 +3,7 @@ ghost use Rattle.std.specs.Prelude.{◌≡◌, ◌+◌, ◌*◌, ◌^◌, ◌<�
 ghost use Rattle.time_values.specs.Sign.{signed_by};
 ghost use Rattle.time_digits.specs.Digits.{is_negative, Finds, NoCut, IsDigitRun, IsPaddedRun};
 ghost use Rattle.time_digits.specs.declared.Padding.TheVariants.{Space};
-ghost use Rattle.time_components.specs.Spelling.{IsPositiveRun, Says, SaysYear, SaysCentury, SaysTimestamp, SaysOffsetHour, IsSigned, number, signed, flagged, positive, IsFractionRun};
+ghost use Rattle.time_components.specs.Spelling.{IsPositiveRun, HasMappedValue, SpellsYear, SpellsCentury, SpellsTimestamp, SpellsOffsetHour, IsSigned, number, signed, flagged, positive, IsFractionRun};
 
 use crate::combinator::{
     self, exactly_n_digits, leading_digits, n_to_m_digits, n_to_m_digits_padded, one_or_two_digits,
@@ -62,7 +62,7 @@ fn spaced_digit(input: &[u8]) -> Option<ParsedItem<'_, u8>>
 // Parses a number in two places.
 #[inline(always)]
 pub(super) fn two_places(input: &[u8], padding: Padding) -> Option<ParsedItem<'_, u8>>
-    ensures { Finds (Says number (IsPaddedRun padding 2 2)) number input.now result }
+    ensures { Finds (HasMappedValue number (IsPaddedRun padding 2 2)) number input.now result }
 {
     two_digits(input, padding)
 }
@@ -70,7 +70,7 @@ pub(super) fn two_places(input: &[u8], padding: Padding) -> Option<ParsedItem<'_
 // Parses a day of the year in three places, 1 to 999.
 #[inline]
 pub(super) fn ordinal(input: &[u8], padding: Padding) -> Option<ParsedItem<'_, NonZero<u16>>>
-    ensures { Finds (Says number (IsPositiveRun padding 3)) (λ n. number n.value) input.now result }
+    ensures { Finds (HasMappedValue number (IsPositiveRun padding 3)) (λ n. number n.value) input.now result }
 {
     let ordinal = run::<3, 3, u16>(input, padding)?;
     Some(ParsedItem(ordinal.0, NonZero::<u16>::new(ordinal.1)?))
@@ -119,7 +119,7 @@ pub(super) fn full_year<const MOST: u8>(
 ) -> Option<ParsedItem<'_, i32>>
     requires least { 4 ≤ MOST }
     requires most { MOST ≤ 6 }
-    ensures { Finds (SaysYear sign_is_mandatory padding MOST) signed input.now result }
+    ensures { Finds (SpellsYear sign_is_mandatory padding MOST) signed input.now result }
 {
     let found = sign_and_run::<4, MOST, 4, 4, u32>(input, sign_is_mandatory, padding, padding)?;
     Some(ParsedItem(found.0, signed_year(found.1.0, found.1.1)))
@@ -135,7 +135,7 @@ pub(super) fn century<const MOST: u8>(
 ) -> Option<ParsedItem<'_, (i16, bool)>>
     requires least { 2 ≤ MOST }
     requires most { MOST ≤ 4 }
-    ensures { Finds (SaysCentury sign_is_mandatory padding MOST) (λ v. flagged v.0 v.1) input.now result }
+    ensures { Finds (SpellsCentury sign_is_mandatory padding MOST) (λ v. flagged v.0 v.1) input.now result }
 {
     let found = sign_and_run::<2, MOST, 1, 2, u16>(
         input,
@@ -157,7 +157,7 @@ pub(super) fn timestamp<const MOST: u8>(
     requires least { 1 ≤ MOST }
     requires most { MOST ≤ 23 }
     requires fits { 10 ^ MOST * unit ≤ 10 ^ 23 }
-    ensures { Finds (SaysTimestamp unit sign_is_mandatory MOST) signed input.now result }
+    ensures { Finds (SpellsTimestamp unit sign_is_mandatory MOST) signed input.now result }
 {
     let found = sign_and_run::<1, MOST, 1, MOST, u128>(
         input,
@@ -176,7 +176,7 @@ pub(super) fn offset_hour(
     padding: Padding,
     sign_is_mandatory: bool,
 ) -> Option<ParsedItem<'_, (i8, bool)>>
-    ensures { Finds (SaysOffsetHour sign_is_mandatory padding) (λ v. flagged v.0 v.1) input.now result }
+    ensures { Finds (SpellsOffsetHour sign_is_mandatory padding) (λ v. flagged v.0 v.1) input.now result }
 {
     let found = sign_and_run::<2, 2, 2, 2, u8>(input, sign_is_mandatory, padding, padding)?;
     Some(ParsedItem(found.0, signed_hour(found.1.0, found.1.1)))
@@ -185,7 +185,7 @@ pub(super) fn offset_hour(
 // Parses the minutes or the seconds of an offset, which have no sign.
 #[inline]
 pub(super) fn offset_part(input: &[u8], padding: Padding) -> Option<ParsedItem<'_, i8>>
-    ensures { Finds (Says positive (IsPaddedRun padding 2 2)) signed input.now result }
+    ensures { Finds (HasMappedValue positive (IsPaddedRun padding 2 2)) signed input.now result }
 {
     let part = two_digits(input, padding)?;
     Some(ParsedItem(part.0, part.1 as i8))
@@ -236,7 +236,7 @@ fn signed_nanoseconds(sign: Sign, nanoseconds: u128) -> i128
 pub(super) fn fraction<const N: u8>(input: &[u8]) -> Option<ParsedItem<'_, u32>>
     requires least { 1 ≤ N }
     requires most { N ≤ 9 }
-    ensures { Finds (Says number (IsFractionRun N N)) number input.now result }
+    ensures { Finds (HasMappedValue number (IsFractionRun N N)) number input.now result }
 {
     let digits = exactly_n_digits::<N>(input)?;
     Some(ParsedItem(digits.0, digits.1 * power_of_ten(9 - usize::from(N))))
@@ -245,7 +245,7 @@ pub(super) fn fraction<const N: u8>(input: &[u8]) -> Option<ParsedItem<'_, u32>>
 // Parses a fraction of 1 to 32 digits, in nanoseconds. The first nine digits count.
 #[inline]
 pub(super) fn long_fraction(input: &[u8]) -> Option<ParsedItem<'_, u32>>
-    ensures { Finds (Says number (IsFractionRun 1 32)) number input.now result }
+    ensures { Finds (HasMappedValue number (IsFractionRun 1 32)) number input.now result }
 {
     let digits = n_to_m_digits::<1, 9, u32>(input)?;
     let count = input.len() - digits.0.len();

@@ -2,7 +2,6 @@
 //!
 //! `request` returns what `split_request` does for the lines that it splits. `None`: not this form.
 ghost use Rattle.std.specs.Prelude.{◌≡◌, ℕ, List, ◌++◌, IfSome};
-ghost use Rattle.time_values.specs.Calendar.{greatest_year};
 ghost use Rattle.programs_answers.specs.Formats as formats;
 ghost use Rattle.programs_answers.specs.Output.{IsParsed};
 ghost use Rattle.time_lines.specs.Pieces.{StartsWithName};
@@ -63,8 +62,8 @@ fn target(bytes: &[u8]) -> Option<(Target, &[u8])>
 #[inline(always)]
 pub(super) fn request(line: &[u8]) -> Option<(Format, Target, &[u8])>
     ensures { IfSome result
-        (λ request. (answer : List ℕ) → IsParsed greatest_year request.0 request.1 request.2.now answer
-        → IsAnswer greatest_year line.now answer) }
+        (λ request. (answer : List ℕ) → IsParsed request.0 request.1 request.2.now answer
+        → IsAnswer line.now answer) }
 {
     let (format, rest) = format(line)?;
     let (target, text) = target(rest)?;

@@ -1,7 +1,6 @@
 //! Where the components of an ISO 8601 text begin.
 ghost use Rattle.std.specs.Prelude.{◌≡◌, map};
 ghost use Rattle.std.specs.Option.{option_copied};
-ghost use Rattle.time_values.specs.Calendar.{greatest_year};
 ghost use Rattle.time_readers.specs.IsoTimes.{time_text};
 ghost use Rattle.time_record.specs.Record.{Record};
 ghost use Rattle.time_locating.specs.IsoMarks as spec;
@@ -14,7 +13,7 @@ use time_readers::iso8601::{ExtendedKind, date, time};
 
 // Whether a component of this name is expected.
 fn expects(expected: Expected<'_>, name: &str) -> bool
-    ensures { result ≡ spec.wants_name name.now (wants expected.entry) }
+    ensures { result ≡ spec.expects_name name.now (wants expected.entry) }
 {
     match expected {
         Expected::Component(own) => name == own,
@@ -127,7 +126,7 @@ fn mark_without_date(left: usize, input: &[u8], name: &str) -> Option<usize>
 
 /// How many bytes are left at the start of the component of this name, in a text that leaves `left` bytes unread.
 pub(crate) fn text_mark(left: usize, input: &[u8], name: &str) -> Option<usize>
-    ensures { (r : Record) → result ≡ spec.text_mark greatest_year name.now left input.now r }
+    ensures { (r : Record) → result ≡ spec.text_mark name.now left input.now r }
 {
     let Ok(date) = date(input) else {
         return mark_without_date(left, input, name);

@@ -14,7 +14,7 @@ use time_readers::iso8601::{day, dayk, dayo, float, hour, month, round_fraction,
 
 // What a piece expects.
 pub(crate) fn expected_at(piece: Piece) -> Expected<'static>
-    ensures { wants result ≡ spec.wanted_at piece }
+    ensures { wants result ≡ spec.expected_at piece }
 {
     match piece {
         Piece::Year => Expected::Component("year"),

@@ -4,7 +4,7 @@ ghost use Rattle.time_values.specs.Calendar.{greatest_year};
 ghost use Rattle.time_components.specs.Tree as steps_;
 ghost use Rattle.time_components.specs.Tree.{group_tree, steps_shape, steps_trees, Tree, first_of, more, none};
 ghost use Rattle.time_record.specs.WalkSteps.{Attempts};
-ghost use Rattle.time_locating.specs.Located.{seen_miss};
+ghost use Rattle.time_locating.specs.Located.{erased_miss};
 ghost use Rattle.time_locating.specs.Marks.{MarksTree};
 ghost use Rattle.time_locating.specs.Misses.{IsFurthest, Misses, MissesFirst, first_byte, furthest, literal_misses};
 ghost use Rattle.time_locating.specs.StepRows.{IsSplit};
@@ -13,7 +13,7 @@ use super::{Walked, read_component};
 use crate::Expected;
 use crate::mark::{Miss, further, missed_at};
 use std::slice;
-use time_components::{Group, Step, steps_after};
+use time_components::{Group, Step, item_len};
 use time_record::Parsed;
 
 /// Reads the steps as a list at the front of the input, and returns what `walk` returns for an item.
@@ -25,9 +25,9 @@ pub(crate) fn walk_list<'a, 'd>(
     name: &str,
 ) -> Walked<'a, 'd>
     ensures reads { Attempts greatest_year (steps_shape steps.now) input.now parsed.old result.rest parsed.new }
-    ensures misses { IsFurthest (Misses greatest_year first_byte (steps_shape steps.now) input.now parsed.old)
-        (seen_miss result.missed) }
-    ensures marks { MarksTree greatest_year (steps_shape steps.now) name.now input.now parsed.old result.mark }
+    ensures misses { IsFurthest (Misses first_byte (steps_shape steps.now) input.now parsed.old)
+        (erased_miss result.missed) }
+    ensures marks { MarksTree (steps_shape steps.now) name.now input.now parsed.old result.mark }
 {
     let before = *parsed;
     let mut left = steps;
@@ -67,9 +67,9 @@ fn walk_first<'a, 'd>(
     name: &str,
 ) -> Walked<'a, 'd>
     ensures reads { Attempts greatest_year (first_of (steps_trees steps.now)) input.now parsed.old result.rest parsed.new }
-    ensures misses { IsFurthest (MissesFirst greatest_year first_byte (steps_trees steps.now) input.now parsed.old)
-        (seen_miss result.missed) }
-    ensures marks { MarksTree greatest_year (first_of (steps_trees steps.now)) name.now input.now parsed.old result.mark }
+    ensures misses { IsFurthest (MissesFirst first_byte (steps_trees steps.now) input.now parsed.old)
+        (erased_miss result.missed) }
+    ensures marks { MarksTree (first_of (steps_trees steps.now)) name.now input.now parsed.old result.mark }
 {
     let mut left = steps;
     let mut furthest = None;
@@ -110,9 +110,9 @@ fn walk_item<'a, 'd>(
     ensures reads { (t : Tree) → steps_trees item.now ≡ more t none
         → Attempts greatest_year t input.now parsed.old result.rest parsed.new }
     ensures misses { (t : Tree) → steps_trees item.now ≡ more t none
-        → IsFurthest (Misses greatest_year first_byte t input.now parsed.old) (seen_miss result.missed) }
+        → IsFurthest (Misses first_byte t input.now parsed.old) (erased_miss result.missed) }
     ensures marks { (t : Tree) → steps_trees item.now ≡ more t none
-        → MarksTree greatest_year t name.now input.now parsed.old result.mark }
+        → MarksTree t name.now input.now parsed.old result.mark }
 {
     let [step, inside @ ..] = item else {
         return Walked {
@@ -138,9 +138,9 @@ fn walk_group<'a, 'd>(
     name: &str,
 ) -> Walked<'a, 'd>
     ensures reads { Attempts greatest_year (group_tree group (steps_trees inside.now)) input.now parsed.old result.rest parsed.new }
-    ensures misses { IsFurthest (Misses greatest_year first_byte (group_tree group (steps_trees inside.now)) input.now parsed.old)
-        (seen_miss result.missed) }
-    ensures marks { MarksTree greatest_year (group_tree group (steps_trees inside.now)) name.now input.now parsed.old result.mark }
+    ensures misses { IsFurthest (Misses first_byte (group_tree group (steps_trees inside.now)) input.now parsed.old)
+        (erased_miss result.missed) }
+    ensures marks { MarksTree (group_tree group (steps_trees inside.now)) name.now input.now parsed.old result.mark }
 {
     match group {
         Group::List => walk_list(inside, parsed, input, name),
@@ -169,10 +169,10 @@ fn literal<'a, 'd>(
         → Attempts greatest_year (steps_.literal text) input.now parsed.old result.rest parsed.new }
     ensures misses { let text = byte.now ∷ steps_.further inside.now in
         steps_trees item.now ≡ more (steps_.literal text) none
-        → IsFurthest (Misses greatest_year first_byte (steps_.literal text) input.now parsed.old) (seen_miss result.missed) }
+        → IsFurthest (Misses first_byte (steps_.literal text) input.now parsed.old) (erased_miss result.missed) }
     ensures marks { (name : List ℕ) → let text = byte.now ∷ steps_.further inside.now in
         steps_trees item.now ≡ more (steps_.literal text) none
-        → MarksTree greatest_year (steps_.literal text) name input.now parsed.old result.mark }
+        → MarksTree (steps_.literal text) name input.now parsed.old result.mark }
 {
     match parsed.parse_steps(input, item) {
         Ok(rest) => Walked {
@@ -190,7 +190,7 @@ fn literal<'a, 'd>(
 
 // The miss in a literal of this byte and the further ones at the front of the steps: its first byte that isn't there.
 fn missed_in<'d>(byte: &'d u8, steps: &'d [Step], input: &[u8]) -> Option<Miss<'d>>
-    ensures { seen_miss result ≡ furthest (literal_misses first_byte (byte.now ∷ steps_.further steps.now) input.now) }
+    ensures { erased_miss result ≡ furthest (literal_misses first_byte (byte.now ∷ steps_.further steps.now) input.now) }
 {
     let mut wanted = byte;
     let mut left = steps;
@@ -216,6 +216,5 @@ fn split_item(steps: &[Step]) -> Option<(&[Step], &[Step])>
     let [step, behind @ ..] = steps else {
         return None;
     };
-    let after = steps_after(step, behind);
-    Some(steps.split_at(steps.len() - after.len()))
+    Some(steps.split_at(1 + item_len(step, behind)))
 }

@@ -7,24 +7,26 @@ use Rattle.time_values.specs.Names.{month_number}
 use Rattle.time_values.specs.declared.month.Month.{Month}
 use Rattle.time_values.proofs.NumberLemmas.{same_month}
 use Rattle.time_components.specs.Tree.{Tree}
-use Rattle.time_readers.specs.Direct.{RefusesRfc3339, RefusesRfc2822, minute_refusal, said_rfc3339, said_rfc2822}
+use Rattle.time_readers.specs.Direct.{RefusesRfc3339, RefusesRfc2822, minute_refusal, rfc3339_numbers, rfc2822_numbers}
 use Rattle.time_readers.specs.Rfc2822 as rfc2822
 use Rattle.time_readers.specs.Rfc3339 as rfc3339
 use Rattle.time_readers.specs.IsoPieces.{Found}
-use Rattle.time_readers.specs.Rfc2822.{Asks, places, nothing_read, fault}
+use Rattle.time_readers.specs.Rfc2822.{PlaceSyntax, places, nothing_read, fault}
 use Rattle.time_readers.specs.declared.rfc2822.Numbers.{Numbers}
 use Rattle.time_readers.specs.Laws.{OneForm}
-use Rattle.time_readers.specs.Rfc3339.{Asks as Rfc3339Asks, places as rfc3339_places, nothing_read as rfc3339_nothing_read, fault as rfc3339_fault}
+use Rattle.time_readers.specs.Rfc3339.{PlaceSyntax as Rfc3339Syntax, places as rfc3339_places, nothing_read as rfc3339_nothing_read, fault as rfc3339_fault}
 use Rattle.time_readers.specs.declared.rfc3339.Numbers.{Numbers as Rfc3339Numbers}
 use Rattle.time_readers.proofs.Walking.{one_direct}
 use Rattle.time_readers.proofs.OneMailDate.{MailAsks-unique}
-use Rattle.time_readers.proofs.Repeats.{Asks-unique, one_form}
+use Rattle.time_readers.proofs.Repeats.{PlaceSyntax-unique, one_form}
 use Rattle.time_record.specs.Reading.{Reads, Refuses}
 use Rattle.time_record.specs.Record.{Record, put_all}
 use Rattle.time_record.proofs.Unique.{Reads-unique, Refuses-unique, Reads-unrefused}
 use Rattle.time_parsing.specs.Outcome.{IsExact, direct, IsExactPath}
 use Rattle.time_parsing.specs.Rfc2822 as Rfc2822
 use Rattle.time_parsing.specs.Rfc3339 as Rfc3339
+use Rattle.time_parsing.specs.Rfc3339Strict as Strict
+use Rattle.time_parsing.specs.Rfc3339Strict.{strict_text}
 use Rattle.time_parsing.specs.exact.RecordedRfc2822 as RecordedRfc2822
 use Rattle.time_parsing.specs.exact.RecordedRfc3339 as RecordedRfc3339
 use Rattle.time_parsing.specs.Iso8601.{Reads as Iso8601Reads, Refuses as Iso8601Refuses}
@@ -48,8 +50,8 @@ pub rfc3339_exact_path :
     (Rfc3339.Refuses greatest_year)
 rfc3339_exact_path =
     let one =
-    one_direct (rfc3339.Asks false) rfc3339.places rfc3339.nothing_read rfc3339.fault minute_refusal said_rfc3339
-    (one_form (rfc3339.Asks false) (Asks-unique false) rfc3339.places rfc3339.nothing_read) in (
+    one_direct (rfc3339.PlaceSyntax false) rfc3339.places rfc3339.nothing_read rfc3339.fault minute_refusal rfc3339_numbers
+    (one_form (rfc3339.PlaceSyntax false) (PlaceSyntax-unique false) rfc3339.places rfc3339.nothing_read) in (
       one.one_refusal,
       λ bytes v e told refused. one.never_both bytes v e (RecordedRfc3339.record-value bytes v told)
           refused,
@@ -60,8 +62,8 @@ pub rfc2822_exact_path :
     (Rfc2822.Refuses greatest_year)
 rfc2822_exact_path =
     let one =
-    one_direct (rfc2822.Asks false) rfc2822.places rfc2822.nothing_read rfc2822.fault (λ n. None) said_rfc2822
-    (one_form (rfc2822.Asks false) (MailAsks-unique false) rfc2822.places rfc2822.nothing_read) in (
+    one_direct (rfc2822.PlaceSyntax false) rfc2822.places rfc2822.nothing_read rfc2822.fault (λ n. None) rfc2822_numbers
+    (one_form (rfc2822.PlaceSyntax false) (MailAsks-unique false) rfc2822.places rfc2822.nothing_read) in (
       one.one_refusal,
       λ bytes v e told refused. one.never_both bytes v e (RecordedRfc2822.record-value bytes v told)
           refused,
@@ -92,8 +94,8 @@ iso8601_exact Y = record {
 
 -- ---- RFC 2822 has one answer for a text over a record. `Y` is the greatest year.
 
-rfc2822_form : (b : List ℕ) → OneForm (Asks true) places nothing_read b
-rfc2822_form b = one_form (Asks true) (MailAsks-unique true) places nothing_read b
+rfc2822_form : (b : List ℕ) → OneForm (PlaceSyntax true) places nothing_read b
+rfc2822_form b = one_form (PlaceSyntax true) (MailAsks-unique true) places nothing_read b
 
 same_value : (p q : Record) → Some p ≡ Some q → p ≡ q
 same_value p q same = cc
@@ -116,8 +118,8 @@ rfc2822_exact Y = record {
 
 -- ---- RFC 3339 has one answer for a text over a record. `Y` is the greatest year.
 
-form : (b : List ℕ) → OneForm (Rfc3339Asks true) rfc3339_places rfc3339_nothing_read b
-form b = one_form (Rfc3339Asks true) (Asks-unique true) rfc3339_places rfc3339_nothing_read b
+form : (b : List ℕ) → OneForm (Rfc3339Syntax true) rfc3339_places rfc3339_nothing_read b
+form b = one_form (Rfc3339Syntax true) (PlaceSyntax-unique true) rfc3339_places rfc3339_nothing_read b
 
 -- storing one text's numbers in a record has one result
 put-unique : (Y : ℕ) (n m : Rfc3339Numbers) (k l : Month) (r p q : Record) → n ≡ m
@@ -139,3 +141,16 @@ rfc3339_exact Y = record {
   one_refusal = λ b r e f u v. u.2 ∙ ap rfc3339_fault ((form b).one_place u.0 v.0 u.1 v.1) ∙ sym v.2;
   not_both = λ b r x p e u v. (form b).never_both x u.0 v.0 u.2 v.1;
 }
+
+pub strict_exact : (Y : ℕ) → IsExact (Strict.Reads Y) (Strict.Refuses Y)
+strict_exact Y = record {
+  one_rest = λ b. (rfc3339_exact Y).one_rest (strict_text b);
+  one_record = λ b. (rfc3339_exact Y).one_record (strict_text b);
+  one_refusal = λ b. (rfc3339_exact Y).one_refusal (strict_text b);
+  not_both = λ b. (rfc3339_exact Y).not_both (strict_text b);
+}
+
+pub strict_exact_path :
+    IsExactPath greatest_year (direct (Strict.RefusesDirectly greatest_year)) (Strict.Reads greatest_year)
+    (Strict.Refuses greatest_year)
+strict_exact_path = (λ b. rfc3339_exact_path.0 (strict_text b), λ b. rfc3339_exact_path.1 (strict_text b))

@@ -14,17 +14,17 @@ use Rattle.time_values.specs.declared.error.Parse.{Parse}
 use Rattle.time_values.proofs.NumberLemmas.{same_month}
 use Rattle.time_digits.specs.declared.Sign.{Sign}
 use Rattle.time_components.proofs.NumberLemmas.{each_month}
-use Rattle.time_readers.specs.Direct.{DirectRfc2822, IsDirectRfc2822, RefusesRfc2822, said_rfc2822, first_refusal}
+use Rattle.time_readers.specs.Direct.{DirectRfc2822, IsDirectRfc2822, RefusesRfc2822, rfc2822_numbers, first_refusal}
 use Rattle.time_readers.specs.Rfc2822.{InRanges}
 use Rattle.time_readers.specs.declared.rfc2822.Numbers.{Numbers}
 use Rattle.time_readers.proofs.MailRanges.{HasForm-in_places, HasForm-zone}
 use Rattle.time_readers.proofs.RangedMail.{ranged_mail}
 use Rattle.time_record.specs.Record.{Record, Entry, InRange, put_all, put_here, empty, day_is, month_is, year_is}
-use Rattle.time_record.specs.Resolution.{IsMoment, clock_of, stand_in, offset_seconds_of, offset_part, is_leap_second}
+use Rattle.time_record.specs.Resolution.{IsMoment, clock_of, replace_leap_second, offset_seconds_of, offset_part, is_leap_second}
 use Rattle.time_parsing.specs.Outcome.{IsOutcome, IsMomentOutcome, direct, seen}
 use Rattle.time_parsing.specs.Rfc2822.{entries, weekday_entries, date_entries, second_entries, time_entries, offset_entries, Reads, Refuses}
 use Rattle.time_parsing.specs.Rfc3339.{without_offset_sign, with_leap_second}
-use Rattle.time_parsing.specs.exact.ToldMoment.{Tells, clock_said, accepted_ranges, made-resolves, resolves-made}
+use Rattle.time_parsing.specs.exact.MomentOfNumbers.{HasNumbers, clock_of_numbers, accepted_ranges, made-resolves, resolves-made}
 
 -- ---- Entries that are all in their ranges, stored in a record in turn
 
@@ -107,7 +107,7 @@ put-recorded n year i second =
     ∙ ap Some (same-recorded n n.weekday n.second n.offset_sign refl refl refl)
 
 clock-recorded : (n : Numbers) (o : Option ℕ) (b : Bool) → n.second ≡ o → (unwrap_or o 0 == 60) ≡ b
-    → clock_of (stand_in (recorded n)) ≡ Some (clock_said (said_rfc2822 n))
+    → clock_of (replace_leap_second (recorded n)) ≡ Some (clock_of_numbers (rfc2822_numbers n))
 clock-recorded n None b so leap = rw so refl
 clock-recorded n (Some v) true so leap = rw (so, leap) refl
 clock-recorded n (Some v) false so leap = rw (so, leap) refl
@@ -126,7 +126,8 @@ second-recorded : (n : Numbers) (s : Option Sign) → n.offset_sign ≡ s → of
 second-recorded n None ss = rw ss refl
 second-recorded n (Some s) ss = rw ss refl
 
-tells : (n : Numbers) → (n.offset_sign ≡ None → n.offset_minute ≡ pos 0) → Tells (recorded n) n.month (said_rfc2822 n)
+tells : (n : Numbers) → (n.offset_sign ≡ None → n.offset_minute ≡ pos 0) → HasNumbers (recorded n) n.month
+    (rfc2822_numbers n)
 tells n none = record {
   row = refl;
   month = refl;
@@ -148,9 +149,9 @@ second_of None h = tt
 second_of (Some v) h = h.1
 
 -- the ranges of numbers that form a moment
-in_ranges : (n : Numbers) → first_refusal greatest_year (said_rfc2822 n) ≡ None → InRanges n
+in_ranges : (n : Numbers) → first_refusal greatest_year (rfc2822_numbers n) ≡ None → InRanges n
 in_ranges n none =
-    let a = accepted_ranges (said_rfc2822 n) none in
+    let a = accepted_ranges (rfc2822_numbers n) none in
     record {
       day = a.day;
       hour = (omega arith, a.hour);
@@ -175,7 +176,8 @@ direct-value bytes v (n, form, last, made) =
         put-recorded n (omega (arith, places.year)) ranges
             (second_of n.second ranges.second),
       ),
-      made-resolves (recorded n) n.month (said_rfc2822 n) v (tells n (HasForm-zone false bytes [] n form)) month made,
+      made-resolves (recorded n) n.month (rfc2822_numbers n) v (tells n
+          (HasForm-zone false bytes [] n form)) month made,
     )
 
 month_named : (m : Month) → month_refusal (month_number m) ≡ None
@@ -197,7 +199,7 @@ record-value bytes v (r, (n, form, put), moment) =
       n,
       formed.0,
       refl,
-      resolves-made (recorded n) n.month (said_rfc2822 n) v (tells n (HasForm-zone true bytes [] n form))
+      resolves-made (recorded n) n.month (rfc2822_numbers n) v (tells n (HasForm-zone true bytes [] n form))
           (omega (arith, places.year)) (month_named n.month)
           (subst (λ (x : Record). IsMoment greatest_year x (Ok v)) same moment),
     )

@@ -12,17 +12,17 @@ use Rattle.time_values.specs.Sign.{signed_by}
 use Rattle.time_values.specs.declared.month.Month.{Month}
 use Rattle.time_values.specs.declared.offset_date_time.OffsetDateTime.{OffsetDateTime}
 use Rattle.time_values.specs.declared.error.Parse.{Parse}
-use Rattle.time_readers.specs.Direct.{DirectRfc3339, IsDirectRfc3339, RefusesRfc3339, said_rfc3339, first_refusal, minute_refusal}
+use Rattle.time_readers.specs.Direct.{DirectRfc3339, IsDirectRfc3339, RefusesRfc3339, rfc3339_numbers, first_refusal, minute_refusal}
 use Rattle.time_readers.specs.Rfc3339.{InRanges}
 use Rattle.time_readers.specs.declared.rfc3339.Numbers.{Numbers}
 use Rattle.time_readers.proofs.RangedForms.{HasForm-in_places, ranged_forms}
 use Rattle.time_readers.proofs.MailRanges.{minute_stands, signed-abs}
 use Rattle.time_record.specs.Record.{Record, Entry, empty, put_all, offset_second_is}
-use Rattle.time_record.specs.Resolution.{IsMoment, clock_of, stand_in, offset_seconds_of}
+use Rattle.time_record.specs.Resolution.{IsMoment, clock_of, replace_leap_second, offset_seconds_of}
 use Rattle.time_parsing.specs.Outcome.{IsOutcome, IsMomentOutcome, direct, seen}
 use Rattle.time_parsing.specs.Rfc3339.{entries, date_entries, time_entries, subsecond_entries, numeric_offset_entries, offset_entries, without_offset_sign, with_leap_second, Reads, Refuses}
 use Rattle.time_parsing.specs.exact.RecordedRfc2822.{AllInRange, put_each, put-each, in_range-append}
-use Rattle.time_parsing.specs.exact.ToldMoment.{Tells, clock_said, accepted_ranges, made-resolves, resolves-made}
+use Rattle.time_parsing.specs.exact.MomentOfNumbers.{HasNumbers, clock_of_numbers, accepted_ranges, made-resolves, resolves-made}
 
 -- the record with the numbers, whose month is m
 abbrev recorded : Numbers → Month → Record
@@ -81,7 +81,7 @@ put-recorded n m year i subsecond hour =
     (entries-in_range n m year i subsecond hour) ∙ ap Some (same-recorded n m n.subsecond n.is_utc refl refl)
 
 clock-recorded : (n : Numbers) (m : Month) (b : Bool) (o : Option ℕ) → (n.second == 60) ≡ b → n.subsecond ≡ o
-    → clock_of (stand_in (recorded n m)) ≡ Some (clock_said (said_rfc3339 n))
+    → clock_of (replace_leap_second (recorded n m)) ≡ Some (clock_of_numbers (rfc3339_numbers n))
 clock-recorded n m true o leap so = rw leap refl
 clock-recorded n m false None leap so = rw (leap, so) refl
 clock-recorded n m false (Some v) leap so = rw (leap, so) refl
@@ -90,7 +90,7 @@ second-recorded : (n : Numbers) (m : Month) (u : Bool) → n.is_utc ≡ u → of
 second-recorded n m true su = rw su refl
 second-recorded n m false su = rw su refl
 
-tells : (n : Numbers) (m : Month) → month_number m ≡ n.month → Tells (recorded n m) m (said_rfc3339 n)
+tells : (n : Numbers) (m : Month) → month_number m ≡ n.month → HasNumbers (recorded n m) m (rfc3339_numbers n)
 tells n m month = record {
   row = refl;
   month = month;
@@ -103,10 +103,10 @@ tells n m month = record {
 }
 
 -- the ranges of numbers that form a moment
-in_ranges : (n : Numbers) → n.month ≢ 0 → first_refusal greatest_year (said_rfc3339 n) ≡ None
+in_ranges : (n : Numbers) → n.month ≢ 0 → first_refusal greatest_year (rfc3339_numbers n) ≡ None
     → n.offset_minute ≤ 59 → InRanges n
 in_ranges n some none minute =
-    let a = accepted_ranges (said_rfc3339 n) none in
+    let a = accepted_ranges (rfc3339_numbers n) none in
     record {
       month = (omega (arith, some), a.month);
       day = a.day;
@@ -137,7 +137,7 @@ direct-value bytes v (n, form, last, made) =
         put-recorded n m (omega (arith, places.year)) ranges places.subsecond
             (omega (arith, places.offset_hour)),
       ),
-      made-resolves (recorded n m) m (said_rfc3339 n) v (tells n m month) refl made,
+      made-resolves (recorded n m) m (rfc3339_numbers n) v (tells n m month) refl made,
     )
 
 -- the record's value is that of the direct path
@@ -156,7 +156,7 @@ record-value bytes v (r, (n, m, form, month, put), moment) =
       n,
       formed.0,
       minute_stands n ranges.offset_minute.1,
-      resolves-made (recorded n m) m (said_rfc3339 n) v (tells n m month) (omega (arith, places.year)) named
+      resolves-made (recorded n m) m (rfc3339_numbers n) v (tells n m month) (omega (arith, places.year)) named
           (subst (λ (x : Record). IsMoment greatest_year x (Ok v)) same moment),
     )
 

@@ -5,12 +5,12 @@ ghost use Rattle.std.specs.Prelude.{◌≡◌, [], IfSome, Some, Ok};
 ghost use Rattle.time_values.specs.Moments.{plain_date, plain_time};
 ghost use Rattle.time_values.specs.Calendar.{greatest_year};
 ghost use Rattle.time_readers.specs.IsoDates.{iso_date};
-ghost use Rattle.time_readers.specs.IsoTimes.{GivesDateAndTime};
+ghost use Rattle.time_readers.specs.IsoTimes.{ReturnsDateAndTime};
 ghost use Rattle.time_readers.specs.IsoOffsets.{offset_found};
 ghost use Rattle.time_readers.specs.declared.iso8601.OffsetNumbers.{OffsetNumbers as OffsetNumbers_};
 ghost use Rattle.time_record.specs.Record.{empty};
 ghost use Rattle.time_record.specs.Resolution.{IsMoment, IsPlain};
-ghost use Rattle.time_parsing.specs.Iso8601.{Reads, Refuses, date_said, time_said, IsOffsetSaid};
+ghost use Rattle.time_parsing.specs.Iso8601.{Reads, Refuses, iso_date_of, time_numbers_of, IsOffsetOfNumbers};
 ghost use Rattle.time_parsing.specs.Outcome.{IsOutcome};
 
 use time_readers::iso8601::{
@@ -50,7 +50,7 @@ pub(super) fn moment(input: &[u8]) -> Option<OffsetDateTime>
 /// leap second.
 #[inline(always)]
 pub fn date_time_of(date: DateNumbers, time: TimeNumbers) -> Option<PlainDateTime>
-    ensures { IfSome result (λ p. (iso_date date ≡ date_said (plain_date p)) × (time ≡ time_said (plain_time p))) }
+    ensures { IfSome result (λ p. (iso_date date ≡ iso_date_of (plain_date p)) × (time ≡ time_numbers_of (plain_time p))) }
 {
     let DateNumbers::Calendar(year, month, day) = date else {
         return None;
@@ -66,7 +66,7 @@ pub fn date_time_of(date: DateNumbers, time: TimeNumbers) -> Option<PlainDateTim
 // The offset of these numbers. `None`: not this form.
 #[inline(always)]
 fn offset_of(numbers: OffsetNumbers) -> Option<UtcOffset>
-    ensures { IfSome result (IsOffsetSaid numbers) }
+    ensures { IfSome result (IsOffsetOfNumbers numbers) }
 {
     match numbers {
         OffsetNumbers::Zulu => Some(UtcOffset::UTC),
@@ -78,7 +78,7 @@ fn offset_of(numbers: OffsetNumbers) -> Option<UtcOffset>
 // and a time. `None`: not this form, which is found out before other dates are read.
 #[inline(always)]
 fn parts(input: &[u8]) -> Option<DateAndTime<'_>>
-    ensures { IfSome result (λ p. GivesDateAndTime input.now (Ok p)) }
+    ensures { IfSome result (λ p. ReturnsDateAndTime input.now (Ok p)) }
 {
     match input {
         [_, _, _, _, b'-', _, _, b'-', _, ..] | [_, _, _, _, b'0'..=b'1', _, _, _, b'T', ..] =>
@@ -90,7 +90,7 @@ fn parts(input: &[u8]) -> Option<DateAndTime<'_>>
 /// The ISO 8601 offset that is all of the bytes. `None`: not this form.
 #[inline(always)]
 pub fn offset_to_the_end(input: &[u8], kind: ExtendedKind) -> Option<UtcOffset>
-    ensures { IfSome result (λ o. (n : OffsetNumbers_) × (offset_found kind input.now ≡ Some ([], n)) × IsOffsetSaid n o) }
+    ensures { IfSome result (λ o. (n : OffsetNumbers_) × (offset_found kind input.now ≡ Some ([], n)) × IsOffsetOfNumbers n o) }
 {
     let found = offset(input, kind)?;
     if !found.rest.is_empty() {

@@ -7,7 +7,7 @@ ghost use Rattle.std.specs.Int.{w8, w32};
 ghost use Rattle.time_values.specs.Calendar.{greatest_year};
 ghost use Rattle.time_digits.specs.Digits.{Cut, IsPaddedRun};
 ghost use Rattle.time_digits.specs.declared.Padding.TheVariants.{Space, Zero};
-ghost use Rattle.time_components.specs.Spelling.{Says, Spells, month as month_, number, signed};
+ghost use Rattle.time_components.specs.Spelling.{HasMappedValue, Spells, month as month_, number, signed};
 ghost use Rattle.time_components.specs.declared.format_description.Component.TheVariants as component;
 ghost use Rattle.time_components.specs.Tree.{more, none as none_};
 ghost use Rattle.time_record.specs.Record.{Record};
@@ -128,7 +128,7 @@ pub(crate) fn day(input: &[u8], modifiers: modifier::Day) -> Option<ParsedItem<'
 /// Reads a number in two places. `None`: no such number.
 #[inline(always)]
 pub(crate) fn two_places(input: &[u8], padding: Padding) -> Option<ParsedItem<'_, u8>>
-    ensures { IfSome result (λ found. Cut (Says number (IsPaddedRun padding 2 2))
+    ensures { IfSome result (λ found. Cut (HasMappedValue number (IsPaddedRun padding 2 2))
         input.now found.0.now (number found.1)) }
 {
     let found = places(input, padding)?;

@@ -265,7 +265,7 @@ fn put_second(parsed: &mut Parsed, second: Option<(u8, Option<u32>)>)
 // Reads an optional fraction.
 #[inline(always)]
 pub(super) fn fraction<'a>(parsed: &mut Parsed, input: &'a [u8], point: u8) -> Option<&'a [u8]>
-    ensures { MayReadAll greatest_year (more (fraction_tree point) none_) input.now parsed.old result parsed.new }
+    ensures { MayReadAll (more (fraction_tree point) none_) input.now parsed.old result parsed.new }
 {
     let found = fast::fraction(input, point)?;
     put_fraction(parsed, found.0);
@@ -280,7 +280,7 @@ pub(super) fn seconds<'a>(
     between: u8,
     point: u8,
 ) -> Option<&'a [u8]>
-    ensures { MayReadAll greatest_year (more (seconds_tree between point) none_)
+    ensures { MayReadAll (more (seconds_tree between point) none_)
         input.now parsed.old result parsed.new }
 {
     let found = fast::second(input, between, point)?;

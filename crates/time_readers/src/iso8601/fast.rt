@@ -2,10 +2,10 @@
 //!
 //! Each parser returns what the parent module's parser of these parts returns, or `None` for any other form.
 ghost use Rattle.std.specs.Prelude.{◌≡◌, ℕ, List, IfSome, Ok, ◌≤◌, ◌<◌, Bool, Some, None};
-ghost use Rattle.time_readers.specs.IsoPieces.{GivesPartOrFault, GivesPart, Number, number, byte, plain, fraction};
+ghost use Rattle.time_readers.specs.IsoPieces.{ReturnsPartOrFault, ReturnsPart, Number, number, byte, plain, fraction};
 ghost use Rattle.time_readers.specs.IsoDates.{AreCalendarDigits, date_text, iso_date};
 ghost use Rattle.time_readers.specs.declared.iso8601.ExtendedKind.TheVariants.{Basic, Extended};
-ghost use Rattle.time_readers.specs.IsoGrammar.{SaysSecond};
+ghost use Rattle.time_readers.specs.IsoGrammar.{IsSecondOfTime};
 ghost use Rattle.time_readers.specs.IsoTimes.{round_of};
 ghost use Rattle.time_readers.specs.IsoTimes as spec;
 
@@ -40,7 +40,7 @@ pub struct CalendarDigits<'a> {
 // Parses a calendar date with a year of four digits. `None` for any other form.
 #[inline(always)]
 pub(in crate::iso8601) fn date(input: &[u8]) -> Option<Part<'_, DateNumbers>>
-    ensures { IfSome result (λ p. GivesPartOrFault iso_date (date_text input.now) (Ok p)) }
+    ensures { IfSome result (λ p. ReturnsPartOrFault iso_date (date_text input.now) (Ok p)) }
 {
     // The byte after a year of four digits tells the two forms apart.
     let digits = match input {
@@ -147,7 +147,7 @@ pub(in crate::iso8601) fn time<'a>(
     input: &'a [u8],
     kind: ExtendedKind,
 ) -> Option<Part<'a, TimeNumbers>>
-    ensures { (needed : Bool) → IfSome result (λ p. GivesPart (spec.time_text needed kind input.now) (Some p)) }
+    ensures { (needed : Bool) → IfSome result (λ p. ReturnsPart (spec.time_text needed kind input.now) (Some p)) }
 {
     after_t(byte::<b'T'>(input)?, kind)
 }
@@ -155,7 +155,7 @@ pub(in crate::iso8601) fn time<'a>(
 // Parses a whole hour, a whole minute and a second, with separators or without. `None` for any other form.
 #[inline(always)]
 fn after_t<'a>(input: &'a [u8], kind: ExtendedKind) -> Option<Part<'a, TimeNumbers>>
-    ensures { IfSome result (λ p. GivesPart (spec.time_after kind input.now) (Some p)) }
+    ensures { IfSome result (λ p. ReturnsPart (spec.time_after kind input.now) (Some p)) }
 {
     let hour = whole_number(input)?;
     if hour.1 > 23 {
@@ -173,7 +173,7 @@ fn basic_time<'a>(input: &'a [u8], kind: ExtendedKind, hour: u8) -> Option<Part<
     requires hour { hour ≤ 23 }
     requires no_colon { byte 58 input.now ≡ None }
     ensures { (bytes : List ℕ) → number bytes ≡ Some (input.now, plain hour)
-        → IfSome result (λ p. GivesPart (spec.time_after kind bytes) (Some p)) }
+        → IfSome result (λ p. ReturnsPart (spec.time_after kind bytes) (Some p)) }
 {
     if kind.is_extended() {
         return None;
@@ -200,7 +200,7 @@ fn basic_time<'a>(input: &'a [u8], kind: ExtendedKind, hour: u8) -> Option<Part<
 fn extended_time<'a>(input: &'a [u8], kind: ExtendedKind, hour: u8) -> Option<Part<'a, TimeNumbers>>
     requires { hour ≤ 23 }
     ensures { (bytes mid : List ℕ) → number bytes ≡ Some (mid, plain hour) → byte 58 mid ≡ Some input.now
-        → IfSome result (λ p. GivesPart (spec.time_after kind bytes) (Some p)) }
+        → IfSome result (λ p. ReturnsPart (spec.time_after kind bytes) (Some p)) }
 {
     if !kind.maybe_extended() {
         return None;
@@ -227,7 +227,7 @@ fn extended_time<'a>(input: &'a [u8], kind: ExtendedKind, hour: u8) -> Option<Pa
 #[inline(always)]
 pub(super) fn second(input: &[u8]) -> Option<ParsedItem<'_, (u8, u32)>>
     ensures { IfSome result (λ p. (n : Number) × (number input.now ≡ Some (p.0.now, n))
-        × SaysSecond n p.1.0 p.1.1) }
+        × IsSecondOfTime n p.1.0 p.1.1) }
 {
     if let Some(found) = whole_number(input) {
         if found.1 > 60 {
@@ -248,7 +248,7 @@ pub(super) fn second(input: &[u8]) -> Option<ParsedItem<'_, (u8, u32)>>
 #[inline(never)]
 fn rounded_second(input: &[u8]) -> Option<ParsedItem<'_, (u8, u32)>>
     ensures { IfSome result (λ p. (n : Number) × (number input.now ≡ Some (p.0.now, n))
-        × SaysSecond n p.1.0 p.1.1) }
+        × IsSecondOfTime n p.1.0 p.1.1) }
 {
     let found = float(input)?;
     let digits = found.1.1?;

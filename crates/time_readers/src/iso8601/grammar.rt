@@ -1,8 +1,8 @@
 //! The texts of ISO 8601, parsed one piece after another.
-ghost use Rattle.time_readers.specs.IsoTimes.{GivesDateAndTime, IsFloor, IsRounded};
+ghost use Rattle.time_readers.specs.IsoTimes.{ReturnsDateAndTime, IsFloor, IsRounded};
 ghost use Rattle.std.specs.Prelude.{◌≡◌, ◌≤◌, IfSome, ◌<◌};
-ghost use Rattle.time_readers.specs.IsoPieces.{GivesPart, GivesPartOrFault};
-ghost use Rattle.time_readers.specs.IsoGrammar.{Leaves, GivesForm};
+ghost use Rattle.time_readers.specs.IsoPieces.{ReturnsPart, ReturnsPartOrFault};
+ghost use Rattle.time_readers.specs.IsoGrammar.{Leaves, ReturnsForm};
 ghost use Rattle.time_readers.specs.IsoDates as spec;
 ghost use Rattle.time_readers.specs.IsoGrammar as parts;
 ghost use Rattle.time_readers.specs.IsoOffsets.{offset_text};
@@ -25,7 +25,7 @@ use time_values::sign::signed;
 pub(in crate::iso8601) fn date_and_time(
     input: &[u8],
 ) -> Result<DateAndTime<'_>, ParseFromDescription>
-    ensures { GivesDateAndTime input.now result }
+    ensures { ReturnsDateAndTime input.now result }
 {
     let date = date(input)?;
     Ok(DateAndTime {
@@ -38,7 +38,7 @@ pub(in crate::iso8601) fn date_and_time(
 #[inline(always)]
 #[tactic(auto, unfolding(crate::specs::IsoDates::date_text))]
 pub(in crate::iso8601) fn date(input: &[u8]) -> Result<Part<'_, DateNumbers>, ParseFromDescription>
-    ensures { GivesPartOrFault spec.iso_date (spec.date_text input.now) result }
+    ensures { ReturnsPartOrFault spec.iso_date (spec.date_text input.now) result }
 {
     let Some(found) = year(input) else {
         return Err(ParseFromDescription::InvalidComponent("year"));
@@ -71,7 +71,7 @@ fn after_year(
     year: i32,
     is_extended: bool,
 ) -> Result<ParsedItem<'_, DateNumbers>, ParseFromDescription>
-    ensures { GivesForm spec.iso_date (spec.forms is_extended year input.now) result }
+    ensures { ReturnsForm spec.iso_date (spec.forms is_extended year input.now) result }
 {
     let fault = match month_and_day(input, year, is_extended) {
         Ok(found) => return Ok(found),
@@ -92,7 +92,7 @@ fn month_and_day(
     year: i32,
     is_extended: bool,
 ) -> Result<ParsedItem<'_, DateNumbers>, ParseFromDescription>
-    ensures { GivesForm spec.iso_date (spec.first_form is_extended year input.now) result }
+    ensures { ReturnsForm spec.iso_date (spec.first_form is_extended year input.now) result }
 {
     let Some(month) = month(input) else {
         return Err(ParseFromDescription::InvalidComponent("month"));
@@ -111,7 +111,7 @@ fn week_and_weekday(
     year: i32,
     is_extended: bool,
 ) -> Result<ParsedItem<'_, DateNumbers>, ParseFromDescription>
-    ensures { GivesForm spec.iso_date (spec.third_form is_extended year input.now) result }
+    ensures { ReturnsForm spec.iso_date (spec.third_form is_extended year input.now) result }
 {
     let Some(week) = week(input) else {
         return Err(ParseFromDescription::InvalidComponent("week"));
@@ -147,7 +147,7 @@ fn dash(input: &[u8], is_extended: bool) -> Option<&[u8]>
 #[inline(always)]
 #[tactic(auto, using(crate::proofs::IsoTimes::offset_by_pieces_is), unfolding(crate::specs::IsoGrammar::offset_by_pieces))]
 pub fn offset(input: &[u8], kind: ExtendedKind) -> Option<Part<'_, OffsetNumbers>>
-    ensures { GivesPart (offset_text kind input.now) result }
+    ensures { ReturnsPart (offset_text kind input.now) result }
 {
     if let Some(rest) = byte::<b'Z'>(input) {
         return Some(Part {
@@ -175,7 +175,7 @@ pub fn offset(input: &[u8], kind: ExtendedKind) -> Option<Part<'_, OffsetNumbers
 #[inline(always)]
 #[tactic(auto, unfolding(crate::specs::IsoGrammar::offset_minute))]
 fn offset_minute(input: &[u8], kind: ExtendedKind) -> Option<Part<'_, u8>>
-    ensures is { GivesPart (parts.offset_minute kind input.now) result }
+    ensures is { ReturnsPart (parts.offset_minute kind input.now) result }
     ensures within { IfSome result (λ p. p.value ≤ 59) }
 {
     if kind.maybe_extended() {

@@ -6,8 +6,8 @@ ghost use Rattle.std.specs.Prelude.{IfSome, IsTrue, MatchOption, Some, ◌≡◌
 ghost use Rattle.time_readers.specs.Block.{AllWithin, pair_at};
 ghost use Rattle.time_digits.specs.Digits.{Cut};
 ghost use Rattle.time_readers.specs.MailBlanks as spec;
-ghost use Rattle.time_readers.specs.Readers.{Stand};
-ghost use Rattle.time_readers.specs.Rfc2822.{Asks, to_offset_places, offset_places};
+ghost use Rattle.time_readers.specs.Readers.{MatchesPlaces};
+ghost use Rattle.time_readers.specs.Rfc2822.{PlaceSyntax, to_offset_places, offset_places};
 ghost use Rattle.time_readers.specs.declared.rfc2822.Place.TheVariants as place;
 
 use crate::block::two_digits;
@@ -102,7 +102,7 @@ pub(super) fn opt_cfws_colon_opt_cfws(input: &[u8]) -> Option<ParsedItem<'_, ()>
 pub fn weekday_name<'a>(input: &'a [u8], numbers: &mut Numbers) -> Option<&'a [u8]>
     ensures { MatchOption result
         (numbers.new ≡ numbers.old)
-        (λ rest. Cut (Asks false place.WeekdayName numbers.old) input.now rest.now numbers.new) }
+        (λ rest. Cut (PlaceSyntax false place.WeekdayName numbers.old) input.now rest.now numbers.new) }
 {
     let [first, second, third, b',', b' ', b')'..=u8::MAX, ..] = input else {
         return None;
@@ -134,7 +134,7 @@ pub fn to_offset<'a, const CHECK_RANGES: bool>(
 ) -> Option<&'a [u8]>
     ensures stands { MatchOption result
         (numbers.new ≡ numbers.old)
-        (λ rest. Stand (Asks CHECK_RANGES) to_offset_places numbers.old text.now rest.now numbers.new) }
+        (λ rest. MatchesPlaces (PlaceSyntax CHECK_RANGES) to_offset_places numbers.old text.now rest.now numbers.new) }
     ensures second { IfSome result (λ _. unwrap_or numbers.new.second 0 < 60) }
 {
     let (first, rest) = text.split_first_chunk::<16>()?;
@@ -176,7 +176,7 @@ pub fn offset<'a, const CHECK_RANGES: bool>(
 ) -> Option<&'a [u8]>
     ensures stands { MatchOption result
         (numbers.new ≡ numbers.old)
-        (λ rest. Stand (Asks CHECK_RANGES) offset_places numbers.old input.now rest.now numbers.new) }
+        (λ rest. MatchesPlaces (PlaceSyntax CHECK_RANGES) offset_places numbers.old input.now rest.now numbers.new) }
     ensures end { IfSome result (λ rest. rest.now ≡ []) }
     ensures second { numbers.new.second ≡ numbers.old.second }
 {

@@ -4,7 +4,7 @@ ghost use Rattle.std.specs.Option.{option_copied};
 ghost use Rattle.time_readers.specs.MailBlanks as spec;
 ghost use Rattle.time_readers.specs.PlaceAnswers.{Reads, Walks};
 ghost use Rattle.time_readers.specs.Rfc2822 as Rfc2822;
-ghost use Rattle.time_readers.specs.Rfc2822.{Asks, IsSilent, month_places, time_places, to_offset_places, offset_places};
+ghost use Rattle.time_readers.specs.Rfc2822.{PlaceSyntax, IsSilent, month_places, time_places, to_offset_places, offset_places};
 ghost use Rattle.time_readers.specs.declared.rfc2822.Numbers.{Numbers};
 ghost use Rattle.time_readers.specs.declared.rfc2822.Place.TheVariants as place;
 
@@ -20,7 +20,7 @@ use time_values::sign::signed;
 // Parses blanks, and then nothing or a weekday's name, a comma and blanks.
 #[inline(always)]
 pub(super) fn weekday_name<'a>(input: &'a [u8], numbers: &mut Numbers) -> Option<&'a [u8]>
-    ensures { Reads (Asks false place.WeekdayName numbers.old) input.now result numbers.new }
+    ensures { Reads (PlaceSyntax false place.WeekdayName numbers.old) input.now result numbers.new }
 {
     let rest = opt_cfws(input).0;
     let any_case = modifier::WeekdayShort {
@@ -41,7 +41,7 @@ pub(super) fn day<'a, const CHECK_RANGES: bool>(
     input: &'a [u8],
     numbers: &mut Numbers,
 ) -> Option<&'a [u8]>
-    ensures { Reads (Asks CHECK_RANGES place.Day numbers.old) input.now result numbers.new }
+    ensures { Reads (PlaceSyntax CHECK_RANGES place.Day numbers.old) input.now result numbers.new }
 {
     let found = one_or_two_digits(input)?;
     if !is_in_range::<CHECK_RANGES>(found.1, 1, 31) {
@@ -57,7 +57,7 @@ pub(super) fn to_offset<'a, const CHECK_RANGES: bool>(
     input: &'a [u8],
     numbers: &mut Numbers,
 ) -> Result<&'a [u8], Place>
-    ensures { Walks (Asks CHECK_RANGES) to_offset_places numbers.old input.now result numbers.new }
+    ensures { Walks (PlaceSyntax CHECK_RANGES) to_offset_places numbers.old input.now result numbers.new }
 {
     let rest = month_and_year::<CHECK_RANGES>(input, numbers)?;
     time::<CHECK_RANGES>(rest, numbers)
@@ -68,7 +68,7 @@ fn month_and_year<'a, const CHECK_RANGES: bool>(
     input: &'a [u8],
     numbers: &mut Numbers,
 ) -> Result<&'a [u8], Place>
-    ensures { Walks (Asks CHECK_RANGES) month_places numbers.old input.now result numbers.new }
+    ensures { Walks (PlaceSyntax CHECK_RANGES) month_places numbers.old input.now result numbers.new }
 {
     let rest = blanks_with_comments(input).ok_or(Place::DayBlanks)?;
     let rest = month_name(rest, numbers).ok_or(Place::MonthName)?;
@@ -82,7 +82,7 @@ fn time<'a, const CHECK_RANGES: bool>(
     input: &'a [u8],
     numbers: &mut Numbers,
 ) -> Result<&'a [u8], Place>
-    ensures { Walks (Asks CHECK_RANGES) time_places numbers.old input.now result numbers.new }
+    ensures { Walks (PlaceSyntax CHECK_RANGES) time_places numbers.old input.now result numbers.new }
 {
     let rest = hour::<CHECK_RANGES>(input, numbers).ok_or(Place::Hour)?;
     let rest = hour_colon(rest).ok_or(Place::HourColon)?;
@@ -97,7 +97,7 @@ pub(super) fn offset<'a, const CHECK_RANGES: bool>(
     input: &'a [u8],
     numbers: &mut Numbers,
 ) -> Result<&'a [u8], Place>
-    ensures { Walks (Asks CHECK_RANGES) offset_places numbers.old input.now result numbers.new }
+    ensures { Walks (PlaceSyntax CHECK_RANGES) offset_places numbers.old input.now result numbers.new }
 {
     let rest = offset_hour::<CHECK_RANGES>(input, numbers).ok_or(Place::OffsetHour)?;
     let rest = offset_minute::<CHECK_RANGES>(rest, numbers).ok_or(Place::OffsetMinute)?;
@@ -126,7 +126,7 @@ fn blanks_with_comments(input: &[u8]) -> Option<&[u8]>
 // Parses the first three letters of a month's name, in any case.
 #[inline(always)]
 fn month_name<'a>(input: &'a [u8], numbers: &mut Numbers) -> Option<&'a [u8]>
-    ensures { Reads (Asks false place.MonthName numbers.old) input.now result numbers.new }
+    ensures { Reads (PlaceSyntax false place.MonthName numbers.old) input.now result numbers.new }
 {
     let any_case = modifier::MonthShort {
         case_sensitive: false,
@@ -140,7 +140,7 @@ fn month_name<'a>(input: &'a [u8], numbers: &mut Numbers) -> Option<&'a [u8]>
 // 1999.
 #[inline(always)]
 fn year<'a>(input: &'a [u8], numbers: &mut Numbers) -> Option<&'a [u8]>
-    ensures { Reads (Asks false place.Year numbers.old) input.now result numbers.new }
+    ensures { Reads (PlaceSyntax false place.Year numbers.old) input.now result numbers.new }
 {
     if let Some(full) = four_digits(input) {
         if full.1 < 1900 {
@@ -172,7 +172,7 @@ fn year_blanks(input: &[u8], year_is_full: bool) -> Option<&[u8]>
 // Parses two digits: 0 to 23 with range checks.
 #[inline(always)]
 fn hour<'a, const CHECK_RANGES: bool>(input: &'a [u8], numbers: &mut Numbers) -> Option<&'a [u8]>
-    ensures { Reads (Asks CHECK_RANGES place.Hour numbers.old) input.now result numbers.new }
+    ensures { Reads (PlaceSyntax CHECK_RANGES place.Hour numbers.old) input.now result numbers.new }
 {
     let found = two_digits_in::<CHECK_RANGES>(input, 0, 23)?;
     numbers.hour = found.1;
@@ -190,7 +190,7 @@ fn hour_colon(input: &[u8]) -> Option<&[u8]>
 // Parses two digits: 0 to 59 with range checks.
 #[inline(always)]
 fn minute<'a, const CHECK_RANGES: bool>(input: &'a [u8], numbers: &mut Numbers) -> Option<&'a [u8]>
-    ensures { Reads (Asks CHECK_RANGES place.Minute numbers.old) input.now result numbers.new }
+    ensures { Reads (PlaceSyntax CHECK_RANGES place.Minute numbers.old) input.now result numbers.new }
 {
     let found = two_digits_in::<CHECK_RANGES>(input, 0, 59)?;
     numbers.minute = found.1;
@@ -200,7 +200,7 @@ fn minute<'a, const CHECK_RANGES: bool>(input: &'a [u8], numbers: &mut Numbers) 
 // Parses nothing if there is no colon, or a colon with blanks and two digits: 0 to 60 with range checks.
 #[inline(always)]
 fn second<'a, const CHECK_RANGES: bool>(input: &'a [u8], numbers: &mut Numbers) -> Option<&'a [u8]>
-    ensures { Reads (Asks CHECK_RANGES place.Second numbers.old) input.now result numbers.new }
+    ensures { Reads (PlaceSyntax CHECK_RANGES place.Second numbers.old) input.now result numbers.new }
 {
     let Some(colon) = opt_cfws_colon_opt_cfws(input) else {
         numbers.second = None;
@@ -217,7 +217,7 @@ fn offset_hour<'a, const CHECK_RANGES: bool>(
     input: &'a [u8],
     numbers: &mut Numbers,
 ) -> Option<&'a [u8]>
-    ensures { Reads (Asks CHECK_RANGES place.OffsetHour numbers.old) input.now result numbers.new }
+    ensures { Reads (PlaceSyntax CHECK_RANGES place.OffsetHour numbers.old) input.now result numbers.new }
 {
     let Some(first) = sign(input) else {
         let zone = zone_literal(input)?;
@@ -237,7 +237,7 @@ fn offset_minute<'a, const CHECK_RANGES: bool>(
     input: &'a [u8],
     numbers: &mut Numbers,
 ) -> Option<&'a [u8]>
-    ensures { Reads (Asks CHECK_RANGES place.OffsetMinute numbers.old) input.now result numbers.new }
+    ensures { Reads (PlaceSyntax CHECK_RANGES place.OffsetMinute numbers.old) input.now result numbers.new }
 {
     let Some(sign) = numbers.offset_sign else {
         return Some(input);

@@ -6,7 +6,7 @@ mod time;
 mod utc_date_time;
 
 ghost use Rattle.time_values.specs.Calendar.{greatest_year};
-ghost use Rattle.time_record.specs.Resolution.{IsDated, IsMoment, IsPlain, parsed_seen};
+ghost use Rattle.time_record.specs.Resolution.{IsDated, IsMoment, IsPlain, erased_conversion};
 
 use crate::Parsed;
 use crate::parsed::try_from::date::{calendar_date, date_of_rows};
@@ -20,7 +20,7 @@ use time_values::{Date, OffsetDateTime, PlainDateTime};
 #[inline(always)]
 #[tactic(auto, unfolding(crate::specs::Resolution::IsDated))]
 fn date_of(parsed: &Parsed) -> Result<Date, TryFromParsed>
-    ensures { IsDated greatest_year parsed.now (parsed_seen result) }
+    ensures { IsDated greatest_year parsed.now (erased_conversion result) }
 {
     match fast::year_month_day(parsed) {
         Some((year, month, day)) => calendar_date(year, month, day),
@@ -32,7 +32,7 @@ fn date_of(parsed: &Parsed) -> Result<Date, TryFromParsed>
 impl TryFrom<Parsed> for PlainDateTime {
     type Error = TryFromParsed;
 
-    ghost try_from_gives = { λ p r. IsPlain greatest_year p (parsed_seen r) };
+    ghost try_from_gives = { λ p r. IsPlain greatest_year p (erased_conversion r) };
 
     #[inline(always)]
     fn try_from(parsed: Parsed) -> Result<PlainDateTime, TryFromParsed> {
@@ -51,7 +51,7 @@ impl TryFrom<Parsed> for PlainDateTime {
 impl TryFrom<Parsed> for OffsetDateTime {
     type Error = TryFromParsed;
 
-    ghost try_from_gives = { λ p r. IsMoment greatest_year p (parsed_seen r) };
+    ghost try_from_gives = { λ p r. IsMoment greatest_year p (erased_conversion r) };
 
     #[inline(always)]
     fn try_from(parsed: Parsed) -> Result<OffsetDateTime, TryFromParsed> {

@@ -5,7 +5,7 @@ ghost use Rattle.time_values.specs.Refusal.{refusal_of_description};
 ghost use Rattle.time_components.specs.Tree as steps_;
 ghost use Rattle.time_components.specs.Tree.{steps_shape, steps_trees, tree_at, first_of, optional, sequence, literal};
 ghost use Rattle.time_record.specs.Reading.{Answers, Counts, CountsAll};
-ghost use Rattle.time_record.specs.WalkSteps.{CountsFirst, Goes, IsFurther, leaf_refusal, RefusesLeaf};
+ghost use Rattle.time_record.specs.WalkSteps.{CountsFirst, Resumes, IsFurther, leaf_refusal, RefusesLeaf};
 ghost use Rattle.time_components.specs.declared.inspect.Step.{Step};
 ghost use Rattle.time_record.specs.Record.{Record};
 
@@ -87,7 +87,7 @@ fn read_steps<'s, 'a>(
     input: &'a [u8],
 ) -> (&'s [Step], &'a [u8], Option<ParseFromDescription>)
     ensures fewer { length result.0.now ≤ length steps.now }
-    ensures goes { Goes greatest_year (steps_trees steps.now) input.now parsed.old
+    ensures goes { Resumes greatest_year (steps_trees steps.now) input.now parsed.old
         (length steps.now - length result.0.now) (steps_trees result.0.now) result.1.now parsed.new }
     ensures fault { IfSome result.2 (λ fault. RefusesLeaf greatest_year (steps_trees result.0.now) result.1.now parsed.new
         (refusal_of_description fault)) }

@@ -1,5 +1,5 @@
 //! Items that were built by hand: their steps, and results that are equal to those of the items themselves.
-use super::alike::{is_same, values_of};
+use super::fused_steps::values_of;
 use super::parts::{DAY, HOUR, MINUTE, MONTH, SECOND, SUBSECOND, YEAR};
 use super::read;
 use std::process::Abort;
@@ -9,6 +9,7 @@ use time_components::{Group, Step, item};
 use time_parsing::Parsable;
 use time_preparing::{Prepared, Unprepared};
 use time_record::Parsed;
+use time_tests_records::same::same_record;
 
 type Item = BorrowedFormatItem<'static>;
 
@@ -44,7 +45,7 @@ fn has_equal_results<'a>(
     let walked = format.parse_into(text, &mut by_items);
     let read = prepared.parse_into(text, &mut at_once);
     walked == read
-        && is_same(&by_items, &at_once)
+        && same_record(&by_items, &at_once)
         && values_of(&format, text) == values_of(prepared, text)
 }
 

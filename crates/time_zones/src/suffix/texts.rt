@@ -186,7 +186,7 @@ pub(super) fn key_of(text: &[u8]) -> Option<&[u8]>
 }
 
 // The hours and minutes of that number of seconds, below a day.
-#[tactic(auto, unfolding(time_values::specs::Shown::fixed))]
+#[tactic(auto, unfolding(time_values::specs::DisplayTexts::fixed))]
 fn time_of(seconds: u32) -> Option<[u8; 5]>
     ensures some { IfSome result (λ text. IsHourMinute text seconds) }
     ensures none { IfNone result ((text : List ℕ) → IsHourMinute text seconds → ⊥) }

@@ -1,8 +1,11 @@
 // The formats by their names, and descriptions. This is the only table of formats: the page and the tests read it too.
 
-/** The names of the formats, with their numbers in the library. */
+/**
+ * The names of the formats, with their numbers in the library. That of RFC 3339 is the strict format's, which accepts `T`,
+ * `t` or a space between date and time.
+ */
 export const FORMATS = new Map([
-  ['rfc3339', 1],
+  ['rfc3339', 4],
   ['rfc2822', 2],
   ['iso8601', 3],
 ]);

@@ -1,6 +1,6 @@
 // The types of the package. The members of values have the names and ranges of Temporal's.
 
-/** The name of a format. */
+/** The name of a format. `rfc3339`, the default, accepts `T`, `t` or a space between date and time. */
 export type FormatName = 'rfc3339' | 'rfc2822' | 'iso8601';
 
 /** A prepared description, which `description` returns. */

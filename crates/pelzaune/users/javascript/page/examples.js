@@ -34,6 +34,7 @@ export const EXAMPLES = {
       ['1996-12-19T16:39Z', 'parse', 'no seconds'],
       ['1996-12-19T16:39:57-0800', 'parse', 'an offset without a colon'],
       ['1996/12/19T16:39:57Z', 'parse', 'other separators'],
+      ['1996-12-19_16:39:57Z', 'parse', 'an underscore for the T'],
       ['1996-12-19T16:39:57Z ', 'parse', 'a blank after it'],
     ],
   },

@@ -4,6 +4,7 @@ import { utf8 } from './checks.mjs';
 import { formOf } from './values.mjs';
 
 const INSUFFICIENT = 'the `Parsed` struct did not include enough information to construct the type';
+const SEPARATOR = "the 'separator' component could not be parsed";
 const TRAILING = 'unexpected trailing characters; the end of input was expected';
 
 // A text, its format, and the message, component, index and expectation of its error.
@@ -15,6 +16,9 @@ const TEXTS = [
   ['2021-01-02T03:04:05Z\n', 'rfc3339', TRAILING, null, 20, 'the end'],
   ['2021-01-02T03:04:05Z\u{1f550}', 'rfc3339', TRAILING, null, 20, 'the end'],
   ['2021/01-02T03:04:05Z', 'rfc3339', 'a character literal was not valid', null, 4, "'-'"],
+  ['1985-04-12923:20:50Z', 'rfc3339', SEPARATOR, 'separator', 10, 'separator'],
+  ['1985-04-12_23:20:50Z', 'rfc3339', SEPARATOR, 'separator', 10, 'separator'],
+  ['1985-13-12923:20:50Z', 'rfc3339', SEPARATOR, 'separator', 5, 'month'],
   ['2021-01-02', 'iso8601', INSUFFICIENT, null, null, null],
   ['02/Jan-2021', '%d/%b/%Y', 'a character literal was not valid', null, 6, "'/'"],
   ['02/Jan', '%d/%b/%Y', 'a character literal was not valid', null, 6, "'/'"],
@@ -60,6 +64,7 @@ function testLocate(p, checks) {
   checks.same(place('2021-01-02T03:04:05Z'), null, 'no error');
   checks.same(place('2021-02-30T03:04:05Z', 'rfc3339'), null, 'an impossible date');
   checks.same(place('2021-01-02 03', 'rfc3339'), [13, "':'", null], 'a short text');
+  checks.same(place('2021-01-02_03:04:05Z'), [10, 'separator', 'separator'], 'another separator');
   checks.same(place('\u{1f550}', p.description('\u{1f550}[year]')), [2, 'year', 'year'], 'after two units');
   checks.same(place('2021-13', 'iso8601'), null, 'a date of another kind');
   checks.same(p.locate('2021-13-02', 'iso8601').index, 7, 'the index of a date of another kind');

@@ -74,6 +74,7 @@ function testIterables(p, checks) {
 function testFormats(p, checks) {
   const log = p.description(LOG);
   checks.same(many(p, ['02/Jan/1970:00:00:00 +0000', '01/Jan/1970:00:00:00 -0001', 'x'], log), [[86400n * SECOND, 60n * SECOND, NO_COUNT], [2]], 'a log');
+  checks.same(many(p, [TEXT, '1970-01-01 00:00:01Z', '1970-01-01_00:00:01Z'], 'rfc3339'), [[SECOND, SECOND, NO_COUNT], [2]], 'RFC 3339');
   checks.same(many(p, ['Fri, 02 Jan 1970 00:00:00 GMT'], 'rfc2822'), [[86400n * SECOND], []], 'a mail date');
   checks.same(many(p, ['19700102T000000Z', '1970-01-02T00:00:00'], 'iso8601'), [[86400n * SECOND, NO_COUNT], [1]], 'ISO 8601');
   checks.same(many(p, ['1', '-1'], p.description('[unix_timestamp]')), [[SECOND, -SECOND], []], 'a timestamp');

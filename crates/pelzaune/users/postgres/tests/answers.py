@@ -6,6 +6,7 @@ TRAILING = "unexpected trailing characters; the end of input was expected"
 LITERAL = "a character literal was not valid"
 YEAR = "the 'year' component could not be parsed"
 MONTH = "the 'month' component could not be parsed"
+SEPARATOR = "the 'separator' component could not be parsed"
 MISSING = "the `Parsed` struct did not include enough information to construct the type"
 NO_YEAR = "the 'year' component has no text in that format"
 LOG = "%d/%b/%Y:%H:%M:%S %z"
@@ -87,6 +88,12 @@ ANSWERS = [
     # Berlin's local mean time was 53:28 ahead of UTC
     ("text('1880-01-01 00:00:00+00', '[hour]:[minute]:[second] [offset_hour sign:mandatory]:[offset_minute]:[offset_second]', 'Europe/Berlin')",
      "00:53:28 +00:53:28"),
+    # between date and time are `T`, `t` or a space
+    ("timestamptz('1985-04-12t23:20:50Z')", "1985-04-12 23:20:50+00"),
+    ("timestamptz('1985-04-12 23:20:50Z', 'RFC3339')", "1985-04-12 23:20:50+00"),
+    ("try_timestamptz('1985-04-12923:20:50Z')", "NULL"),
+    ("place('1985-04-12923:20:50Z')", f'(10,separator,"{SEPARATOR}")'),
+    ("place('1985-13-12923:20:50Z', 'rfc3339')", f'(5,month,"{SEPARATOR}")'),
     # names of formats are in any case
     ("date('1985-04-12T23:20:50.52Z', 'RFC3339')", "1985-04-12"),
     ("timestamptz('Fri, 21 Nov 1997 09:55:06 -0600', 'Rfc2822')", "1997-11-21 15:55:06+00"),
@@ -109,8 +116,9 @@ ERRORS = [
     ("date('2021-13-02T03:04:05Z')", "22007", MONTH, 'Expected month at index 5 of "2021-13-02T03:04:05Z".'),
     ("timestamptz('')", "22007", YEAR, 'Expected year at index 0 of "".'),
     ("timestamptz('infinity')", "22007", YEAR, 'Expected year at index 0 of "infinity".'),
-    ("date('2021-01-02', 'rfc3339')", "22007", "the 'separator' component could not be parsed",
-     'Expected separator at index 10 of "2021-01-02".'),
+    ("date('2021-01-02', 'rfc3339')", "22007", SEPARATOR, 'Expected separator at index 10 of "2021-01-02".'),
+    ("timestamptz('1985-04-12_23:20:50Z')", "22007", SEPARATOR, 'Expected separator at index 10 of "1985-04-12_23:20:50Z".'),
+    ("date('1985-13-12923:20:50Z', 'RFC3339')", "22007", MONTH, 'Expected month at index 5 of "1985-13-12923:20:50Z".'),
     ("timestamptz('2021-01-02T03:04:05Zx')", "22007", TRAILING,
      'Expected the end at index 20 of "2021-01-02T03:04:05Zx".'),
     ("date('2021-02-30', '[year]-[month]-[day]')", "22008", "day is out of range for the other components", 'The text is "2021-02-30".'),

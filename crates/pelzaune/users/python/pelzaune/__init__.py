@@ -13,8 +13,9 @@ datetime.date(2021, 1, 2)
 ...     print(error, "|", error.component)
 day is out of range for the other components | day
 
-A format is a member of `Format` (which are also attributes of the module), its name in any case, or a description: one of
-strftime if it contains a `%`, and otherwise one in brackets:
+A format is a member of `Format` (which are also attributes of the module), its name in any case, or a description.
+`Format.RFC3339`, the default, accepts `T`, `t` or a space between date and time. A description is one of strftime if it
+contains a `%`, and otherwise one in brackets:
 
 >>> pelzaune.parse("02/Jan/2021:03:04:05 +0000", "%d/%b/%Y:%H:%M:%S %z")
 datetime.datetime(2021, 1, 2, 3, 4, 5, tzinfo=datetime.timezone.utc)

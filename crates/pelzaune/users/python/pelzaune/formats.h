@@ -4,9 +4,10 @@
 
 #include "errors.h"
 
-/* The formats by their names, which are accepted in any case. The members of Format are these in upper case. */
+/* The formats by their names, which are accepted in any case. The members of Format are these in upper case, and count from
+ * 1. Their numbers in the library may be others. */
 static const struct { const char *name, *member; uint32_t number; } named_formats[] = {
-    { "rfc3339", "RFC3339", PELZAUNE_RFC3339 },
+    { "rfc3339", "RFC3339", PELZAUNE_RFC3339_STRICT },
     { "rfc2822", "RFC2822", PELZAUNE_RFC2822 },
     { "iso8601", "ISO8601", PELZAUNE_ISO8601 },
 };
@@ -57,13 +58,10 @@ static inline int number_of(PyObject *given, uint32_t *number)
 {
     int overflow = 0;
     if (PyBool_Check(given)) return refuse_format(PyExc_TypeError, PyUnicode_FromString("bool"));
-    long asked = PyLong_AsLongAndOverflow(given, &overflow);
-    for (size_t k = 0; !overflow && k < NAMED_FORMATS; k++)
-        if (asked == (long)named_formats[k].number) {
-            *number = named_formats[k].number;
-            return 1;
-        }
-    return refuse_format(PyExc_ValueError, PyObject_Repr(given));
+    long value = PyLong_AsLongAndOverflow(given, &overflow);
+    if (overflow || value < 1 || value > NAMED_FORMATS) return refuse_format(PyExc_ValueError, PyObject_Repr(given));
+    *number = named_formats[value - 1].number;
+    return 1;
 }
 
 /* The number of the format with that name, or 0. */
@@ -126,7 +124,7 @@ static PyObject *members_of_format(void)
 {
     PyObject *members = PyList_New(0);
     for (size_t k = 0; members && k < NAMED_FORMATS; k++) {
-        PyObject *member = Py_BuildValue("(sI)", named_formats[k].member, (unsigned)named_formats[k].number);
+        PyObject *member = Py_BuildValue("(sI)", named_formats[k].member, (unsigned)k + 1);
         if (!member || PyList_Append(members, member)) Py_CLEAR(members);
         Py_XDECREF(member);
     }
@@ -141,7 +139,8 @@ static PyObject *make_format_class(void)
     PyObject *given = base && members ? Py_BuildValue("(sO)", "Format", members) : NULL;
     PyObject *named = given ? Py_BuildValue("{s:s,s:s}", "module", "pelzaune", "qualname", "Format") : NULL;
     PyObject *made = named ? PyObject_Call(base, given, named) : NULL;
-    PyObject *doc = made ? PyUnicode_FromString("The formats with names. Their names are accepted too, in any case, as 'rfc3339'.") : NULL;
+    PyObject *doc = made ? PyUnicode_FromString("The formats with names. Their names are accepted too, in any case, as 'rfc3339'.\n\n"
+        "RFC3339 accepts T, t or a space between date and time.") : NULL;
     if (!doc || PyObject_SetAttrString(made, "__doc__", doc)) Py_CLEAR(made);
     Py_XDECREF(enums);
     Py_XDECREF(members);

@@ -140,7 +140,7 @@ static pelzaune_status nanoseconds_at(const question *asked, pelzaune_status sta
     pelzaune_local local;
     int32_t offset = asked->offset.fixed;
     int is_open = asked->held || asked->number == PELZAUNE_ISO8601; /* whether the format has texts without an offset */
-    if (is_open ? status != PELZAUNE_INSUFFICIENT : asked->number == PELZAUNE_RFC3339 && !is_of_offset(status)) return status;
+    if (is_open ? status != PELZAUNE_INSUFFICIENT : asked->number == PELZAUNE_RFC3339_STRICT && !is_of_offset(status)) return status;
     pelzaune_status other = local_of(asked, &local);
     if (other) return is_of_offset(status) && !is_of_offset(other) ? other : status;
     if (local.year < 1677 || local.year > 2262) return PELZAUNE_TOO_WIDE;

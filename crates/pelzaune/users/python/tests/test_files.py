@@ -86,6 +86,7 @@ class Offsets(unittest.TestCase):
             with self.assertRaises(pelzaune.ParseError) as caught:
                 pelzaune.parse_many(texts[2:], form, offset="+05:00")
             self.assertEqual(caught.exception.text_index, 0)
+        self.assertEqual(many(["1970-01-02_00:00:00"], "rfc3339", "none", "+05:00"), ([NONE], [0]))
         # Of two errors that of the month is the first.
         with self.assertRaisesRegex(pelzaune.ParseError, "text 0: .*month") as caught:
             pelzaune.parse_many(texts[2:], offset="+05:00")

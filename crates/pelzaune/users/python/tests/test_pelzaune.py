@@ -37,6 +37,22 @@ class Values(unittest.TestCase):
             self.assertEqual((got, got.utcoffset()), (when, when.utcoffset()))
         self.assertIs(pelzaune.parse("2021-01-02T03:04:05Z").tzinfo, UTC)
 
+    def test_separators(self):
+        """By RFC 3339, `T`, `t` or a space is between date and time."""
+        when = datetime.datetime(1985, 4, 12, 23, 20, 50, tzinfo=UTC)
+        for form in (pelzaune.RFC3339, "rfc3339", "RFC3339"):
+            for separator in "Tt ":
+                text = f"1985-04-12{separator}23:20:50Z"
+                self.assertEqual((pelzaune.parse(text, form), pelzaune.column(text, form).tolist()), (when, [int(when.timestamp()) * 10**9]))
+            for separator in "9_-:\t":
+                text = f"1985-04-12{separator}23:20:50Z"
+                for call in (pelzaune.parse, pelzaune.parse_date, pelzaune.parse_time, pelzaune.parse_parts, pelzaune.unix_ns):
+                    with self.assertRaises(pelzaune.ParseError) as caught:
+                        call(text, form)
+                    self.assertEqual((caught.exception.component, caught.exception.index), ("separator", 10))
+                self.assertEqual(pelzaune.column(text, form).tolist(), [pelzaune.NO_COUNT])
+                self.assertEqual([it.tolist() for it in pelzaune.parse_many([text], form, "none", "+00:00")], [[pelzaune.NO_COUNT], [0]])
+
     def test_iso8601(self):
         self.assertEqual(pelzaune.parse("20210102T030405,25", pelzaune.ISO8601), datetime.datetime(2021, 1, 2, 3, 4, 5, 250000))
         self.assertEqual(pelzaune.parse(format=pelzaune.ISO8601, text="2020-W53-6T03Z"), datetime.datetime(2021, 1, 2, 3, tzinfo=UTC))
@@ -210,6 +226,7 @@ class Refusals(unittest.TestCase):
             self.assertEqual(index("2021-13-02T03:04:05Z", call=call), 5)
             self.assertEqual(index("2021-01-02T03:04:05Zx", call=call), 20)
         self.assertEqual(index(""), 0)
+        self.assertEqual(index("1985-13-12923:20:50Z"), 5)
         self.assertEqual(index("02/Jan-2021", "%d/%b/%Y"), 6)
         self.assertEqual(index(b"02/Jan", pelzaune.Description("%d/%b/%Y")), 6)
         self.assertEqual(index("2021-02", "[year]-[month]-[day]"), 7)

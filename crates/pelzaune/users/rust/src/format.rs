@@ -15,8 +15,10 @@ use std::str::FromStr;
 /// ```
 #[derive(Clone, Copy, Debug)]
 pub enum Format<'a> {
-    /// RFC 3339, section 5.6, as `1985-04-12T23:20:50.52Z`.
+    /// RFC 3339, section 5.6, as `1985-04-12T23:20:50.52Z`. As in the crate `time`, any byte may be between date and time.
     Rfc3339,
+    /// RFC 3339 with only `T`, `t` or a space between date and time. In Python, JavaScript and SQL this is `rfc3339`.
+    Rfc3339Strict,
     /// Mail dates, RFC 2822, section 3.3, as `Sat, 02 Jan 2021 03:04:05 +0000`.
     Rfc2822,
     /// ISO 8601, as `20210102T0304Z`, `2020-W53-6` or `2020-366`.
@@ -25,14 +27,15 @@ pub enum Format<'a> {
     Described(&'a Description<'a>),
 }
 
-// The formats with names, which are those of all interfaces of the library.
-const NAMED: [Format<'static>; 3] = [Format::Rfc3339, Format::Rfc2822, Format::Iso8601];
+// The formats with names.
+const NAMED: [Format<'static>; 4] = [Format::Rfc3339, Format::Rfc3339Strict, Format::Rfc2822, Format::Iso8601];
 
 impl Format<'_> {
     // The name of a format, and its number in the library.
     fn entry(self) -> Option<(&'static str, u32)> {
         match self {
             Format::Rfc3339 => Some(("rfc3339", 1)),
+            Format::Rfc3339Strict => Some(("rfc3339-strict", 4)),
             Format::Rfc2822 => Some(("rfc2822", 2)),
             Format::Iso8601 => Some(("iso8601", 3)),
             Format::Described(_) => None,

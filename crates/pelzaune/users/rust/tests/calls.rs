@@ -28,10 +28,31 @@ fn refusals() {
     assert_eq!((error.kind(), error.component()), (Kind::Trailing, None));
     let error = parse_nanoseconds("2262-04-11T23:47:16.854775808Z", Format::Rfc3339).unwrap_err();
     assert_eq!((error.kind(), error.component()), (Kind::TooWide, None));
-    for format in [Format::Rfc3339, Format::Rfc2822, Format::Iso8601] {
+    for format in [Format::Rfc3339, Format::Rfc3339Strict, Format::Rfc2822, Format::Iso8601] {
         assert!(Moment::parse("", format).is_err());
         assert!(Moment::parse([0xff, 0x00], format).is_err());
     }
+}
+
+#[test]
+fn separators() {
+    for separator in ["T", "t", " "] {
+        let text = format!("1985-04-12{separator}23:20:50Z");
+        let strict = Moment::parse(&text, Format::Rfc3339Strict).unwrap();
+        assert_eq!(Ok(strict), Moment::parse(&text, Format::Rfc3339));
+        assert_eq!(strict.text(Format::Rfc3339Strict).unwrap().as_str(), "1985-04-12T23:20:50Z");
+    }
+    for (text, index, component) in [
+        ("1985-04-12923:20:50Z", 10, "separator"),
+        ("1985-04-12_23:20:50Z", 10, "separator"),
+        ("1985-13-12923:20:50Z", 5, "month"),
+    ] {
+        let error = Date::parse(text, Format::Rfc3339Strict).unwrap_err();
+        assert_eq!((error.kind(), error.component().as_deref()), (Kind::InvalidComponent, Some(component)));
+        let place = locate(text, Format::Rfc3339Strict).unwrap();
+        assert_eq!((place.index, place.component().as_deref()), (index, Some(component)));
+    }
+    assert!(Moment::parse("1985-04-12923:20:50Z", Format::Rfc3339).is_ok());
 }
 
 #[test]
@@ -89,13 +110,13 @@ fn texts_of_the_standard_formats() {
     let l: Local = "20210102T030405".parse().unwrap();
     assert_eq!((l.year, l.month, l.day, l.hour, l.minute, l.second), (2021, 1, 2, 3, 4, 5));
     assert_eq!("1985-04-12".parse::<Moment>().unwrap_err().kind(), Kind::InvalidComponent);
-    for (name, number) in [("rfc3339", 1), ("RFC3339", 1), ("Rfc2822", 2), ("ISO8601", 3)] {
+    for (name, number) in [("rfc3339", 1), ("RFC3339", 1), ("RFC3339-Strict", 2), ("Rfc2822", 3), ("ISO8601", 4)] {
         let format: Format = name.parse().unwrap();
-        assert_eq!(format.name(), Some(["rfc3339", "rfc2822", "iso8601"][number - 1]));
+        assert_eq!(format.name(), Some(["rfc3339", "rfc3339-strict", "rfc2822", "iso8601"][number - 1]));
     }
     for name in ["", "rfc", "rfc3339 ", "iso-8601", "[year]"] {
         let error = name.parse::<Format>().unwrap_err();
-        assert_eq!(error.to_string(), "unknown format, expected one of `rfc3339` `rfc2822` `iso8601`");
+        assert_eq!(error.to_string(), "unknown format, expected one of `rfc3339` `rfc3339-strict` `rfc2822` `iso8601`");
     }
 }
 

@@ -4,15 +4,15 @@
 ghost use Rattle.std.specs.Prelude.{IfSome, Ok, false};
 ghost use Rattle.time_values.specs.Calendar.{greatest_year};
 ghost use Rattle.time_readers.specs.Direct.{RefusesRfc2822};
-ghost use Rattle.time_readers.specs.Readers.{Stand};
-ghost use Rattle.time_readers.specs.Rfc2822.{Asks, day_places};
+ghost use Rattle.time_readers.specs.Readers.{MatchesPlaces};
+ghost use Rattle.time_readers.specs.Rfc2822.{PlaceSyntax, day_places};
 ghost use Rattle.time_parsing.specs.Outcome.{direct};
 ghost use Rattle.time_parsing.specs.Rfc2822.{Reads, Refuses};
 ghost use Rattle.pelzaune_ffi.specs.Results.{of_moment};
 
 use super::moment_from;
 use time_readers::combinator::one_or_two_digits;
-use time_readers::direct::said_rfc2822;
+use time_readers::direct::rfc2822_numbers;
 use time_readers::rfc2822::Numbers;
 use time_readers::rfc2822::fast::{offset, to_offset, weekday_name};
 use time_values::OffsetDateTime;
@@ -20,7 +20,7 @@ use time_values::OffsetDateTime;
 // The weekday's name, a capital and two small letters, and the day. `None`: not this form.
 #[inline(always)]
 fn to_day<'a>(text: &'a [u8], numbers: &mut Numbers) -> Option<&'a [u8]>
-    ensures { IfSome result (λ rest. Stand (Asks false) day_places numbers.old text.now rest.now numbers.new) }
+    ensures { IfSome result (λ rest. MatchesPlaces (PlaceSyntax false) day_places numbers.old text.now rest.now numbers.new) }
 {
     let rest = weekday_name(text, numbers)?;
     let day = one_or_two_digits(rest)?;
@@ -42,5 +42,5 @@ pub(in crate::moments) fn moment(text: &[u8]) -> Option<OffsetDateTime>
     let rest = to_day(text, &mut numbers)?;
     let rest = to_offset::<false>(rest, &mut numbers)?;
     offset::<false>(rest, &mut numbers)?;
-    moment_from(said_rfc2822(numbers))
+    moment_from(rfc2822_numbers(numbers))
 }

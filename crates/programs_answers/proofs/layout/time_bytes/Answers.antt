@@ -1,5 +1,5 @@
 use Rattle.std.proofs.Common.{refl}
-use Rattle.time_values.specs.Shown.{fixed}
+use Rattle.time_values.specs.DisplayTexts.{fixed}
 use Rattle.programs_answers.proofs.layout.time_bytes.Goals as goal
 
 pub returns : goal.returns

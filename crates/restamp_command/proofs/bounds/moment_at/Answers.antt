@@ -14,4 +14,4 @@ pub returns-in-Err : goal.returns-in-Err
 returns-in-Err c =
     let fits = c.ranges.nanos in
     let refused = Constructs-Err (timestamp_refusal greatest_year c.args.nanos) _ c.in-Err.field-0 (simp to_z-of_z at c.in-Err.ensures) in
-    (refl, no_date greatest_year c.args.nanos _ refused)
+    (refl, no_date c.args.nanos _ refused)

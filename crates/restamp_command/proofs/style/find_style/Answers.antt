@@ -5,5 +5,5 @@ use Rattle.restamp_command.proofs.style.find_style.Goals as goal
 
 pub returns-in-Err-find_suffix : goal.returns-in-Err-find_suffix
 returns-in-Err-find_suffix g c =
-    suffix_fault greatest_year c.args.options.now c.in-Ok-parse_zone.zone (erased_fault c.in-Err-find_suffix.fault)
+    suffix_fault c.args.options.now c.in-Ok-parse_zone.zone (erased_fault c.in-Err-find_suffix.fault)
     (rw c.zone_of-name.ensures at c.in-Ok-parse_zone.ensures) c.in-Err-find_suffix.ensures

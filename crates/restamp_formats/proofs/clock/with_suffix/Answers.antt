@@ -18,8 +18,8 @@ returns-in-Ok-clause-said g c =
     let read = c.read_suffix-suffix in
     read-checked c.args.zones.now c.args.is_prefix c.args.text.now c.args.front read.result _
     (take_rest c.args.text.now c.args.front.length) read.ensures.within read.ensures.says read.ensures.longest
-    c.tells_offset-tells_offset.result (Ok c.in-Ok.field-0) (sym c.has_tail.ensures ∙ c.if-has_tail.false)
-    c.tells_offset-tells_offset.ensures c.in-Ok.ensures
+    c.has_local_offset-has_local_offset.result (Ok c.in-Ok.field-0) (sym c.has_tail.ensures ∙ c.if-has_tail.false)
+    c.has_local_offset-has_local_offset.ensures c.in-Ok.ensures
 
 pub returns-in-Err-clause-said : goal.returns-in-Err-clause-said
 returns-in-Err-clause-said g c =
@@ -28,6 +28,6 @@ returns-in-Err-clause-said g c =
       c.from_reason-in-Err.ensures,
       read-checked c.args.zones.now c.args.is_prefix c.args.text.now c.args.front read.result _
           (take_rest c.args.text.now c.args.front.length) read.ensures.within read.ensures.says read.ensures.longest
-          c.tells_offset-tells_offset.result (Err c.in-Err.fault) (sym c.has_tail.ensures ∙ c.if-has_tail.false)
-          c.tells_offset-tells_offset.ensures c.in-Err.ensures,
+          c.has_local_offset-has_local_offset.result (Err c.in-Err.fault) (sym c.has_tail.ensures ∙ c.if-has_tail.false)
+          c.has_local_offset-has_local_offset.ensures c.in-Err.ensures,
     )

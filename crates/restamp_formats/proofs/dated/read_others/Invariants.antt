@@ -6,5 +6,5 @@ use Rattle.restamp_formats.proofs.dated.read_others.Given as goal
 abbrev pub invariant-loop-reading : goal.invariant-loop-reading
 invariant-loop-reading g l =
     (reason : Reason) (result : Result Match Reason)
-    → AreTried greatest_year (drop l.reading-index l.readings) l.is_prefix l.text l.defaults reason result
-    → AreTried greatest_year l.readings l.is_prefix l.text l.defaults reason result
+    → AreTried (drop l.reading-index l.readings) l.is_prefix l.text l.defaults reason result
+    → AreTried l.readings l.is_prefix l.text l.defaults reason result

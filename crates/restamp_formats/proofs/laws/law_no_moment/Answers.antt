@@ -3,4 +3,4 @@ use Rattle.restamp_formats.proofs.MissingFieldMoments.{says_no_moment}
 use Rattle.restamp_formats.proofs.laws.law_no_moment.Goals as goal
 
 pub returns : goal.returns
-returns c = says_no_moment greatest_year
+returns c = says_no_moment

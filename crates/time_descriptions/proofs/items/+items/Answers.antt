@@ -5,7 +5,7 @@ use Rattle.time_components.specs.declared.inspect.Group.{Group}
 use Rattle.time_components.specs.declared.inspect.Group.TheVariants as groups
 use Rattle.time_components.specs.declared.inspect.Step.{Step}
 use Rattle.time_components.specs.declared.inspect.Step.TheVariants as step
-use Rattle.time_descriptions.specs.Grammar.{item_begun, ends, item, list_by}
+use Rattle.time_descriptions.specs.Grammar.{item_step_count, ends, item, list_by}
 use Rattle.time_descriptions.specs.Items.{flat, group, items_of, steps_of}
 use Rattle.time_descriptions.proofs.Adding.{at_end, at_fault, at_item, at_last, at_list, at_list_fault, before_none, closed_length, closed_steps, deeper, fault_on, flat_one, group_ends, more_bytes, next_steps, no_room, not_ended, not_inside, not_opened, plain_item, shorter_of, too_deep, deep_begun, deeper_begun, group_not_opened, group_opened, lists_at_fault, lists_at_last, lists_at_least, lists_at_next, none_at_end, plain_begun, some_at_fault, some_at_item, some_at_least}
 use Rattle.time_descriptions.proofs.items.+items.Goals as goal
@@ -13,14 +13,14 @@ use Rattle.time_descriptions.proofs.items.+items.Goals as goal
 pub add_group-returns-in-Err : goal.add_group-returns-in-Err
 add_group-returns-in-Err g t c =
     let read = item c.args.version c.args.depth true in
-    let none = group_not_opened read (item_begun c.args.version c.args.depth true) c.args.opening c.args.group c.args.text.now c.in-Err.fault
+    let none = group_not_opened read (item_step_count c.args.version c.args.depth true) c.args.opening c.args.group c.args.text.now c.in-Err.fault
     c.in-Err.ensures.reads in
     inr (not_opened read c.args.opening c.args.group c.args.text.now c.in-Err.fault c.in-Err.ensures.reads, omega (arith, none))
 
 pub add_group-returns-in_err-index-in-Ok : goal.add_group-returns-in_err-index-in-Ok
 add_group-returns-in_err-index-in-Ok g t c =
     let e = c.in_err-index-in-Ok.ensures.err in
-    let some = group_opened (item c.args.version c.args.depth true) (item_begun c.args.version c.args.depth true) c.args.opening c.args.group
+    let some = group_opened (item c.args.version c.args.depth true) (item_step_count c.args.version c.args.depth true) c.args.opening c.args.group
     c.args.text.now c.in-Ok.inside.now c.in-Ok.ensures.reads in
     no_room steps_of g.row.N _ _ _ _ c.from_residual.result _ c.from_residual.ensures e.0 (omega (arith, e.1, c.in-Ok.ensures.shorter))
     (omega (arith, e.1, some))
@@ -33,7 +33,7 @@ add_group-returns-in-Err-add_inside g t c =
     let h : length c.open_group.new.steps.items + (length c.in-Ok.inside.now + 1) ≤ length c.args.steps.now.items + length c.args.text.now =
     omega (arith, c.in-Ok.ensures.shorter, more) in
     let read = item c.args.version c.args.depth true in
-    let some = group_opened read (item_begun c.args.version c.args.depth true) c.args.opening c.args.group c.args.text.now c.in-Ok.inside.now
+    let some = group_opened read (item_step_count c.args.version c.args.depth true) c.args.opening c.args.group c.args.text.now c.in-Ok.inside.now
     c.in-Ok.ensures.reads in
     fault_on _ _ _ _ _ _ _ _ c.in-Err-add_inside.ensures h
     (λ l. omega (arith, l, some, more))
@@ -50,7 +50,7 @@ add_group-returns-in-Ok-add_inside g t c =
     let read = item c.args.version c.args.depth true in
     let more : length c.open_group.new.steps.items ≡ length c.args.steps.now.items + 1 =
     omega (arith, ap length opened.1, length-append c.args.steps.now.items (step.Group c.args.group 0 ∷ [])) in
-    let some = group_opened read (item_begun c.args.version c.args.depth true) c.args.opening c.args.group c.args.text.now c.in-Ok.inside.now
+    let some = group_opened read (item_step_count c.args.version c.args.depth true) c.args.opening c.args.group c.args.text.now c.in-Ok.inside.now
     c.in-Ok.ensures.reads in
     let room : length mid + length c.in-Ok-add_inside.rest.now ≤ length (c.args.steps.now.items ++ step.Group c.args.group 0 ∷ []) +
     (length c.in-Ok.inside.now + 1) = omega (arith, added.3, ap length opened.1) in
@@ -113,7 +113,7 @@ add_items-loop-version-preserved g t c =
     let on : ends c.args.nested c.loop-version.rest.now ≡ false = grind (arith, common_steps) in
     let h : i.most ≡ suc (i.most - 1) = omega (arith, i.within, c.in-Ok.ensures.shorter) in
     let read = item c.args.version c.args.depth c.args.nested in
-    let begun = item_begun c.args.version c.args.depth c.args.nested in
+    let begun = item_step_count c.args.version c.args.depth c.args.nested in
     let one = some_at_item read begun c.args.nested c.loop-version.rest.now i.most (i.most - 1) added.0 c.in-Ok.unread.now h on added.1 in
     let before : length c.loop-version.steps.items ≡ length c.args.steps.now.items + length (flat i.front) =
     ap length i.steps ∙ length-append c.args.steps.now.items (flat i.front) in
@@ -136,7 +136,7 @@ add_items-returns-in-Err-clause-adds g t c =
     let on : ends c.args.nested c.loop-version.rest.now ≡ false = grind (arith, common_steps) in
     let some : 0 < i.most = omega (arith, i.within, not_ended c.args.nested c.loop-version.rest.now on) in
     let read = item c.args.version c.args.depth c.args.nested in
-    let begun = item_begun c.args.version c.args.depth c.args.nested in
+    let begun = item_step_count c.args.version c.args.depth c.args.nested in
     let before : length c.loop-version.steps.items ≡ length c.args.steps.now.items + length (flat i.front) =
     ap length i.steps ∙ length-append c.args.steps.now.items (flat i.front) in
     let least = some_at_least read begun c.args.nested c.loop-version.rest.now i.most some on in
@@ -159,7 +159,7 @@ add_items-returns-clause-adds g t c =
     let i = c.loop-version.invariant in
     let on : ends c.args.nested c.loop-version.rest.now ≡ true = grind (arith, common_steps) in
     let read = item c.args.version c.args.depth c.args.nested in
-    let begun = item_begun c.args.version c.args.depth c.args.nested in
+    let begun = item_step_count c.args.version c.args.depth c.args.nested in
     let none = none_at_end read begun c.args.nested c.loop-version.rest.now i.most on in (
       i.front,
       at_end read c.args.nested c.loop-version.rest.now _ i.front i.most i.told on,
@@ -189,7 +189,7 @@ add_lists-returns-in_err-index g t c =
     let some : 0 < i.most = omega (arith, i.within) in
     let before : length c.loop-index.steps.items ≡ length c.args.steps.now.items + length (flat i.front) =
     ap length i.steps ∙ length-append c.args.steps.now.items (flat i.front) in
-    let least = lists_at_least (item c.args.version c.args.depth true) (item_begun c.args.version c.args.depth true) c.args.opening
+    let least = lists_at_least (item c.args.version c.args.depth true) (item_step_count c.args.version c.args.depth true) c.args.opening
     c.loop-index.inside.now i.most some in
     no_room flat g.row.N _ _ _ _ c.from_residual.result _ c.from_residual.ensures e.0 (omega (arith, e.1, i.room))
     (omega (arith, e.1, before, i.begun, i.fits, least))
@@ -200,7 +200,7 @@ add_lists-returns-in-Err g t c =
     let opened = c.in_ok-index.ensures.ok in
     let some : 0 < i.most = omega (arith, i.within) in
     let read = item c.args.version c.args.depth true in
-    let begun = item_begun c.args.version c.args.depth true in
+    let begun = item_step_count c.args.version c.args.depth true in
     let before : length c.loop-index.steps.items ≡ length c.args.steps.now.items + length (flat i.front) =
     ap length i.steps ∙ length-append c.args.steps.now.items (flat i.front) in
     let more : length c.open_group.new.steps.items ≡ length c.loop-index.steps.items + 1 =
@@ -233,7 +233,7 @@ add_lists-loop-index-preserved g t c =
     let mid : List Step = c.add_list.new.steps.items in
     let new : List Step = c.close_group.new.steps.items in
     let read = item c.args.version c.args.depth true in
-    let begun = item_begun c.args.version c.args.depth true in
+    let begun = item_step_count c.args.version c.args.depth true in
     let h : i.most ≡ suc (i.most - 1) = omega (arith, i.within) in
     let m = added.2 ∙ ap (λ (ss : List Step). ss ++ flat added.0) opened.1 in
     let s = c.close_group.ensures ∙ ap (λ (k : ℕ). slice_set mid k (step.Group groups.List (length mid - k - 1))) opened.0 in
@@ -271,7 +271,7 @@ add_lists-returns-in-None g t c =
     let mid : List Step = c.add_list.new.steps.items in
     let new : List Step = c.close_group.new.steps.items in
     let read = item c.args.version c.args.depth true in
-    let begun = item_begun c.args.version c.args.depth true in
+    let begun = item_step_count c.args.version c.args.depth true in
     let some : 0 < i.most = omega (arith, i.within) in
     let m = added.2 ∙ ap (λ (ss : List Step). ss ++ flat added.0) opened.1 in
     let s = c.close_group.ensures ∙ ap (λ (k : ℕ). slice_set mid k (step.Group groups.List (length mid - k - 1))) opened.0 in

@@ -1,5 +1,5 @@
 use Rattle.std.proofs.Common.{◌≡◌, ℕ, suc, ◌+◌, ◌-◌, ◌*◌, ◌<◌, ◌≤◌, List, ◌++◌, length, true}
-use Rattle.time_descriptions.specs.Grammar.{item_begun, items_begun, lists_begun, before, item, items_by, list_by, lists_by}
+use Rattle.time_descriptions.specs.Grammar.{item_step_count, items_step_count, lists_step_count, before, item, items_by, list_by, lists_by}
 use Rattle.time_descriptions.specs.Items.{Item, flat}
 use Rattle.time_descriptions.proofs.items.+items.Given as goal
 
@@ -34,8 +34,8 @@ invariant-add_items-loop-version g l =
           items_by (item l.version l.depth l.nested) (length l.text) l.nested l.text
           ≡ before front (items_by (item l.version l.depth l.nested) most l.nested l.rest);
       begun :
-          items_begun (item l.version l.depth l.nested) (item_begun l.version l.depth l.nested) (length l.text) l.nested l.text
-          ≡ length (flat front) + items_begun (item l.version l.depth l.nested) (item_begun l.version l.depth l.nested) most l.nested l.rest;
+          items_step_count (item l.version l.depth l.nested) (item_step_count l.version l.depth l.nested) (length l.text) l.nested l.text
+          ≡ length (flat front) + items_step_count (item l.version l.depth l.nested) (item_step_count l.version l.depth l.nested) most l.nested l.rest;
       fits : length (flat front) ≤ g.row.N - length l.fn.steps.items;
     }
 
@@ -55,8 +55,8 @@ invariant-add_lists-loop-index g l =
           lists_by (list_by (item l.version l.depth true) l.opening) (suc (length l.text)) l.text
           ≡ before front (lists_by (list_by (item l.version l.depth true) l.opening) most l.inside);
       begun :
-          lists_begun (item l.version l.depth true) (item_begun l.version l.depth true) l.opening (suc (length l.text)) l.text
-          ≡ length (flat front) + lists_begun (item l.version l.depth true) (item_begun l.version l.depth true) l.opening most l.inside;
+          lists_step_count (item l.version l.depth true) (item_step_count l.version l.depth true) l.opening (suc (length l.text)) l.text
+          ≡ length (flat front) + lists_step_count (item l.version l.depth true) (item_step_count l.version l.depth true) l.opening most l.inside;
       fits : length (flat front) ≤ g.row.N - length l.fn.steps.items;
     }
 

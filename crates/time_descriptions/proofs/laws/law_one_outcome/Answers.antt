@@ -5,7 +5,7 @@ use Rattle.time_components.specs.Tree.{Tree}
 use Rattle.time_descriptions.specs.declared.error.Fault.{Fault}
 use Rattle.time_descriptions.specs.declared.leaf.Version.{Version}
 use Rattle.time_descriptions.specs.Components.{Read}
-use Rattle.time_descriptions.specs.Grammar.{TakesAtMost, Describes}
+use Rattle.time_descriptions.specs.Grammar.{StartsAtMost, Describes}
 use Rattle.time_descriptions.specs.Description.{IsRefused}
 use Rattle.time_descriptions.specs.Items.{Item}
 use Rattle.time_descriptions.specs.Refusal.{Refusal, refusal_at}
@@ -23,7 +23,7 @@ one_way n version text r s (inr x) (inl y) = absurd (omega (arith, x.3, y.2))
 one_way n version text r s (inr x) (inr y) = x.2 ∙ ap (refusal_at text) (ap (fault_in x.0) (sym x.1 ∙ y.1)) ∙ sym y.2
 
 no_tree : (n : ℕ) (version : Version) (text : List ℕ) (r : Refusal) → IsRefused n version text r → (tree : Tree)
-    → Describes version text tree → TakesAtMost n version text → ⊥
+    → Describes version text tree → StartsAtMost n version text → ⊥
 unfolding Describes
 no_tree n version text r (inl x) tree d f = omega (arith, x.2, f)
 no_tree n version text r (inr x) tree d f = false≢true (ap is_ok (sym x.1 ∙ d.1))

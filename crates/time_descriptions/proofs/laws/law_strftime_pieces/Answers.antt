@@ -4,7 +4,6 @@ use Rattle.std.specs.Prelude.{◌==◌, is_some, option_and_then, if◌then◌el
 use Rattle.std.proofs.Common.{◌≡◌, ℕ, zero, suc, ◌+◌, ◌≤◌, List, [], ◌∷◌, ◌++◌, length, map, Bool, true, false, Option, Some, None, Result, Ok, refl, ap, sym, subst, ◌∙◌, arith}
 use Rattle.std.proofs.lemmas.Bool.{eqb-true, false≢true}
 use Rattle.time_digits.specs.declared.Padding.{Padding}
-use Rattle.time_digits.specs.declared.Padding.TheVariants as padding
 use Rattle.time_components.specs.declared.format_description.Component.{Component}
 use Rattle.time_components.specs.Tree.{Tree, sequence}
 use Rattle.time_descriptions.specs.declared.error.Fault.{Fault}
@@ -12,7 +11,9 @@ use Rattle.time_descriptions.specs.declared.error.Fault.TheVariants as fault
 use Rattle.time_descriptions.specs.Components.{◌>>=◌, or_fault}
 use Rattle.time_descriptions.specs.Grammar.{by_option}
 use Rattle.time_descriptions.specs.Items.{Item, literal, component, items_of, trees_of}
-use Rattle.time_descriptions.specs.Strftime.{components, item_of_byte, meaning, offset, row_of, shorthands, Found, conversion, flag_padding, flagged, followed, letter_fault, padded, started, strftime, with_padding, DescribesStrftime}
+use Rattle.time_descriptions.specs.Strftime.{Rows, components, item_of_byte, meaning, offset, colon_offset, pointed_fraction, flags, flagged_meaning, row_of, shorthands, Found, conversion, flagged, followed, letter_fault, padded, started, strftime, with_padding, DescribesStrftime}
+use Rattle.time_descriptions.specs.declared.letters.Flag.{Flag}
+use Rattle.time_descriptions.specs.declared.letters.Flag.TheVariants as flag
 use Rattle.time_descriptions.specs.Description.{Piece, byte, conversion as conversion_piece, flagged as flagged_piece, all_items, piece_items, piece_text, HasPieces}
 use Rattle.time_descriptions.proofs.laws.law_strftime_pieces.Goals as goal
 
@@ -29,7 +30,7 @@ some_same : {A : Type 0} (x y : A) → Some x ≡ Some y → x ≡ y
 unfolding some_in
 some_same x y e = ap (some_in x) e
 
--- A letter whose component has a padding has a meaning; a flag has no meaning as a letter.
+-- A letter with a meaning after a flag has one without it; a flag has no meaning as a letter.
 
 padded_means : (z : Bool) (s : Option (List Item)) (p : Padding) (c : Component) (o : Option Component)
     → option_and_then (with_padding p) o ≡ Some c
@@ -38,13 +39,42 @@ padded_means true s p c o e = (offset, refl)
 padded_means false s p c (Some d) e = (component d ∷ [], refl)
 padded_means false s p c None e = absurd (none_some c e)
 
-flag_means : (b : ℕ) (p : Padding) (x y z : Bool) → (b == 45) ≡ x → (b == 95) ≡ y → (b == 48) ≡ z
-    → (if x then Some padding.None else (if y then Some padding.Space else (if z then Some padding.Zero else None))) ≡ Some p → meaning b ≡ None
+padded_some : (p : Padding) (b : ℕ) (is : List Item) (q : Option Component) → padded p b ≡ q
+    → option_map (λ c. component c ∷ []) q ≡ Some is → (js : List Item) × (meaning b ≡ Some js)
+padded_some p b is None e h = absurd (none_some is h)
+padded_some p b is (Some c) e h =
+    padded_means (b == 122) (option_map (map item_of_byte) (row_of shorthands b)) p c (row_of components b) e
+
+only_means : (b n : ℕ) (t : Bool) (x is js : List Item) → (b == n) ≡ t → (if t then Some x else None) ≡ Some is → meaning n ≡ Some js
+    → (ks : List Item) × (meaning b ≡ Some ks)
+only_means b n true x is js e h m = (js, subst (λ (k : ℕ). meaning k ≡ Some js) (sym (eqb-true b n e)) m)
+only_means b n false x is js e h m = absurd (none_some is h)
+
+flagged_means : (f : Flag) (b : ℕ) (is : List Item) → flagged_meaning f b ≡ Some is → (js : List Item) × (meaning b ≡ Some js)
 unfolding row_of components shorthands
-flag_means b p true y z e f g h = subst (λ (n : ℕ). meaning n ≡ None) (sym (eqb-true b 45 e)) refl
-flag_means b p false true z e f g h = subst (λ (n : ℕ). meaning n ≡ None) (sym (eqb-true b 95 f)) refl
-flag_means b p false false true e f g h = subst (λ (n : ℕ). meaning n ≡ None) (sym (eqb-true b 48 g)) refl
-flag_means b p false false false e f g h = absurd (none_some p h)
+flagged_means (flag.Padding p) b is h = padded_some p b is (padded p b) refl h
+flagged_means (flag.Digits d) b is h = only_means b 102 (b == 102) _ is _ refl h refl
+flagged_means flag.Point b is h = only_means b 102 (b == 102) pointed_fraction is _ refl h refl
+flagged_means flag.Colon b is h = only_means b 122 (b == 122) colon_offset is offset refl h refl
+
+-- no letter of these rows has a meaning
+abbrev HaveNoMeaning : Rows Flag → Type 0
+HaveNoMeaning [] = Unit {0}
+HaveNoMeaning (r ∷ rows) = (meaning r.0 ≡ None) × HaveNoMeaning rows
+
+row_means : (r : ℕ × Flag) (x : Option Flag) (b : ℕ) (f : Flag) (t : Bool) → (r.0 == b) ≡ t → meaning r.0 ≡ None
+    → (x ≡ Some f → meaning b ≡ None) → (if t then Some r.1 else x) ≡ Some f → meaning b ≡ None
+row_means r x b f true e n other h = subst (λ (k : ℕ). meaning k ≡ None) (eqb-true r.0 b e) n
+row_means r x b f false e n other h = other h
+
+rows_mean : (rows : Rows Flag) (b : ℕ) (f : Flag) → HaveNoMeaning rows → row_of rows b ≡ Some f → meaning b ≡ None
+unfolding row_of
+rows_mean [] b f n h = absurd (none_some f h)
+rows_mean (r ∷ rows) b f n h = row_means r (row_of rows b) b f (r.0 == b) refl n.0 (rows_mean rows b f n.1) h
+
+flag_means : (b : ℕ) (f : Flag) → row_of flags b ≡ Some f → meaning b ≡ None
+unfolding row_of flags components shorthands
+flag_means b f h = rows_mean flags b f (refl, (refl, (refl, (refl, (refl, (refl, (refl, (refl, tt)))))))) h
 
 -- A piece at the start of a text parses as its items.
 
@@ -53,35 +83,28 @@ byte_read : (t : Bool) (b : ℕ) (here : List Item) (x y : Found) → (if t then
 byte_read true b here x y e = absurd (none_some here e)
 byte_read false b here x y e = ap (λ (is : List Item). followed is y) (some_same (literal b [] ∷ []) here e)
 
-letter_read : (o : Option Padding) (m : Option (List Item)) (here : List Item) (e : Fault) (x : Padding → Found) (y : Found) → m ≡ Some here
-    → ((p : Padding) → o ≡ Some p → m ≡ None) → by_option (started (or_fault e m) y) x o ≡ followed here y
+letter_read : (o : Option Flag) (m : Option (List Item)) (here : List Item) (e : Fault) (x : Flag → Found) (y : Found) → m ≡ Some here
+    → ((f : Flag) → o ≡ Some f → m ≡ None) → by_option (started (or_fault e m) y) x o ≡ followed here y
 letter_read None m here e x y h g = ap (λ (n : Option (List Item)). started (or_fault e n) y) h
-letter_read (Some p) m here e x y h g = absurd (none_some here (sym (g p refl) ∙ h))
+letter_read (Some f) m here e x y h g = absurd (none_some here (sym (g f refl) ∙ h))
 
-both_read : (m : Option (List Item)) (q : Option Component) (e f : Fault) (is : List Item) (c : Component) → m ≡ Some is → q ≡ Some c
-    → (or_fault e m >>= λ js. or_fault f q >>= λ d. Ok (component d ∷ [])) ≡ Ok (component c ∷ [])
-both_read m q e f is c h g =
-    ap (λ (n : Option (List Item)). or_fault e n >>= λ js. or_fault f q >>= λ d. Ok (component d ∷ [])) h
-    ∙ ap (λ (n : Option Component). or_fault f n >>= λ d. Ok (component d ∷ [])) g
+both_read : (m q : Option (List Item)) (e f : Fault) (is here : List Item) → m ≡ Some is → q ≡ Some here
+    → (or_fault e m >>= λ js. or_fault f q) ≡ Ok here
+both_read m q e f is here h g = ap (λ (n : Option (List Item)). or_fault e n >>= λ js. or_fault f q) h ∙ ap (or_fault f) g
 
-abbrev one_item : Option Component → Option (List Item)
-one_item = option_map (λ c. component c ∷ [])
-
-padded_read : (p : Padding) (b : ℕ) (rest : List ℕ) (here : List Item) (q : Option Component) → padded p b ≡ q → one_item q ≡ Some here
-    → flagged p (b ∷ rest) ≡ followed here (strftime rest)
+flagged_read : (f : Flag) (b : ℕ) (rest : List ℕ) (here : List Item) → flagged_meaning f b ≡ Some here
+    → flagged f (b ∷ rest) ≡ followed here (strftime rest)
 unfolding flagged
-padded_read p b rest here None e h = absurd (none_some here h)
-padded_read p b rest here (Some c) e h =
+flagged_read f b rest here h =
     let left : ℕ = length (b ∷ rest) in
-    let m = padded_means (b == 122) (option_map (map item_of_byte) (row_of shorthands b)) p c (row_of components b) e in
+    let m = flagged_means f b here h in
     ap (λ (r : Result (List Item) Fault). started r (strftime rest))
-    (both_read (meaning b) (padded p b) (letter_fault (left + 2) left b) (fault.InvalidModifier (left + 1) 1) m.0 c m.1 e)
-    ∙ ap (λ (is : List Item). followed is (strftime rest)) (some_same (component c ∷ []) here h)
+    (both_read (meaning b) (flagged_meaning f b) (letter_fault (left + 2) left b) (fault.InvalidModifier (left + 1) 1) m.0 here m.1 h)
 
-flag_read : (o : Option Padding) (x : Found) (b : ℕ) (rest : List ℕ) (here : List Item)
-    → option_and_then (λ p. one_item (padded p b)) o ≡ Some here → by_option x (λ p. flagged p (b ∷ rest)) o ≡ followed here (strftime rest)
+flag_read : (o : Option Flag) (x : Found) (b : ℕ) (rest : List ℕ) (here : List Item)
+    → option_and_then (λ f. flagged_meaning f b) o ≡ Some here → by_option x (λ f. flagged f (b ∷ rest)) o ≡ followed here (strftime rest)
 flag_read None x b rest here h = absurd (none_some here h)
-flag_read (Some p) x b rest here h = padded_read p b rest here (padded p b) refl h
+flag_read (Some f) x b rest here h = flagged_read f b rest here h
 
 piece_read : (q : Piece) (here : List Item) (rest : List ℕ) → piece_items q ≡ Some here
     → strftime (piece_text q ++ rest) ≡ followed here (strftime rest)
@@ -89,11 +112,11 @@ unfolding strftime conversion
 piece_read (byte b) here rest h = byte_read (b == 37) b here (conversion rest) (strftime rest) h
 piece_read (conversion_piece b) here rest h =
     let left : ℕ = length (b ∷ rest) in
-    letter_read (flag_padding b) (meaning b) here (letter_fault (left + 1) left b) (λ p. flagged p rest) (strftime rest) h
-    (λ p e. flag_means b p (b == 45) (b == 95) (b == 48) refl refl refl e)
+    letter_read (row_of flags b) (meaning b) here (letter_fault (left + 1) left b) (λ f. flagged f rest) (strftime rest) h
+    (λ f e. flag_means b f e)
 piece_read (flagged_piece f b) here rest h =
     let left : ℕ = length (f ∷ b ∷ rest) in
-    flag_read (flag_padding f) (started (or_fault (letter_fault (left + 1) left f) (meaning f)) (strftime (b ∷ rest))) b rest here h
+    flag_read (row_of flags f) (started (or_fault (letter_fault (left + 1) left f) (meaning f)) (strftime (b ∷ rest))) b rest here h
 
 -- pieces are parsed one after another
 piece_on : (q : Piece) (ps : List Piece) (is : List Item) (o r : Option (List Item)) → piece_items q ≡ o → all_items ps ≡ r
@@ -136,38 +159,37 @@ first_letter c text None e g h = faulty e h
 first_letter c text (Some is) e g h =
     record { piece = conversion_piece c; here = is; rest = text; is = refl; means = g; shorter = omega arith }
 
-first_both : (p : Padding) (c d : ℕ) (text : List ℕ) (m : Option (List Item)) (q : Option Component) (e f : Fault) → flag_padding c ≡ Some p
-    → padded p d ≡ q → Clean (started (or_fault e m >>= λ is. or_fault f q >>= λ x. Ok (component x ∷ [])) (strftime text))
-    → Starts (37 ∷ c ∷ d ∷ text)
-first_both p c d text None q e f k g h = faulty e h
-first_both p c d text (Some is) None e f k g h = faulty f h
-first_both p c d text (Some is) (Some x) e f k g h =
+first_both : (f : Flag) (c d : ℕ) (text : List ℕ) (m q : Option (List Item)) (e g : Fault) → row_of flags c ≡ Some f
+    → flagged_meaning f d ≡ q → Clean (started (or_fault e m >>= λ is. or_fault g q) (strftime text)) → Starts (37 ∷ c ∷ d ∷ text)
+first_both f c d text None q e g k l h = faulty e h
+first_both f c d text (Some is) None e g k l h = faulty g h
+first_both f c d text (Some is) (Some here) e g k l h =
     record {
       piece = flagged_piece c d;
-      here = component x ∷ [];
+      here = here;
       rest = text;
       is = refl;
-      means = ap (option_and_then (λ r. one_item (padded r d))) k ∙ ap one_item g;
+      means = ap (option_and_then (λ r. flagged_meaning r d)) k ∙ l;
       shorter = omega arith;
     }
 
-first_flagged : (p : Padding) (c : ℕ) (text : List ℕ) → flag_padding c ≡ Some p → Clean (flagged p text) → Starts (37 ∷ c ∷ text)
+first_flagged : (f : Flag) (c : ℕ) (text : List ℕ) → row_of flags c ≡ Some f → Clean (flagged f text) → Starts (37 ∷ c ∷ text)
 unfolding flagged
-first_flagged p c [] k h = faulty (fault.InvalidComponentName 0 0) h
-first_flagged p c (d ∷ text) k h =
+first_flagged f c [] k h = faulty (fault.InvalidComponentName 0 0) h
+first_flagged f c (d ∷ text) k h =
     let left : ℕ = length (d ∷ text) in
-    first_both p c d text (meaning d) (padded p d) (letter_fault (left + 2) left d) (fault.InvalidModifier (left + 1) 1) k refl h
+    first_both f c d text (meaning d) (flagged_meaning f d) (letter_fault (left + 2) left d) (fault.InvalidModifier (left + 1) 1) k refl h
 
-first_after : (c : ℕ) (text : List ℕ) (e : Fault) (o : Option Padding) → flag_padding c ≡ o
-    → Clean (by_option (started (or_fault e (meaning c)) (strftime text)) (λ p. flagged p text) o) → Starts (37 ∷ c ∷ text)
+first_after : (c : ℕ) (text : List ℕ) (e : Fault) (o : Option Flag) → row_of flags c ≡ o
+    → Clean (by_option (started (or_fault e (meaning c)) (strftime text)) (λ f. flagged f text) o) → Starts (37 ∷ c ∷ text)
 first_after c text e None k h = first_letter c text (meaning c) e refl h
-first_after c text e (Some p) k h = first_flagged p c text k h
+first_after c text e (Some f) k h = first_flagged f c text k h
 
 first_conversion : (text : List ℕ) → Clean (conversion text) → Starts (37 ∷ text)
 unfolding conversion
 first_conversion [] h = faulty (fault.InvalidComponentName 0 0) h
 first_conversion (c ∷ text) h =
-    let left : ℕ = length (c ∷ text) in first_after c text (letter_fault (left + 1) left c) (flag_padding c) refl h
+    let left : ℕ = length (c ∷ text) in first_after c text (letter_fault (left + 1) left c) (row_of flags c) refl h
 
 first_on : (b : ℕ) (text : List ℕ) (t : Bool) → (b == 37) ≡ t
     → Clean (if t then conversion text else followed (literal b [] ∷ []) (strftime text)) → Starts (b ∷ text)

@@ -6,7 +6,7 @@ use Rattle.time_components.specs.Tree.{Tree}
 use Rattle.time_descriptions.specs.declared.error.Fault.{Fault}
 use Rattle.time_descriptions.specs.declared.leaf.Version.TheVariants as versions
 use Rattle.time_descriptions.specs.Components.{Read}
-use Rattle.time_descriptions.specs.Grammar.{counted, group_begun, inside_begun, item_begun, items_begun, leaf_begun, list_begun, lists_begun, steps_begun, by_option, ends, group_word, item, list_by, next_list, opened, Describes, description}
+use Rattle.time_descriptions.specs.Grammar.{counted, group_step_count, inside_step_count, item_step_count, items_step_count, leaf_step_count, list_step_count, lists_step_count, steps_count, by_option, ends, group_word, item, list_by, next_list, opened, Describes, description}
 use Rattle.time_descriptions.specs.Items.{Item, steps_of}
 use Rattle.time_descriptions.specs.Description.{has_no_escape, IsRefused}
 use Rattle.time_descriptions.specs.declared.leaf.Version.{Version}
@@ -40,69 +40,69 @@ sum_of e f = omega (arith, e, f)
 module _ (one two : List ℕ → Read Item) (same : (text : List ℕ) → Bare text → Same Leaves (one text) (two text))
     (first second : List ℕ → ℕ) (as_many_of : (text : List ℕ) → Bare text → first text ≡ second text) where
   items_count : (n : ℕ) (nested : Bool) (text : List ℕ) → Bare text
-      → items_begun one first n nested text ≡ items_begun two second n nested text
-  unfolding items_begun
+      → items_step_count one first n nested text ≡ items_step_count two second n nested text
+  unfolding items_step_count
   items_count zero nested text p = refl
   items_count (suc n) nested text p =
-      let on : (List ℕ → Read Item) → (List ℕ → ℕ) → Item × List ℕ → ℕ = λ read begun x. items_begun read begun n nested x.1 in
+      let on : (List ℕ → Read Item) → (List ℕ → ℕ) → Item × List ℕ → ℕ = λ read begun x. items_step_count read begun n nested x.1 in
       if_not (ends nested text)
       (sum_of (as_many_of text p) (same_count Leaves (on one first) (on two second) (λ x k. items_count n nested x.1 k) (one text) (two text) (same text p)))
 
-  list_count : (text : List ℕ) → Bare text → list_begun one first text ≡ list_begun two second text
+  list_count : (text : List ℕ) → Bare text → list_step_count one first text ≡ list_step_count two second text
   list_count text p = items_count (length text) true text p
 
   lists_count : (opening n : ℕ) (text : List ℕ) → Bare text
-      → lists_begun one first opening n text ≡ lists_begun two second opening n text
-  unfolding lists_begun
+      → lists_step_count one first opening n text ≡ lists_step_count two second opening n text
+  unfolding lists_step_count
   lists_count opening zero text p = refl
   lists_count opening (suc n) text p =
       let on : (List ℕ → Read Item) → (List ℕ → ℕ) → List Item × List ℕ → ℕ =
-      λ read begun x. by_option 0 (lists_begun read begun opening n) (next_list x.1) in
+      λ read begun x. by_option 0 (lists_step_count read begun opening n) (next_list x.1) in
       sum_of (ap (λ (k : ℕ). 1 + k) (list_count text p))
       (same_count Leaves (on one first) (on two second)
-      (λ x k. option_count Bare (lists_begun one first opening n) (lists_begun two second opening n) 0 0 (lists_count opening n) refl (next_list x.1)
+      (λ x k. option_count Bare (lists_step_count one first opening n) (lists_step_count two second opening n) 0 0 (lists_count opening n) refl (next_list x.1)
       (next_bare x.1 k))
       (list_by one opening text) (list_by two opening text) (same_list one two same opening text p))
 
   inside_count : (opening : ℕ) (g : Group) (text : List ℕ) → Bare text
-      → inside_begun one first opening g text ≡ inside_begun two second opening g text
+      → inside_step_count one first opening g text ≡ inside_step_count two second opening g text
   inside_count opening groups.Optional text p = list_count text p
   inside_count opening groups.First text p = lists_count opening (suc (length text)) text p
   inside_count opening groups.List text p = lists_count opening (suc (length text)) text p
 
   group_count : (opening : ℕ) (found : Group × List ℕ) → Bare found.1
-      → group_begun one first opening found ≡ group_begun two second opening found
-  unfolding group_begun
+      → group_step_count one first opening found ≡ group_step_count two second opening found
+  unfolding group_step_count
   group_count opening found p =
-      count_bound Bare (λ text. 1 + inside_begun one first opening found.0 text) (λ text. 1 + inside_begun two second opening found.0 text)
+      count_bound Bare (λ text. 1 + inside_step_count one first opening found.0 text) (λ text. 1 + inside_step_count two second opening found.0 text)
       (λ text k. ap (λ (n : ℕ). 1 + n) (inside_count opening found.0 text k)) (opened found.0 found.1) (opened_bare found.0 found.1 p)
 
-leaf_count : (nested : Bool) (text : List ℕ) → Bare text → leaf_begun versions.One nested text ≡ leaf_begun versions.Two nested text
+leaf_count : (nested : Bool) (text : List ℕ) → Bare text → leaf_step_count versions.One nested text ≡ leaf_step_count versions.Two nested text
 leaf_count nested text p = ap (λ (r : Read Item). counted (λ x. length (steps_of x.0)) r) (same_leaf nested text p).0
 
 item_count : (depth : ℕ) (nested : Bool) (text : List ℕ) → Bare text
-    → item_begun versions.One depth nested text ≡ item_begun versions.Two depth nested text
-unfolding item_begun
+    → item_step_count versions.One depth nested text ≡ item_step_count versions.Two depth nested text
+unfolding item_step_count
 item_count zero nested text p =
-    option_count Follows (λ found. 0) (λ found. 0) (leaf_begun versions.One nested text) (leaf_begun versions.Two nested text) (λ x k. refl)
+    option_count Follows (λ found. 0) (λ found. 0) (leaf_step_count versions.One nested text) (leaf_step_count versions.Two nested text) (λ x k. refl)
     (leaf_count nested text p) (group_word text) (word_bare text p)
 item_count (suc depth) nested text p =
     let one = item versions.One depth true in
     let two = item versions.Two depth true in
-    let first = item_begun versions.One depth true in
-    let second = item_begun versions.Two depth true in
-    option_count Follows (group_begun one first (length text)) (group_begun two second (length text))
-    (leaf_begun versions.One nested text) (leaf_begun versions.Two nested text)
+    let first = item_step_count versions.One depth true in
+    let second = item_step_count versions.Two depth true in
+    option_count Follows (group_step_count one first (length text)) (group_step_count two second (length text))
+    (leaf_step_count versions.One nested text) (leaf_step_count versions.Two nested text)
     (group_count one two (same_item depth true) first second (item_count depth true) (length text))
     (leaf_count nested text p) (group_word text) (word_bare text p)
 
 -- both versions start equally many steps of a text without escapes
-as_many : (text : List ℕ) → has_no_escape text ≡ true → steps_begun versions.One text ≡ steps_begun versions.Two text
+as_many : (text : List ℕ) → has_no_escape text ≡ true → steps_count versions.One text ≡ steps_count versions.Two text
 as_many text p =
-    items_count (item versions.One 8 false) (item versions.Two 8 false) (same_item 8 false) (item_begun versions.One 8 false)
-    (item_begun versions.Two 8 false) (item_count 8 false) (length text) false text p
+    items_count (item versions.One 8 false) (item versions.Two 8 false) (same_item 8 false) (item_step_count versions.One 8 false)
+    (item_step_count versions.Two 8 false) (item_count 8 false) (length text) false text p
 
-module _ (a b : Version) (text : List ℕ) (e : description a text ≡ description b text) (k : steps_begun a text ≡ steps_begun b text) where
+module _ (a b : Version) (text : List ℕ) (e : description a text ≡ description b text) (k : steps_count a text ≡ steps_count b text) where
   describes : (tree : Tree) → Describes a text tree → Describes b text tree
   unfolding Describes
   describes tree x = (x.0, sym e ∙ x.1, x.2)

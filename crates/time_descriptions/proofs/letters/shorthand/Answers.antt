@@ -1,7 +1,7 @@
 use Rattle.std.proofs.Common.{List, ℕ, Bor, Option, Some, None, ◌≡◌, map, refl, ap, ◌∙◌, sym}
 use Rattle.std.specs.Option.{option_map}
 use Rattle.std.specs.Prelude.{true, false, ◌==◌, [], ◌∷◌, Bool, if◌then◌else◌}
-use Rattle.time_descriptions.specs.Items.{Sees}
+use Rattle.time_descriptions.specs.Items.{Finds}
 use Rattle.time_descriptions.specs.Strftime.{row_of, shorthands}
 use Rattle.time_descriptions.proofs.letters.shorthand.Goals as goal
 
@@ -23,7 +23,7 @@ unfolding row_of seen_row seen
 row_of-seen [] letter = refl
 row_of-seen (r ∷ rows) letter = first (r.0 == letter) r.1 (row_of rows letter) (row_of (map seen_row rows) letter) (row_of-seen rows letter)
 
-sees : (o : Option (Bor (List ℕ))) (found : Option (List ℕ)) → found ≡ seen o → Sees (λ (b : Bor (List ℕ)). b.now) o found
+sees : (o : Option (Bor (List ℕ))) (found : Option (List ℕ)) → found ≡ seen o → Finds (λ (b : Bor (List ℕ)). b.now) o found
 unfolding seen
 sees (Some x) found e = e
 sees None found e = e

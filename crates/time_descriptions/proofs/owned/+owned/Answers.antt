@@ -1,7 +1,7 @@
 use Rattle.std.proofs.Common.{◌≡◌, ℕ, suc, ◌+◌, ◌-◌, ◌<◌, ◌≤◌, List, [], ◌∷◌, ◌++◌, length, true, false, refl, ap, sym, ◌∙◌, arith}
 use Rattle.std.proofs.lemmas.Grind.{common_steps}
 use Rattle.time_components.specs.declared.inspect.Group.TheVariants as groups
-use Rattle.time_descriptions.specs.Grammar.{ends, inside_by, item, list_by, SaysItem}
+use Rattle.time_descriptions.specs.Grammar.{ends, inside_by, item, list_by, MatchesItem}
 use Rattle.time_descriptions.specs.Items.{group, items_of, leaf_item}
 use Rattle.time_descriptions.proofs.Adding.{at_end, at_fault, at_item, at_last, at_list, at_list_fault, before_none, deeper, not_ended, not_inside, not_opened, plain_item, too_deep}
 use Rattle.time_descriptions.proofs.Shapes.{fails_on, fails_whole, group_not_closed, group_read, group_said, one_more}
@@ -10,13 +10,13 @@ use Rattle.time_descriptions.proofs.owned.+owned.Goals as goal
 pub read_group-returns-in_err-inside-clause-owns : goal.read_group-returns-in_err-inside-clause-owns
 read_group-returns-in_err-inside-clause-owns t c =
     let read = item c.args.version c.args.depth true in
-    fails_on SaysItem _ c.from_residual.result _ c.from_residual.ensures
+    fails_on MatchesItem _ c.from_residual.result _ c.from_residual.ensures
     (not_opened read c.args.opening c.args.group c.args.text.now c.in_err-inside.field-0.0 c.in_err-inside.ensures.reads)
 
 pub read_item-returns-in_err-leaf-in-None-clause-owns :
     goal.read_item-returns-in_err-leaf-in-None-clause-owns
 read_item-returns-in_err-leaf-in-None-clause-owns t c =
-    fails_on SaysItem _ c.from_residual.result _ c.from_residual.ensures
+    fails_on MatchesItem _ c.from_residual.result _ c.from_residual.ensures
     (plain_item c.args.version c.args.depth c.args.nested c.args.text.now c.in-None.ensures.found ∙ c.in_err-leaf-in-None.ensures.reads)
 
 pub read_item-returns-then-depth-eq0-clause-owns :
@@ -141,7 +141,7 @@ read_lists-returns-in-None-clause-owns t c =
 pub read_group-returns-in_err-items-clause-owns : goal.read_group-returns-in_err-items-clause-owns
 read_group-returns-in_err-items-clause-owns t c =
     let read = item c.args.version c.args.depth true in
-    fails_on SaysItem _ c.from_residual-in_err-items.result _ c.from_residual-in_err-items.ensures
+    fails_on MatchesItem _ c.from_residual-in_err-items.result _ c.from_residual-in_err-items.ensures
     (fails_whole (inside_by (list_by read c.args.opening) c.args.group c.in_ok-inside.inside.now) _ c.in_err-items.field-0.0
     (λ e r. not_inside read c.args.opening c.args.group c.args.text.now c.in_ok-inside.inside.now c.in_ok-inside.ensures.reads e r)
     c.in_err-items.ensures.owns)
@@ -150,7 +150,7 @@ pub read_group-returns-in_err-rest-clause-owns : goal.read_group-returns-in_err-
 read_group-returns-in_err-rest-clause-owns t c =
     let read = item c.args.version c.args.depth true in
     let inside = c.in_ok-items.ensures.owns in
-    fails_on SaysItem _ c.from_residual-in_err-rest.result _ c.from_residual-in_err-rest.ensures
+    fails_on MatchesItem _ c.from_residual-in_err-rest.result _ c.from_residual-in_err-rest.ensures
     (group_not_closed read c.args.opening c.args.group c.args.text.now c.in_ok-inside.inside.now c.in_ok-inside.ensures.reads
     c.in_ok-items.unread.now inside.0 c.in_err-rest.field-0.0 inside.1 c.in_err-rest.ensures.reads)
 

@@ -1,5 +1,5 @@
 use Rattle.std.proofs.Common.{◌≡◌, ℕ, suc, ◌+◌, ◌*◌, ◌<◌, ◌≤◌, List, length, true}
-use Rattle.time_descriptions.specs.Grammar.{before, item, items_by, list_by, lists_by, SaysItems}
+use Rattle.time_descriptions.specs.Grammar.{before, item, items_by, list_by, lists_by, MatchesItems}
 use Rattle.time_descriptions.specs.Items.{Item}
 use Rattle.time_descriptions.proofs.owned.+owned.Given as goal
 
@@ -26,7 +26,7 @@ invariant-read_items-loop-alloc l =
       most : ℕ;
       within : length l.rest ≤ most;
       shorter : length l.rest ≤ length l.text;
-      said : SaysItems l.items.items front;
+      said : MatchesItems l.items.items front;
       told :
           items_by (item l.version l.depth l.nested) (length l.text) l.nested l.text
           ≡ before front (items_by (item l.version l.depth l.nested) most l.nested l.rest);
@@ -43,7 +43,7 @@ invariant-read_lists-loop-lists l =
       most : ℕ;
       within : length l.inside < most;
       shorter : length l.inside ≤ length l.text;
-      said : SaysItems l.lists.items front;
+      said : MatchesItems l.lists.items front;
       told :
           lists_by (list_by (item l.version l.depth true) l.opening) (suc (length l.text)) l.text
           ≡ before front (lists_by (list_by (item l.version l.depth true) l.opening) most l.inside);

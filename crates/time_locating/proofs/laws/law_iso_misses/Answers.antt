@@ -1,3 +1,4 @@
+use Rattle.time_values.specs.Calendar.{greatest_year}
 use Rattle.std.specs.Prelude.{codes, nat_eq, nat_le, option_map}
 use Rattle.std.proofs.Common.{◌≡◌, ◌<◌, ◌≤◌, ℕ, ℤ, suc, List, [], ◌∷◌, ◌++◌, length, append_assoc, Bool, true, false, Option, Some, None, Result, Ok, Err, refl, ap, sym, ◌∙◌, arith}
 use Rattle.std.proofs.Math.Bool.{and-false}
@@ -203,35 +204,35 @@ own_date b e h =
 
 -- ---- a date that no record allows
 
-put-Err : (Y : ℕ) (entries : List (Entry × List ℕ)) (r : Record) (e : Refusal) → put_or_fault Y entries r ≡ Err e
+put-Err : (entries : List (Entry × List ℕ)) (r : Record) (e : Refusal) → put_or_fault greatest_year entries r ≡ Err e
     → (name : List ℕ) × (e ≡ component name)
-put-Err Y [] r e h = absurd (Ok-Err r e (sym h))
-put-Err Y (entry ∷ entries) r e h =
-    need-Err (put Y entry.0 r) (component entry.1) e (put_or_fault Y entries) h
-    (λ none same. (entry.1, sym same)) (λ q is h1. put-Err Y entries q e h1)
+put-Err [] r e h = absurd (Ok-Err r e (sym h))
+put-Err (entry ∷ entries) r e h =
+    need-Err (put greatest_year entry.0 r) (component entry.1) e (put_or_fault greatest_year entries) h
+    (λ none same. (entry.1, sym same)) (λ q is h1. put-Err entries q e h1)
 
 -- one miss of a text is that of the error
 abbrev OwnOf : List Miss → Refusal → Type 0
 OwnOf ms e = (m : Miss) × LeavesLeastSoFar m ms × (refusal_by m.wanted ≡ e)
 
-own_put : (b : List ℕ) (d : Found IsoDate) (entries : List (Entry × List ℕ)) (Y : ℕ) (r : Record) (o : Result Record Refusal) (e : Refusal)
-    → put_or_fault Y entries r ≡ o → result_and_then (λ q. Ok (with_value d q)) o ≡ Err e → OwnOf (after_date b d o) e
-own_put b d entries Y r (Ok q) e is h = absurd (Ok-Err (with_value d q) e (sym h))
-own_put b d entries Y r (Err f) e is h =
-    let told = put-Err Y entries r f is in
+own_put : (b : List ℕ) (d : Found IsoDate) (entries : List (Entry × List ℕ)) (r : Record) (o : Result Record Refusal) (e : Refusal)
+    → put_or_fault greatest_year entries r ≡ o → result_and_then (λ q. Ok (with_value d q)) o ≡ Err e → OwnOf (after_date b d o) e
+own_put b d entries r (Ok q) e is h = absurd (Ok-Err (with_value d q) e (sym h))
+own_put b d entries r (Err f) e is h =
+    let told = put-Err entries r f is in
     (_, at_here _ _, rw told.1 (sym told.1 ∙ same_Err f e h))
 
-own_text : (Y : ℕ) (b : List ℕ) (r : Record) (o : Result (Found IsoDate) Refusal) (e : Refusal) → date_text b ≡ o
-    → result_and_then (λ d. result_and_then (λ q. Ok (with_value d q)) (put_or_fault Y (date_entries d.value) r)) o ≡ Err e
-    → OwnOf (by_date Y b r o) e
-own_text Y b r (Err f) e is h =
+own_text : (b : List ℕ) (r : Record) (o : Result (Found IsoDate) Refusal) (e : Refusal) → date_text b ≡ o
+    → result_and_then (λ d. result_and_then (λ q. Ok (with_value d q)) (put_or_fault greatest_year (date_entries d.value) r)) o ≡ Err e
+    → OwnOf (by_date b r o) e
+own_text b r (Err f) e is h =
     let own = own_date b f is in
     (own.0, at_more own.0 (rows_misses date_rows b) (without_date b) own.1, own.2 ∙ same_Err f e h)
-own_text Y b r (Ok d) e is h = own_put b d (date_entries d.value) Y r (put_or_fault Y (date_entries d.value) r) e refl h
+own_text b r (Ok d) e is h = own_put b d (date_entries d.value) r (put_or_fault greatest_year (date_entries d.value) r) e refl h
 
 iso_own_miss : IsoOwnMiss
 unfolding date_over misses
-iso_own_miss Y b r e h = own_text Y b r (date_text b) e refl h
+iso_own_miss b r e h = own_text b r (date_text b) e refl h
 
 pub returns : goal.returns
 returns c = iso_own_miss

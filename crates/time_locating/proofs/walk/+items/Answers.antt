@@ -19,7 +19,7 @@ walk-returns-in-List-clause-misses g t c = rw c.in-List.ensures c.walk_all.ensur
 pub walk-returns-in-Optional-clause-reads : goal.walk-returns-in-Optional-clause-reads
 walk-returns-in-Optional-clause-reads g t c =
     rw (c.in-Optional.ensures, c.unwrap_or.ensures)
-    (optional_reads _ _ c.args.input.now _ c.walk-walked.result.rest c.args.input _ refl c.walk-walked.ensures.reads)
+    (optional_reads _ c.args.input.now _ c.walk-walked.result.rest c.args.input _ refl c.walk-walked.ensures.reads)
 
 pub walk-returns-in-Optional-clause-misses : goal.walk-returns-in-Optional-clause-misses
 unfolding Misses
@@ -27,8 +27,8 @@ walk-returns-in-Optional-clause-misses g t c = rw c.in-Optional.ensures c.walk-w
 
 pub walk-returns-in-Optional-clause-marks : goal.walk-returns-in-Optional-clause-marks
 walk-returns-in-Optional-clause-marks g t c =
-    let read = optional_reads _ _ c.args.input.now _ c.walk-walked.result.rest c.args.input _ refl c.walk-walked.ensures.reads in
-    rw c.in-Optional.ensures (marks_read _ _ _ _ _ _ _ _ read c.walk-walked.ensures.marks)
+    let read = optional_reads _ c.args.input.now _ c.walk-walked.result.rest c.args.input _ refl c.walk-walked.ensures.reads in
+    rw c.in-Optional.ensures (marks_read _ _ _ _ _ _ _ read c.walk-walked.ensures.marks)
 
 pub walk-returns-in-First-clause-misses : goal.walk-returns-in-First-clause-misses
 unfolding Misses
@@ -58,7 +58,7 @@ pub walk_all-returns-in-None-clause-marks : goal.walk_all-returns-in-None-clause
 walk_all-returns-in-None-clause-marks g t c =
     let is = trees_from-item g.I.Inspect.shape c.args.items.now _ _ (omega arith) c.item-item.is in
     let read = rw c.in-None.is at c.walk-walked.ensures.reads in
-    marks_unread _ _ _ _ _ (Follows-unread c.loop-item.invariant.0 _ _ is c.walk-walked.ensures.misses read.unread)
+    marks_unread _ _ _ _ (Follows-unread c.loop-item.invariant.0 _ _ is c.walk-walked.ensures.misses read.unread)
 
 pub walk_all-loop-item-preserved : goal.walk_all-loop-item-preserved
 walk_all-loop-item-preserved g t c =
@@ -131,11 +131,11 @@ pub walk_first-returns-then-is_empty-clause-marks : goal.walk_first-returns-then
 walk_first-returns-then-is_empty-clause-marks g t c =
     let none = empty_length _ (sym c.is_empty.ensures ∙ c.if-is_empty.true) in
     let is = no_trees g.I.Inspect.shape c.args.items.now none in
-    no_marks _ _ _ _ _ _ is (Passes-none c.loop-item.invariant.0 is)
+    no_marks _ _ _ _ _ is (Passes-none c.loop-item.invariant.0 is)
 
 pub walk_first-returns-clause-marks : goal.walk_first-returns-clause-marks
 walk_first-returns-clause-marks g t c =
     let some = some_length _ (sym c.is_empty.ensures ∙ c.if-is_empty.false) in
     let end = trees_from-end g.I.Inspect.shape c.args.items.now c.loop-item.item-index (omega arith) in
     let nonempty = some_trees g.I.Inspect.shape c.args.items.now (λ is. omega arith) in
-    marks_unread _ _ _ _ _ (Passes-nothing c.loop-item.invariant.0 end nonempty)
+    marks_unread _ _ _ _ (Passes-nothing c.loop-item.invariant.0 end nonempty)

@@ -3,7 +3,7 @@ use Rattle.time_values.specs.Calendar.{greatest_year}
 use Rattle.time_components.specs.Tree.{trees}
 use Rattle.time_record.specs.Reading.{places, places_of_all}
 use Rattle.time_record.proofs.Unique.{trees_from}
-use Rattle.time_locating.specs.Located.{seen_miss}
+use Rattle.time_locating.specs.Located.{erased_miss}
 use Rattle.time_locating.specs.Misses.{all_bytes}
 use Rattle.time_locating.proofs.TurnSteps.{Passes, Follows}
 use Rattle.time_locating.proofs.MarkSteps.{CarriesAll, CarriesFirst}
@@ -20,14 +20,14 @@ decreases-walk_first g l = 2 * places_of_all (trees (map g.I.Inspect.shape l.ite
 
 abbrev pub invariant-walk_all-loop-item : goal.invariant-walk_all-loop-item
 invariant-walk_all-loop-item g l =
-    Follows greatest_year all_bytes (trees (map g.I.Inspect.shape l.items)) l.fn.input l.fn.parsed
-    (trees_from g.I.Inspect.shape l.item-index l.items) l.rest l.parsed (seen_miss l.furthest)
-    × CarriesAll greatest_year l.name (trees (map g.I.Inspect.shape l.items)) l.fn.input l.fn.parsed
+    Follows all_bytes (trees (map g.I.Inspect.shape l.items)) l.fn.input l.fn.parsed
+    (trees_from g.I.Inspect.shape l.item-index l.items) l.rest l.parsed (erased_miss l.furthest)
+    × CarriesAll l.name (trees (map g.I.Inspect.shape l.items)) l.fn.input l.fn.parsed
     (trees_from g.I.Inspect.shape l.item-index l.items) l.rest l.parsed l.last
 
 abbrev pub invariant-walk_first-loop-item : goal.invariant-walk_first-loop-item
 invariant-walk_first-loop-item g l =
-    Passes greatest_year all_bytes (trees (map g.I.Inspect.shape l.items))
-    (trees_from g.I.Inspect.shape l.item-index l.items) l.input l.fn.parsed l.parsed (seen_miss l.furthest)
-    × CarriesFirst greatest_year l.name (trees (map g.I.Inspect.shape l.items))
+    Passes all_bytes (trees (map g.I.Inspect.shape l.items))
+    (trees_from g.I.Inspect.shape l.item-index l.items) l.input l.fn.parsed l.parsed (erased_miss l.furthest)
+    × CarriesFirst l.name (trees (map g.I.Inspect.shape l.items))
     (trees_from g.I.Inspect.shape l.item-index l.items) l.input l.fn.parsed

@@ -10,22 +10,22 @@ pub returns-in-Ok-clause-misses : goal.returns-in-Ok-clause-misses
 returns-in-Ok-clause-misses c =
     let read = subst (λ t. Reads greatest_year t c.args.input.now c.args.parsed.now c.in-Ok.rest.now c.parse_v3.new.self)
     (v3_component c.args.component) c.in-Ok.ensures in
-    component_reads _ _ _ _ true _ _ _ read
+    component_reads _ _ _ true _ _ _ read
 
 pub returns-clause-misses : goal.returns-clause-misses
 returns-clause-misses c =
     let refused = subst (λ t. Refuses greatest_year t c.args.input.now c.args.parsed.now (refusal_of_description c.in-Err.fault))
     (v3_component c.args.component) c.in-Err.ensures.0 in
-    rw (c.missed_at.ensures, c.wanted_of.ensures) (component_misses _ _ _ _ true _ _ refused)
+    rw (c.missed_at.ensures, c.expected_of.ensures) (component_misses _ _ _ true _ _ refused)
 
 pub returns-in-Ok-clause-marks : goal.returns-in-Ok-clause-marks
 returns-in-Ok-clause-marks c =
     let read = subst (λ t. Reads greatest_year t c.args.input.now c.args.parsed.now c.in-Ok.rest.now c.parse_v3.new.self)
     (v3_component c.args.component) c.in-Ok.ensures in
-    component_marks _ _ _ _ true _ _ _ _ read c.mark_of.ensures
+    component_marks _ _ _ true _ _ _ _ read c.mark_of.ensures
 
 pub returns-clause-marks : goal.returns-clause-marks
 returns-clause-marks c =
     let refused = subst (λ t. Refuses greatest_year t c.args.input.now c.args.parsed.now (refusal_of_description c.in-Err.fault))
     (v3_component c.args.component) c.in-Err.ensures.0 in
-    marks_unread _ _ _ _ _ refused.unread
+    marks_unread _ _ _ _ refused.unread

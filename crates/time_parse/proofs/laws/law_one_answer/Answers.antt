@@ -15,7 +15,7 @@ use Rattle.time_parsing.specs.Outcome.{IsExact, IsExactPath, Path, Reading, Refu
 use Rattle.time_parsing.specs.exact.Laws.{tree_exact, rfc3339_exact_path, rfc2822_exact_path, iso8601_exact, rfc2822_exact, rfc3339_exact}
 use Rattle.time_parsing.proofs.OneOutcome.{one_outcome, one_moment_outcome}
 use Rattle.time_locating.specs.Located.{IsExactMark, IsExactPlace, Locating, Marking}
-use Rattle.time_locating.specs.Misses.{Telling, all_bytes, first_byte}
+use Rattle.time_locating.specs.Misses.{LiteralReport, all_bytes, first_byte}
 use Rattle.time_locating.specs.exact.PlaceLaws.{iso8601_exact_mark, iso8601_exact_place, tree_exact_mark, tree_exact_place, rfc2822_exact_mark, rfc2822_exact_place, rfc3339_exact_mark, rfc3339_exact_place}
 use Rattle.time_locating.proofs.WholeTexts.{one_answer, one_index}
 use Rattle.programs_answers.specs.Formats.{clock, local, unix, ymd}
@@ -38,7 +38,7 @@ MeansTree-one : (P : Tree → Type 0) → ((a b : Tree) → P a → P b → a �
     → (m n : Meaning) → MeansTree P m → MeansTree P n → m ≡ n
 MeansTree-one P one m n h k = h.2 ∙ ap described (one h.0 k.0 h.1 k.1) ∙ sym k.2
 
-IsAnswer-one : (meaning : Meaning) (target : Target) (text : List ℕ) → OneText (IsAnswer greatest_year meaning target text)
+IsAnswer-one : (meaning : Meaning) (target : Target) (text : List ℕ) → OneText (IsAnswer meaning target text)
 IsAnswer-one (named format) target text = IsParsed-one format target text
 IsAnswer-one (described tree) target text = IsDescribed-one tree target text
 
@@ -51,8 +51,8 @@ module _ (path : Path) (reads : Reading) (refuses : Refusing) (locates : Locatin
   IsRefusal-one resolves one_value x y h k =
       h.2 ∙ ap refusal_in (one_outcome reads refuses exact resolves one_value text empty h.0 k.0 h.1 k.1) ∙ sym k.2
 
-  IsRefusalFor-one : (t : Target) (x y : Option Refusal) → IsRefusalFor greatest_year t path reads refuses text x
-      → IsRefusalFor greatest_year t path reads refuses text y → x ≡ y
+  IsRefusalFor-one : (t : Target) (x y : Option Refusal) → IsRefusalFor t path reads refuses text x
+      → IsRefusalFor t path reads refuses text y → x ≡ y
   IsRefusalFor-one target.Date = IsRefusal-one (IsDated greatest_year) IsDated-one
   IsRefusalFor-one target.Time = IsRefusal-one IsTimed IsTimed-one
   IsRefusalFor-one target.Offset = IsRefusal-one IsOffset IsOffset-one
@@ -68,7 +68,7 @@ module _ (path : Path) (reads : Reading) (refuses : Refusing) (locates : Locatin
   IsErrorPlace-one (Some e) x y h k =
       h.2 ∙ ap index_text (one_index reads locates marks places one text empty e h.0 k.0 h.1 k.1) ∙ sym k.2
 
-  IsPlace-one : (t : Target) → OneText (IsPlace greatest_year t path reads refuses locates marks text)
+  IsPlace-one : (t : Target) → OneText (IsPlace t path reads refuses locates marks text)
   IsPlace-one t x y (inl h) (inl k) =
       h.2 ∙ ap place_text (one_answer reads locates places text empty (Some h.0) (Some k.0) h.1 k.1) ∙ sym k.2
   IsPlace-one t x y (inl h) (inr k) =
@@ -79,49 +79,49 @@ module _ (path : Path) (reads : Reading) (refuses : Refusing) (locates : Locatin
       let one_refusal = IsRefusalFor-one t refusal same is be in
       IsErrorPlace-one same x y (subst (λ r. IsErrorPlace reads locates marks text r x) one_refusal printed) other
 
-IsTreePlace-one : (bytes : Telling) (tree : Tree) (t : Target) (text : List ℕ) → OneText (IsTreePlace greatest_year bytes tree t text)
+IsTreePlace-one : (bytes : LiteralReport) (tree : Tree) (t : Target) (text : List ℕ) → OneText (IsTreePlace bytes tree t text)
 IsTreePlace-one bytes tree t text =
-    IsPlace-one over_record _ _ _ _ (tree_exact greatest_year tree) tt (tree_exact_place greatest_year bytes tree)
-    (tree_exact_mark greatest_year tree) text t
+    IsPlace-one over_record _ _ _ _ (tree_exact greatest_year tree) tt (tree_exact_place bytes tree)
+    (tree_exact_mark tree) text t
 
-IsNamedPlace-one : (f : Format) (t : Target) (text : List ℕ) → OneText (IsNamedPlace greatest_year f t text)
+IsNamedPlace-one : (f : Format) (t : Target) (text : List ℕ) → OneText (IsNamedPlace f t text)
 IsNamedPlace-one format.Rfc3339 t text =
     IsPlace-one (direct (RefusesRfc3339 greatest_year)) _ _ _ _ (rfc3339_exact greatest_year) rfc3339_exact_path
-    (rfc3339_exact_place greatest_year) rfc3339_exact_mark text t
+    rfc3339_exact_place rfc3339_exact_mark text t
 IsNamedPlace-one format.Rfc2822 t text =
     IsPlace-one (direct (RefusesRfc2822 greatest_year)) _ _ _ _ (rfc2822_exact greatest_year) rfc2822_exact_path
-    (rfc2822_exact_place greatest_year) rfc2822_exact_mark text t
+    rfc2822_exact_place rfc2822_exact_mark text t
 IsNamedPlace-one format.Iso8601 t text =
-    IsPlace-one over_record _ _ _ _ (iso8601_exact greatest_year) tt (iso8601_exact_place greatest_year)
-    (iso8601_exact_mark greatest_year) text t
+    IsPlace-one over_record _ _ _ _ (iso8601_exact greatest_year) tt iso8601_exact_place
+    iso8601_exact_mark text t
 IsNamedPlace-one format.Ymd t text = IsTreePlace-one all_bytes ymd t text
 IsNamedPlace-one format.Clock t text = IsTreePlace-one all_bytes clock t text
 IsNamedPlace-one format.Unix t text = IsTreePlace-one all_bytes unix t text
 IsNamedPlace-one format.Local t text = IsTreePlace-one all_bytes local t text
 
-IsPlaceBy-one : (meaning : Meaning) (t : Target) (text : List ℕ) → OneText (IsPlaceBy greatest_year meaning t text)
+IsPlaceBy-one : (meaning : Meaning) (t : Target) (text : List ℕ) → OneText (IsPlaceBy meaning t text)
 IsPlaceBy-one (named f) t text = IsNamedPlace-one f t text
 IsPlaceBy-one (described tree) t text = IsTreePlace-one first_byte tree t text
 
 -- an answer with the error's location, or without
-IsPlacedAnswer-one : (meaning : Meaning) (target : Target) (text : List ℕ) → OneText (IsPlacedAnswer greatest_year meaning target text)
+IsPlacedAnswer-one : (meaning : Meaning) (target : Target) (text : List ℕ) → OneText (IsPlacedAnswer meaning target text)
 IsPlacedAnswer-one meaning target text x y h k =
     let outcome = IsAnswer-one meaning target text h.0 k.0 h.2 k.2 in
     let place = IsPlaceBy-one meaning target text h.1 k.1 h.3 k.3 in
     h.4 ∙ ap (λ o. o ++ h.1) outcome ∙ ap (λ p. k.0 ++ p) place ∙ sym k.4
 
 IsRequestedAnswer-one : (prints_places : Bool) (meaning : Meaning) (target : Target) (text : List ℕ)
-    → OneText (IsRequestedAnswer prints_places greatest_year meaning target text)
+    → OneText (IsRequestedAnswer prints_places meaning target text)
 IsRequestedAnswer-one false meaning target text = IsAnswer-one meaning target text
 IsRequestedAnswer-one true meaning target text = IsPlacedAnswer-one meaning target text
 
 written : (prints_places : Bool) (m n : Meaning) (t u : Target) (input before new other : List ℕ) → m ≡ n → t ≡ u
-    → output.WritesAnswers (IsRequestedAnswer prints_places greatest_year m t) (Some before) (Some new) input
-    → output.WritesAnswers (IsRequestedAnswer prints_places greatest_year n u) (Some before) (Some other) input → new ≡ other
+    → output.WritesAnswers (IsRequestedAnswer prints_places m t) (Some before) (Some new) input
+    → output.WritesAnswers (IsRequestedAnswer prints_places n u) (Some before) (Some other) input → new ≡ other
 written prints_places m n t u input before new other p q h k =
-    let same_target = subst (λ (v : Target). output.WritesAnswers (IsRequestedAnswer prints_places greatest_year m v) (Some before) (Some new) input) q h in
-    let same = subst (λ (o : Meaning). output.WritesAnswers (IsRequestedAnswer prints_places greatest_year o u) (Some before) (Some new) input) p same_target in
-    WritesAnswers-one (IsRequestedAnswer prints_places greatest_year n u) (IsRequestedAnswer-one prints_places n u) input before new other same k
+    let same_target = subst (λ (v : Target). output.WritesAnswers (IsRequestedAnswer prints_places m v) (Some before) (Some new) input) q h in
+    let same = subst (λ (o : Meaning). output.WritesAnswers (IsRequestedAnswer prints_places o u) (Some before) (Some new) input) p same_target in
+    WritesAnswers-one (IsRequestedAnswer prints_places n u) (IsRequestedAnswer-one prints_places n u) input before new other same k
 
 module _ (one : OneDescription) (one_strftime : OneStrftimeDescription) where
   MeansBy-one : (w : Writing) (version : Version) (text : List ℕ) (m n : Meaning)
@@ -136,7 +136,7 @@ module _ (one : OneDescription) (one_strftime : OneStrftimeDescription) where
   pub Means-one : OneMeaning
   Means-one version format = MeansBy-one (writing_of format) version format
 
-  pub Writing-one : OneWriting greatest_year
+  pub Writing-one : OneWriting
   Writing-one prints_places version format target input before new other h k =
       written prints_places h.0 k.0 h.1 k.1 input before new other (Means-one version format h.0 k.0 h.2 k.2)
       (same_Some h.1 k.1 (sym h.3 ∙ k.3)) h.4 k.4

@@ -12,8 +12,8 @@ use Rattle.time_parse.proofs.serving.serve.Goals as goal
 -- answers by a meaning are answers by the format that has it
 served : (prints_places : Bool) (version : Version) (format target : List ℕ) (m : Meaning) (t : Target) (left old new : Option (List ℕ))
     → Means version format m × (target_named target ≡ Some t)
-    → IfSome left (λ bytes. output.WritesAnswers (IsRequestedAnswer prints_places greatest_year m t) old new bytes)
-    → IfSome left (λ bytes. WritesAnswers greatest_year prints_places version format target old new bytes)
+    → IfSome left (λ bytes. output.WritesAnswers (IsRequestedAnswer prints_places m t) old new bytes)
+    → IfSome left (λ bytes. WritesAnswers prints_places version format target old new bytes)
 served prints_places version format target m t None old new meant h = tt
 served prints_places version format target m t (Some bytes) old new meant h = (m, t, meant.0, meant.1, h)
 

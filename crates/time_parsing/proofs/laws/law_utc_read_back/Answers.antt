@@ -1,6 +1,6 @@
 use Rattle.std.proofs.Common.{◌≡◌, ℕ, ℤ, List, Option, Some, None, Result, Ok, Err, MatchOption, IsOkAnd, inl, inr, refl, sym, ap, subst, ◌∙◌, arith}
 use Rattle.std.proofs.lemmas.Int.{ints}
-use Rattle.time_values.specs.Instants.{clock_nanos, instant, IsLeapSecondMoment, IsLeapSecondStandIn}
+use Rattle.time_values.specs.Instants.{clock_nanos, instant, IsLeapSecondMoment, IsLastNanosecondOfMonth}
 use Rattle.time_values.specs.Moments.{offset_date, offset_time, offset_of, offset_instant, utc_date, utc_time, utc_instant}
 use Rattle.time_values.specs.Offsets.{HasOffset, IsUtc, offset_refusal}
 use Rattle.time_values.specs.Calendar.{greatest_year}
@@ -41,10 +41,10 @@ offset_or_utc r o is = or_utc r.offset_hour (offset_part r r.offset_minute) (off
 
 -- if the instant of a date and time in UTC is a leap second, so is the date and time
 leap_there : (u : UtcDateTime) (n : ℤ) → utc_instant greatest_year u ≡ n → IsLeapSecondMoment greatest_year n
-    → IsLeapSecondStandIn (utc_date u) (utc_time u)
+    → IsLastNanosecondOfMonth (utc_date u) (utc_time u)
 leap_there u n is (date, time, shown, leap, within) =
     let same = same_moment date (utc_date u) time (utc_time u) (shown ∙ sym is) in
-    subst (λ d. IsLeapSecondStandIn d (utc_time u)) same.0 (subst (λ t. IsLeapSecondStandIn date t) same.1 leap)
+    subst (λ d. IsLastNanosecondOfMonth d (utc_time u)) same.0 (subst (λ t. IsLastNanosecondOfMonth date t) same.1 leap)
 
 -- the date and time in UTC of a moment of parts
 parts_in_utc : (r : Record) (w : OffsetDateTime) (u : UtcDateTime) → utc_instant greatest_year u ≡ offset_instant greatest_year w

@@ -1,6 +1,6 @@
 use Rattle.std.proofs.Common.{◌≡◌, ℕ, List, [], ◌∷◌, length, get_or, refl, arith, ap, ◌∙◌}
 use Rattle.time_values.specs.Moments.{offset_date, offset_time, offset_of}
-use Rattle.time_values.specs.Shown.{fixed}
+use Rattle.time_values.specs.DisplayTexts.{fixed}
 use Rattle.time_values.specs.Times as Times
 use Rattle.time_formatting.specs.WellKnown.{date_text, clock_text, numeric_text}
 use Rattle.time_parsing.proofs.rfc3339.text_3339.Goals as goal

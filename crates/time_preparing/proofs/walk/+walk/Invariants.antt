@@ -2,7 +2,7 @@ use Rattle.std.proofs.Common.{◌≡◌, ◌+◌, ◌*◌, ◌≤◌, length}
 use Rattle.time_values.specs.Calendar.{greatest_year}
 use Rattle.time_components.specs.Tree.{steps_trees}
 use Rattle.time_preparing.specs.Forms.{Fits}
-use Rattle.time_preparing.specs.Walk.{Goes}
+use Rattle.time_preparing.specs.Walk.{Resumes}
 use Rattle.time_preparing.proofs.Going.{Chooses}
 use Rattle.time_preparing.proofs.walk.+walk.Given as goal
 
@@ -26,7 +26,7 @@ decreases-walk_first l = 8 * length l.steps.now + 5
 
 abbrev pub invariant-walk-loop-later : goal.invariant-walk-loop-later
 invariant-walk-loop-later l =
-    Goes greatest_year (steps_trees l.steps) l.fn.input l.fn.parsed (steps_trees l.left) l.rest l.parsed
+    Resumes (steps_trees l.steps) l.fn.input l.fn.parsed (steps_trees l.left) l.rest l.parsed
     × Fits l.left_joined l.left × (length l.left_joined ≡ length l.left) × (length l.left ≤ length l.steps)
 
 abbrev pub decreases-walk-loop-later : goal.decreases-walk-loop-later
@@ -34,7 +34,7 @@ decreases-walk-loop-later l = length l.left
 
 abbrev pub invariant-walk_first-loop-left : goal.invariant-walk_first-loop-left
 invariant-walk_first-loop-left l =
-    Chooses greatest_year (steps_trees l.steps) (steps_trees l.left) l.input l.fn.parsed l.first_fault × (l.parsed ≡ l.fn.parsed)
+    Chooses (steps_trees l.steps) (steps_trees l.left) l.input l.fn.parsed l.first_fault × (l.parsed ≡ l.fn.parsed)
     × Fits l.left_joined l.left × (length l.left_joined ≡ length l.left) × (length l.left ≤ length l.steps)
 
 abbrev pub decreases-walk_first-loop-left : goal.decreases-walk_first-loop-left

@@ -1,6 +1,6 @@
 use Rattle.std.proofs.Common.{[], ◌++◌}
 use Rattle.time_readers.specs.Rfc2822.{day_places, to_offset_places, offset_places, nothing_read}
-use Rattle.time_readers.proofs.Walking.{StopsAt-by, StopsAt-after, Stand-append}
+use Rattle.time_readers.proofs.Walking.{StopsAt-by, StopsAt-after, MatchesPlaces-append}
 use Rattle.time_readers.proofs.rfc2822.read.Goals as goal
 
 pub returns-in_err-rest : goal.returns-in_err-rest
@@ -17,5 +17,5 @@ returns-in_err-rest-3 g c = StopsAt-by _ (day_places ++ to_offset_places ++ offs
 
 pub returns : goal.returns
 returns g c =
-    Stand-append _ day_places (to_offset_places ++ offset_places) nothing_read _ _ _ _ _ c.in_ok-rest.ensures
-    (Stand-append _ to_offset_places offset_places _ _ _ _ _ _ c.in_ok-rest-2.ensures c.in_ok-rest-3.ensures)
+    MatchesPlaces-append _ day_places (to_offset_places ++ offset_places) nothing_read _ _ _ _ _ c.in_ok-rest.ensures
+    (MatchesPlaces-append _ to_offset_places offset_places _ _ _ _ _ _ c.in_ok-rest-2.ensures c.in_ok-rest-3.ensures)

@@ -1,7 +1,7 @@
 //! A calendar date and a time up to the second, the first sixteen bytes at once.
 ghost use Rattle.std.specs.Prelude.{◌≡◌, ℕ, List, [], ◌∷◌, map, IfSome, Ok};
 ghost use Rattle.time_readers.specs.Block.{AllWithin, pair_at};
-ghost use Rattle.time_readers.specs.IsoTimes.{GivesDateAndTime};
+ghost use Rattle.time_readers.specs.IsoTimes.{ReturnsDateAndTime};
 ghost use Rattle.time_readers.specs.IsoGrammar.{IsFirstSixteen};
 
 use crate::block;
@@ -32,7 +32,7 @@ struct FirstSixteen<'a> {
 // Parses a calendar date and a time up to the second, with separators. `None` for any other form.
 #[inline(always)]
 pub(in crate::iso8601) fn extended_date_and_time(input: &[u8]) -> Option<DateAndTime<'_>>
-    ensures { IfSome result (λ p. GivesDateAndTime input.now (Ok p)) }
+    ensures { IfSome result (λ p. ReturnsDateAndTime input.now (Ok p)) }
 {
     date_and_time_of(extended_first_sixteen(input)?)
 }
@@ -40,7 +40,7 @@ pub(in crate::iso8601) fn extended_date_and_time(input: &[u8]) -> Option<DateAnd
 // Parses a calendar date and a time up to the second, without separators, if a byte follows. `None` for any other form.
 #[inline(always)]
 pub(in crate::iso8601) fn basic_date_and_time(input: &[u8]) -> Option<DateAndTime<'_>>
-    ensures { IfSome result (λ p. GivesDateAndTime input.now (Ok p)) }
+    ensures { IfSome result (λ p. ReturnsDateAndTime input.now (Ok p)) }
 {
     date_and_time_of(basic_first_sixteen(input)?)
 }
@@ -124,7 +124,7 @@ fn basic_pairs(bytes: &[u8; 16]) -> [u8; 8]
 // The date and the time of these digits, with the second parsed after them. `None` for any other form.
 #[inline(always)]
 fn date_and_time_of(first: FirstSixteen<'_>) -> Option<DateAndTime<'_>>
-    ensures { (text : List ℕ) → IsFirstSixteen text first.entry → IfSome result (λ p. GivesDateAndTime text (Ok p)) }
+    ensures { (text : List ℕ) → IsFirstSixteen text first.entry → IfSome result (λ p. ReturnsDateAndTime text (Ok p)) }
 {
     if first.hour > 23 {
         return None;

@@ -2,7 +2,7 @@
 ghost use Rattle.std.specs.Prelude.{◌≡◌, ◌≤◌, ◌<◌, ◌^◌, ℕ, IfSome, List, Some};
 ghost use Rattle.std.specs.Int.NonZero.{non_zero_u8_get, non_zero_u16_get};
 ghost use Rattle.time_digits.specs.Digits.{Finds, AllDigits, IsDigitRun};
-ghost use Rattle.time_readers.specs.IsoPieces.{Gives, GivesAs, number_of};
+ghost use Rattle.time_readers.specs.IsoPieces.{Returns, ReturnsAs, number_of};
 ghost use Rattle.time_readers.specs.IsoGrammar.{Leaves};
 ghost use Rattle.time_readers.specs.IsoPieces as spec;
 
@@ -15,7 +15,7 @@ use time_values::{Month, Weekday};
 #[inline(always)]
 #[tactic(auto, unfolding(crate::specs::IsoPieces::year))]
 pub fn year(input: &[u8]) -> Option<ParsedItem<'_, i32>>
-    ensures { Gives (spec.year input.now) result }
+    ensures { Returns (spec.year input.now) result }
 {
     match sign(input) {
         Some(found) => year_after_sign(found.0, found.1),
@@ -30,7 +30,7 @@ pub fn year(input: &[u8]) -> Option<ParsedItem<'_, i32>>
 // aren't inlined themselves.
 #[inline(never)]
 fn year_after_sign(input: &[u8], sign: Sign) -> Option<ParsedItem<'_, i32>>
-    ensures { (bytes : List ℕ) → Gives (spec.year_after bytes (Some (input.now, sign))) result }
+    ensures { (bytes : List ℕ) → Returns (spec.year_after bytes (Some (input.now, sign))) result }
 {
     let number = exactly::<6>(input)?;
     Some(ParsedItem(number.0, with_sign(sign, number.1)))
@@ -53,7 +53,7 @@ fn with_sign(sign: Sign, number: u32) -> i32
 #[inline(always)]
 #[tactic(auto, unfolding(crate::specs::IsoPieces::month))]
 pub fn month(input: &[u8]) -> Option<ParsedItem<'_, Month>>
-    ensures { Gives (spec.month input.now) result }
+    ensures { Returns (spec.month input.now) result }
 {
     let number = two_digits(input)?;
     match Month::from_number(NonZero::<u8>::new(number.1)?) {
@@ -66,7 +66,7 @@ pub fn month(input: &[u8]) -> Option<ParsedItem<'_, Month>>
 #[inline(always)]
 #[tactic(auto, unfolding(crate::specs::IsoPieces::positive))]
 pub fn week(input: &[u8]) -> Option<ParsedItem<'_, NonZero<u8>>>
-    ensures { GivesAs non_zero_u8_get (spec.positive 2 input.now) result }
+    ensures { ReturnsAs non_zero_u8_get (spec.positive 2 input.now) result }
 {
     let number = two_digits(input)?;
     Some(ParsedItem(number.0, NonZero::<u8>::new(number.1)?))
@@ -75,7 +75,7 @@ pub fn week(input: &[u8]) -> Option<ParsedItem<'_, NonZero<u8>>>
 /// Parses a day of the month: two digits, but not `00`.
 #[inline(always)]
 pub fn day(input: &[u8]) -> Option<ParsedItem<'_, NonZero<u8>>>
-    ensures { GivesAs non_zero_u8_get (spec.positive 2 input.now) result }
+    ensures { ReturnsAs non_zero_u8_get (spec.positive 2 input.now) result }
 {
     week(input)
 }
@@ -84,7 +84,7 @@ pub fn day(input: &[u8]) -> Option<ParsedItem<'_, NonZero<u8>>>
 #[inline(always)]
 #[tactic(auto, unfolding(crate::specs::IsoPieces::weekday))]
 pub fn dayk(input: &[u8]) -> Option<ParsedItem<'_, Weekday>>
-    ensures { Gives (spec.weekday input.now) result }
+    ensures { Returns (spec.weekday input.now) result }
 {
     let number = one_digit(input)?;
     Some(ParsedItem(number.0, numbered_weekday(number.1)?))
@@ -110,7 +110,7 @@ fn numbered_weekday(number: u8) -> Option<Weekday>
 #[inline(always)]
 #[tactic(auto, unfolding(crate::specs::IsoPieces::positive))]
 pub fn dayo(input: &[u8]) -> Option<ParsedItem<'_, NonZero<u16>>>
-    ensures { GivesAs non_zero_u16_get (spec.positive 3 input.now) result }
+    ensures { ReturnsAs non_zero_u16_get (spec.positive 3 input.now) result }
 {
     let number = exactly::<3>(input)?;
     Some(ParsedItem(number.0, NonZero::<u16>::new(number.1 as u16)?))
@@ -119,7 +119,7 @@ pub fn dayo(input: &[u8]) -> Option<ParsedItem<'_, NonZero<u16>>>
 /// Parses an hour: two digits of any value.
 #[inline(always)]
 pub fn hour(input: &[u8]) -> Option<ParsedItem<'_, u8>>
-    ensures { Gives (spec.digits 2 input.now) result }
+    ensures { Returns (spec.digits 2 input.now) result }
 {
     two_digits(input)
 }
@@ -127,7 +127,7 @@ pub fn hour(input: &[u8]) -> Option<ParsedItem<'_, u8>>
 /// Parses a minute: two digits of any value.
 #[inline(always)]
 pub fn min(input: &[u8]) -> Option<ParsedItem<'_, u8>>
-    ensures { Gives (spec.digits 2 input.now) result }
+    ensures { Returns (spec.digits 2 input.now) result }
 {
     hour(input)
 }
@@ -137,7 +137,7 @@ pub fn min(input: &[u8]) -> Option<ParsedItem<'_, u8>>
 /// The fraction is all digits after `.` or `,`. Returns `None` if there isn't one.
 #[inline(always)]
 pub fn float(input: &[u8]) -> Option<ParsedItem<'_, (u8, Option<&[u8]>)>>
-    ensures is { GivesAs (λ n. number_of n.0 n.1) (spec.number input.now) result }
+    ensures is { ReturnsAs (λ n. number_of n.0 n.1) (spec.number input.now) result }
     ensures digits { IfSome result (λ p. IfSome p.1.1 (λ d. AllDigits d.now)) }
 {
     let whole = two_digits(input)?;
@@ -178,7 +178,7 @@ pub(in crate::iso8601) fn point(input: &[u8]) -> Option<&[u8]>
 // Parses a sign.
 #[inline(always)]
 pub(super) fn sign(input: &[u8]) -> Option<ParsedItem<'_, Sign>>
-    ensures { Gives (spec.sign input.now) result }
+    ensures { Returns (spec.sign input.now) result }
 {
     combinator::sign(input)
 }
@@ -188,7 +188,7 @@ pub(super) fn sign(input: &[u8]) -> Option<ParsedItem<'_, Sign>>
 fn exactly<const N: u8>(input: &[u8]) -> Option<ParsedItem<'_, u32>>
     requires least { 1 ≤ N }
     requires most { N ≤ 9 }
-    ensures is { Gives (spec.digits N input.now) result }
+    ensures is { Returns (spec.digits N input.now) result }
     ensures below { IfSome result (λ p. p.1 < 10 ^ N) }
 {
     exactly_n_digits::<N>(input)
@@ -197,7 +197,7 @@ fn exactly<const N: u8>(input: &[u8]) -> Option<ParsedItem<'_, u32>>
 // Parses two digits.
 #[inline(always)]
 pub(in crate::iso8601) fn two_digits(input: &[u8]) -> Option<ParsedItem<'_, u8>>
-    ensures { Gives (spec.digits 2 input.now) result }
+    ensures { Returns (spec.digits 2 input.now) result }
 {
     combinator::two_digits(input)
 }
@@ -205,7 +205,7 @@ pub(in crate::iso8601) fn two_digits(input: &[u8]) -> Option<ParsedItem<'_, u8>>
 // Parses one digit.
 #[inline(always)]
 fn one_digit(input: &[u8]) -> Option<ParsedItem<'_, u8>>
-    ensures { Gives (spec.digits 1 input.now) result }
+    ensures { Returns (spec.digits 1 input.now) result }
 {
     run_of_one(input)
 }
@@ -225,7 +225,7 @@ fn run_of_one(input: &[u8]) -> Option<ParsedItem<'_, u8>>
 #[inline(always)]
 #[tactic(auto, unfolding(crate::specs::IsoPieces::up_to))]
 pub(super) fn up_to<const GREATEST: u8>(input: &[u8]) -> Option<ParsedItem<'_, u8>>
-    ensures is { Gives (spec.up_to GREATEST 2 input.now) result }
+    ensures is { Returns (spec.up_to GREATEST 2 input.now) result }
     ensures within { IfSome result (λ p. p.1 ≤ GREATEST) }
 {
     let found = two_digits(input)?;

@@ -1,7 +1,7 @@
 //! The time of an ISO 8601 text, as `T03`, `0304`, `03:04:05` or `03:04,5`.
 ghost use Rattle.std.specs.Prelude.{◌≡◌, ◌≤◌, ℕ, List, IfSome, Some, None, true, option_map};
 ghost use Rattle.time_digits.specs.Digits.{AllDigits};
-ghost use Rattle.time_readers.specs.IsoPieces.{GivesPart, number_of, number, byte, plain};
+ghost use Rattle.time_readers.specs.IsoPieces.{ReturnsPart, number_of, number, byte, plain};
 ghost use Rattle.time_readers.specs.IsoTimes.{floor_of, not_basic};
 ghost use Rattle.time_readers.specs.IsoGrammar as pieces;
 ghost use Rattle.time_readers.specs.IsoTimes as spec;
@@ -18,7 +18,7 @@ pub(in crate::iso8601) fn time<'a>(
     kind: ExtendedKind,
     needs_t: bool,
 ) -> Option<Part<'a, TimeNumbers>>
-    ensures { GivesPart (spec.time_text needs_t kind input.now) result }
+    ensures { ReturnsPart (spec.time_text needs_t kind input.now) result }
 {
     match byte::<b'T'>(input) {
         Some(after) => after_t(after, kind),
@@ -30,7 +30,7 @@ pub(in crate::iso8601) fn time<'a>(
 // Parses a time after its `T`.
 #[inline(always)]
 fn after_t<'a>(input: &'a [u8], kind: ExtendedKind) -> Option<Part<'a, TimeNumbers>>
-    ensures { GivesPart (spec.time_after kind input.now) result }
+    ensures { ReturnsPart (spec.time_after kind input.now) result }
 {
     let found = float(input)?;
     let hour = found.1.0;
@@ -52,7 +52,7 @@ fn after_t<'a>(input: &'a [u8], kind: ExtendedKind) -> Option<Part<'a, TimeNumbe
 fn after_hour<'a>(input: &'a [u8], kind: ExtendedKind, hour: u8) -> Option<Part<'a, TimeNumbers>>
     requires { hour ≤ 23 }
     ensures { (bytes : List ℕ) → number bytes ≡ Some (input.now, plain hour)
-        → GivesPart (spec.time_after kind bytes) result }
+        → ReturnsPart (spec.time_after kind bytes) result }
 {
     match byte::<b':'>(input) {
         Some(after) => {
@@ -76,7 +76,7 @@ fn minute_without_colon<'a>(
     requires hour { hour ≤ 23 }
     requires no_colon { byte 58 input.now ≡ None }
     ensures { (bytes : List ℕ) → number bytes ≡ Some (input.now, plain hour)
-        → GivesPart (spec.time_after kind bytes) result }
+        → ReturnsPart (spec.time_after kind bytes) result }
 {
     let Some(found) = float(input) else {
         return Some(Part {
@@ -115,7 +115,7 @@ fn minute_after_colon<'a>(
     requires hour { hour ≤ 23 }
     requires kind { not_basic kind ≡ true }
     ensures { (bytes mid : List ℕ) → number bytes ≡ Some (mid, plain hour) → byte 58 mid ≡ Some input.now
-        → GivesPart (spec.time_after kind bytes) result }
+        → ReturnsPart (spec.time_after kind bytes) result }
 {
     let found = float(input)?;
     let minute = found.1.0;
@@ -135,7 +135,7 @@ fn minute_after_colon<'a>(
 // Parses a second after an hour and a minute without separators, if there is one.
 #[inline(always)]
 fn basic_second(input: &[u8], numbers: TimeNumbers) -> Option<Part<'_, TimeNumbers>>
-    ensures { GivesPart (pieces.basic_second numbers input.now (number input.now)) result }
+    ensures { ReturnsPart (pieces.basic_second numbers input.now (number input.now)) result }
 {
     match float(input) {
         Some(second) => with_second(second, numbers, ExtendedKind::Basic),
@@ -150,7 +150,7 @@ fn basic_second(input: &[u8], numbers: TimeNumbers) -> Option<Part<'_, TimeNumbe
 // Parses a colon and a second after an hour and a minute, if there is a colon.
 #[inline(always)]
 fn extended_second(input: &[u8], numbers: TimeNumbers) -> Option<Part<'_, TimeNumbers>>
-    ensures { GivesPart (pieces.extended_second numbers input.now (byte 58 input.now)) result }
+    ensures { ReturnsPart (pieces.extended_second numbers input.now (byte 58 input.now)) result }
 {
     match byte::<b':'>(input) {
         Some(after) => with_second(float(after)?, numbers, ExtendedKind::Extended),
@@ -170,7 +170,7 @@ fn with_second<'a>(
     kind: ExtendedKind,
 ) -> Option<Part<'a, TimeNumbers>>
     requires { IfSome second.1.1 (λ d. AllDigits d.now) }
-    ensures { GivesPart
+    ensures { ReturnsPart
         (pieces.second_found numbers kind (second.entry.0.now, number_of second.entry.1.0 second.entry.1.1)) result }
 {
     if second.1.0 > 60 {

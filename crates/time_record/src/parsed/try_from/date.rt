@@ -6,7 +6,7 @@ ghost use Rattle.time_values.specs.Calendar.{greatest_year};
 ghost use Rattle.time_values.specs.Refusal.{range};
 ghost use Rattle.time_values.specs.Names.{days_from_monday};
 ghost use Rattle.time_values.specs.declared.date.Date.{Date};
-ghost use Rattle.time_record.specs.Resolution.{year_of, full_year, full_iso_year, by_ordinal, by_month_and_day, by_iso_week, IsRowDate, IsWeekDate, IsDated, parsed_seen};
+ghost use Rattle.time_record.specs.Resolution.{year_of, full_year, full_iso_year, by_ordinal, by_month_and_day, by_iso_week, IsRowDate, IsWeekDate, IsDated, erased_conversion};
 
 use crate::Parsed;
 use crate::parsed::try_from::date_of;
@@ -24,7 +24,7 @@ use time_values::{Date, Month, Weekday};
 impl TryFrom<Parsed> for Date {
     type Error = TryFromParsed;
 
-    ghost try_from_gives = { λ p r. IsDated greatest_year p (parsed_seen r) };
+    ghost try_from_gives = { λ p r. IsDated greatest_year p (erased_conversion r) };
 
     #[inline(always)]
     fn try_from(parsed: Parsed) -> Result<Date, TryFromParsed> {
@@ -36,7 +36,7 @@ impl TryFrom<Parsed> for Date {
 #[inline(never)]
 #[tactic(auto, unfolding(crate::specs::Resolution::IsDated))]
 pub(super) fn date_of_rows(parsed: &Parsed) -> Result<Date, TryFromParsed>
-    ensures { IsDated greatest_year parsed.now (parsed_seen result) }
+    ensures { IsDated greatest_year parsed.now (erased_conversion result) }
 {
     let year = calendar_year(parsed);
     if let (Some(year), Some(ordinal)) = (year, parsed.ordinal()) {
@@ -112,7 +112,7 @@ fn joined_year(century: i16, is_negative: bool, last_two: u8) -> i32
 fn ordinal_date(year: i32, ordinal: NonZero<u16>) -> Result<Date, TryFromParsed>
     requires { IsTrue (is_year greatest_year year) }
     ensures { IsRowDate greatest_year (by_ordinal year (non_zero_u16_get ordinal))
-        (parsed_seen result) }
+        (erased_conversion result) }
 {
     Ok(Date::from_ordinal_date(year, ordinal.get())?)
 }
@@ -126,7 +126,7 @@ pub(super) fn calendar_date(
 ) -> Result<Date, TryFromParsed>
     requires { IsTrue (is_year greatest_year year) }
     ensures { IsRowDate greatest_year (by_month_and_day year month (non_zero_u8_get day))
-        (parsed_seen result) }
+        (erased_conversion result) }
 {
     Ok(Date::from_calendar_date(year, month, day.get())?)
 }
@@ -136,7 +136,7 @@ pub(super) fn calendar_date(
 fn iso_week_date(year: i32, week: NonZero<u8>, weekday: Weekday) -> Result<Date, TryFromParsed>
     requires { IsTrue (is_year greatest_year year) }
     ensures { IsRowDate greatest_year (by_iso_week year (non_zero_u8_get week) weekday)
-        (parsed_seen result) }
+        (erased_conversion result) }
 {
     Ok(Date::from_iso_week_date(year, week.get(), weekday)?)
 }
@@ -145,7 +145,7 @@ fn iso_week_date(year: i32, week: NonZero<u8>, weekday: Weekday) -> Result<Date,
 #[inline]
 fn week_date(year: i32, week: u8, weekday: Weekday, start: Weekday) -> Result<Date, TryFromParsed>
     requires { IsTrue (is_year greatest_year year) }
-    ensures { MatchResult (parsed_seen result)
+    ensures { MatchResult (erased_conversion result)
         (IsWeekDate greatest_year (days_from_monday start) year week (days_from_monday weekday))
         (λ e. ((d : Date) → IsWeekDate greatest_year (days_from_monday start) year week
         (days_from_monday weekday) d → ⊥) × (e ≡ range (codes "ordinal") true)) }

@@ -5,12 +5,14 @@ ghost use Rattle.time_values.specs.Instants.{is_instant, IsLeapSecondMoment};
 ghost use Rattle.time_values.specs.Moments as Moments;
 ghost use Rattle.time_values.specs.Offsets.{IsUtc};
 ghost use Rattle.time_values.specs.Calendar.{greatest_year};
-ghost use Rattle.time_record.specs.Resolution.{IsMoment, IsMomentOfParts, IsStamped, is_leap_second, parsed_seen};
+ghost use Rattle.time_record.specs.Resolution.{IsMoment, IsMomentOfParts, IsStamped, is_leap_second, erased_conversion};
 
 use crate::Parsed;
 use crate::parsed::cells::{DAY, HOUR_24, MINUTE, MONTH, SECOND, YEAR};
 use crate::parsed::try_from::date_of;
-use crate::parsed::try_from::time::{is_leap_second, misplaced, offset_of, stand_in, time_with};
+use crate::parsed::try_from::time::{
+    is_leap_second, misplaced, offset_of, replace_leap_second, time_with,
+};
 use time_values::OffsetDateTime;
 use time_values::error::TryFromParsed;
 
@@ -19,7 +21,7 @@ use time_values::error::TryFromParsed;
 #[inline(always)]
 #[tactic(auto, unfolding(crate::specs::Resolution::IsMoment))]
 pub(super) fn moment_or_refusal(parsed: &Parsed) -> Result<OffsetDateTime, TryFromParsed>
-    ensures { IsMoment greatest_year parsed.now (parsed_seen result) }
+    ensures { IsMoment greatest_year parsed.now (erased_conversion result) }
 {
     let is_usual = parsed.has(YEAR, MONTH, DAY) && parsed.has(HOUR_24, MINUTE, SECOND);
     if !is_usual || parsed.unix_timestamp_nanos().is_some() {
@@ -32,7 +34,7 @@ pub(super) fn moment_or_refusal(parsed: &Parsed) -> Result<OffsetDateTime, TryFr
 #[inline(never)]
 #[tactic(auto, unfolding(crate::specs::Resolution::IsMoment))]
 fn moment_of(parsed: &Parsed) -> Result<OffsetDateTime, TryFromParsed>
-    ensures { IsMoment greatest_year parsed.now (parsed_seen result) }
+    ensures { IsMoment greatest_year parsed.now (erased_conversion result) }
 {
     match parsed.unix_timestamp_nanos() {
         Some(nanos) => moment_at(nanos, parsed.subsecond()),
@@ -45,7 +47,7 @@ fn moment_of(parsed: &Parsed) -> Result<OffsetDateTime, TryFromParsed>
 fn moment_at(nanos: i128, subsecond: Option<u32>) -> Result<OffsetDateTime, TryFromParsed>
     requires nanos { IsTrue (is_instant greatest_year nanos) }
     requires subsecond { ForSome subsecond (λ n. n ≤ 999_999_999) }
-    ensures { IsOkAnd (parsed_seen result)
+    ensures { IsOkAnd (erased_conversion result)
         (λ v. IsStamped greatest_year nanos subsecond (Moments.offset_date v) (Moments.offset_time v)
         × IsUtc (Moments.offset_of v)) }
 {
@@ -60,14 +62,14 @@ fn moment_at(nanos: i128, subsecond: Option<u32>) -> Result<OffsetDateTime, TryF
 #[inline(always)]
 #[tactic(auto, unfolding(crate::specs::Resolution::IsMomentOfParts))]
 fn moment_of_parts(parsed: &Parsed) -> Result<OffsetDateTime, TryFromParsed>
-    ensures { IsMomentOfParts greatest_year parsed.now (parsed_seen result) }
+    ensures { IsMomentOfParts greatest_year parsed.now (erased_conversion result) }
 {
     let date = date_of(parsed)?;
-    let (second, subsecond) = stand_in(parsed);
+    let (second, subsecond) = replace_leap_second(parsed);
     let time = time_with(parsed, second, subsecond)?;
     let offset = offset_of(parsed)?;
     let moment = OffsetDateTime::new_in_offset(date, time, offset);
-    if !leap_second_may_stand(parsed, moment) {
+    if !is_leap_second_valid(parsed, moment) {
         return Err(misplaced());
     }
     Ok(moment)
@@ -76,7 +78,7 @@ fn moment_of_parts(parsed: &Parsed) -> Result<OffsetDateTime, TryFromParsed>
 // Checks that a leap second occurs only at the end of a month in UTC. The moment is a copy here, so that it stays in
 // registers if no leap second is known.
 #[inline(always)]
-fn leap_second_may_stand(parsed: &Parsed, moment: OffsetDateTime) -> bool
+fn is_leap_second_valid(parsed: &Parsed, moment: OffsetDateTime) -> bool
     ensures stands { IsTrue result → IsTrue (is_leap_second parsed.now)
         → IsLeapSecondMoment greatest_year (Moments.offset_instant greatest_year moment) }
     ensures misplaced { result ≡ false → IsTrue (is_leap_second parsed.now)

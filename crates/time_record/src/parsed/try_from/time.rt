@@ -1,6 +1,6 @@
 //! The time of a record, its offset from UTC, and leap seconds, which resolve to the last nanosecond before them.
 ghost use Rattle.std.specs.Prelude.{◌≡◌, Some, codes, true};
-ghost use Rattle.time_record.specs.Resolution.{IsTimed, hour_of, parsed_seen, IsOffset, offset_seconds_of};
+ghost use Rattle.time_record.specs.Resolution.{IsTimed, hour_of, erased_conversion, IsOffset, offset_seconds_of};
 ghost use Rattle.time_values.specs.Refusal.{range, refusal_of_parsed};
 ghost use Rattle.time_record.specs.Resolution as Resolution;
 
@@ -18,7 +18,7 @@ use time_values::{Time, UtcOffset};
 impl TryFrom<Parsed> for Time {
     type Error = TryFromParsed;
 
-    ghost try_from_gives = { λ p r. IsTimed p (parsed_seen r) };
+    ghost try_from_gives = { λ p r. IsTimed p (erased_conversion r) };
 
     #[inline(always)]
     fn try_from(parsed: Parsed) -> Result<Time, TryFromParsed> {
@@ -29,7 +29,7 @@ impl TryFrom<Parsed> for Time {
 // The time of a record.
 #[inline(always)]
 pub(super) fn time_of(parsed: &Parsed) -> Result<Time, TryFromParsed>
-    ensures { IsTimed parsed.now (parsed_seen result) }
+    ensures { IsTimed parsed.now (erased_conversion result) }
 {
     time_with(parsed, parsed.second(), parsed.subsecond())
 }
@@ -43,7 +43,7 @@ pub(super) fn time_with(
     subsecond: Option<u32>,
 ) -> Result<Time, TryFromParsed>
     ensures { IsTimed (record parsed.now { second = second; subsecond = subsecond })
-        (parsed_seen result) }
+        (erased_conversion result) }
 {
     let Some(hour) = hour_of_day(parsed) else {
         return Err(TryFromParsed::InsufficientInformation);
@@ -82,7 +82,7 @@ fn hour_of_day(parsed: &Parsed) -> Option<u8>
 impl TryFrom<Parsed> for UtcOffset {
     type Error = TryFromParsed;
 
-    ghost try_from_gives = { λ p r. IsOffset p (parsed_seen r) };
+    ghost try_from_gives = { λ p r. IsOffset p (erased_conversion r) };
 
     #[inline(always)]
     fn try_from(parsed: Parsed) -> Result<UtcOffset, TryFromParsed> {
@@ -94,7 +94,7 @@ impl TryFrom<Parsed> for UtcOffset {
 #[inline(always)]
 #[tactic(auto, unfolding(crate::specs::Resolution::IsOffset))]
 pub(super) fn offset_of(parsed: &Parsed) -> Result<UtcOffset, TryFromParsed>
-    ensures { IsOffset parsed.now (parsed_seen result) }
+    ensures { IsOffset parsed.now (erased_conversion result) }
 {
     match parsed.offset_hour() {
         Some(hour) => offset_of_hour(hour, parsed),
@@ -107,7 +107,7 @@ pub(super) fn offset_of(parsed: &Parsed) -> Result<UtcOffset, TryFromParsed>
 #[tactic(auto, unfolding(crate::specs::Resolution::IsOffset))]
 fn offset_of_hour(hour: i8, parsed: &Parsed) -> Result<UtcOffset, TryFromParsed>
     requires { parsed.now.offset_hour ≡ Some hour }
-    ensures { IsOffset parsed.now (parsed_seen result) }
+    ensures { IsOffset parsed.now (erased_conversion result) }
 {
     let minute = parsed.offset_minute_signed().unwrap_or(0);
     Ok(UtcOffset::from_hms(hour, minute, second_below(parsed))?)
@@ -134,9 +134,9 @@ pub(super) fn is_leap_second(parsed: &Parsed) -> bool
 
 // The second and the subsecond of a record. A leap second is replaced by the last nanosecond before it.
 #[inline(always)]
-pub(super) fn stand_in(parsed: &Parsed) -> (Option<u8>, Option<u32>)
+pub(super) fn replace_leap_second(parsed: &Parsed) -> (Option<u8>, Option<u32>)
     ensures { record parsed.now { second = result.0; subsecond = result.1 }
-        ≡ Resolution.stand_in parsed.now }
+        ≡ Resolution.replace_leap_second parsed.now }
 {
     if is_leap_second(parsed) {
         (Some(59), Some(999_999_999))

@@ -4,12 +4,12 @@ ghost use Rattle.std.specs.Option.{ForSome};
 ghost use Rattle.time_values.specs.Instants.{instant, is_instant};
 ghost use Rattle.time_values.specs.Moments.{utc_date, utc_time};
 ghost use Rattle.time_values.specs.Calendar.{greatest_year};
-ghost use Rattle.time_record.specs.Resolution.{IsInUtc, IsOffsetOrUtc, IsStamped, IsUtcMoment, IsUtcMomentOfParts, parsed_seen, IsPlain, IsTimestamp};
+ghost use Rattle.time_record.specs.Resolution.{IsInUtc, IsOffsetOrUtc, IsStamped, IsUtcMoment, IsUtcMomentOfParts, erased_conversion, IsPlain, IsTimestamp};
 
 use crate::Parsed;
 use crate::parsed::try_from::date_of;
 use crate::parsed::try_from::time::{
-    is_leap_second, misplaced, offset_of, stand_in, time_of, time_with,
+    is_leap_second, misplaced, offset_of, replace_leap_second, time_of, time_with,
 };
 use std::convert::TryFrom;
 use time_values::error::{ComponentRange, TryFromParsed};
@@ -24,7 +24,7 @@ use time_values::{OffsetDateTime, PlainDateTime, Timestamp, UtcDateTime, UtcOffs
 impl TryFrom<Parsed> for UtcDateTime {
     type Error = TryFromParsed;
 
-    ghost try_from_gives = { λ p r. IsUtcMoment greatest_year p (parsed_seen r) };
+    ghost try_from_gives = { λ p r. IsUtcMoment greatest_year p (erased_conversion r) };
 
     #[inline]
     #[tactic(auto, unfolding(crate::specs::Resolution::IsUtcMoment))]
@@ -41,7 +41,7 @@ impl TryFrom<Parsed> for UtcDateTime {
 fn moment_at(nanos: i128, subsecond: Option<u32>) -> Result<UtcDateTime, TryFromParsed>
     requires nanos { IsTrue (is_instant greatest_year nanos) }
     requires subsecond { ForSome subsecond (λ n. n ≤ 999_999_999) }
-    ensures { IsOkAnd (parsed_seen result)
+    ensures { IsOkAnd (erased_conversion result)
         (λ v. IsStamped greatest_year nanos subsecond (utc_date v) (utc_time v)) }
 {
     let moment = UtcDateTime::from_unix_timestamp_nanos(nanos)?;
@@ -55,10 +55,10 @@ fn moment_at(nanos: i128, subsecond: Option<u32>) -> Result<UtcDateTime, TryFrom
 #[inline]
 #[tactic(auto, unfolding(crate::specs::Resolution::IsUtcMomentOfParts))]
 pub(super) fn moment_of_parts(parsed: &Parsed) -> Result<UtcDateTime, TryFromParsed>
-    ensures { IsUtcMomentOfParts greatest_year parsed.now (parsed_seen result) }
+    ensures { IsUtcMomentOfParts greatest_year parsed.now (erased_conversion result) }
 {
     let date = date_of(parsed)?;
-    let (second, subsecond) = stand_in(parsed);
+    let (second, subsecond) = replace_leap_second(parsed);
     let time = time_with(parsed, second, subsecond)?;
     let offset = offset_or_utc(parsed)?;
     let moment = in_utc(OffsetDateTime::new_in_offset(date, time, offset))?;
@@ -72,7 +72,7 @@ pub(super) fn moment_of_parts(parsed: &Parsed) -> Result<UtcDateTime, TryFromPar
 #[inline]
 #[tactic(auto, unfolding(crate::specs::Resolution::IsOffset, crate::specs::Resolution::IsOffsetOrUtc))]
 fn offset_or_utc(parsed: &Parsed) -> Result<UtcOffset, TryFromParsed>
-    ensures { IsOffsetOrUtc parsed.now (parsed_seen result) }
+    ensures { IsOffsetOrUtc parsed.now (erased_conversion result) }
 {
     match parsed.offset_hour() {
         Some(_) => offset_of(parsed),
@@ -84,7 +84,7 @@ fn offset_or_utc(parsed: &Parsed) -> Result<UtcOffset, TryFromParsed>
 #[inline]
 fn in_utc(moment: OffsetDateTime) -> Result<UtcDateTime, TryFromParsed>
     ensures { IsInUtc greatest_year (instant greatest_year moment.date moment.time moment.offset)
-        (parsed_seen result) }
+        (erased_conversion result) }
 {
     match moment.checked_to_utc() {
         Some(moment) => Ok(moment),
@@ -99,7 +99,7 @@ fn in_utc(moment: OffsetDateTime) -> Result<UtcDateTime, TryFromParsed>
 #[inline(always)]
 #[tactic(auto, unfolding(crate::specs::Resolution::IsPlain))]
 pub(super) fn date_and_time(parsed: &Parsed) -> Result<PlainDateTime, TryFromParsed>
-    ensures { IsPlain greatest_year parsed.now (parsed_seen result) }
+    ensures { IsPlain greatest_year parsed.now (erased_conversion result) }
 {
     let date = date_of(parsed)?;
     let time = time_of(parsed)?;
@@ -113,7 +113,7 @@ pub(super) fn date_and_time(parsed: &Parsed) -> Result<PlainDateTime, TryFromPar
 impl TryFrom<Parsed> for Timestamp {
     type Error = TryFromParsed;
 
-    ghost try_from_gives = { λ p r. IsTimestamp greatest_year p (parsed_seen r) };
+    ghost try_from_gives = { λ p r. IsTimestamp greatest_year p (erased_conversion r) };
 
     #[inline]
     #[tactic(auto, unfolding(crate::specs::Resolution::IsTimestamp, crate::specs::Resolution::IsInstantOfParts))]

@@ -1,5 +1,5 @@
 use Rattle.std.proofs.Common.{◌≡◌, ◌≤◌}
-use Rattle.time_values.specs.Shown.{significant}
+use Rattle.time_values.specs.DisplayTexts.{significant}
 use Rattle.time_values.proofs.digits.count_significant.Given as goal
 
 abbrev pub invariant-loop-count : goal.invariant-loop-count

@@ -5,7 +5,7 @@ use Rattle.jiff_tz.specs.Zone as Zone
 use Rattle.time_values.specs.Moments.{plain_instant}
 use Rattle.time_values.specs.Calendar.{greatest_year}
 use Rattle.time_zones.specs.Spread.{HasOffset, IsSpread, Covers}
-use Rattle.time_zones.proofs.ZoneLemmas.{shows-HasOffset, shows-IsCivilNanos, told-IsCivilNanos, spread_reaches, clock-IsShownIn, two_offsets, one_of_two}
+use Rattle.time_zones.proofs.ZoneLemmas.{shows-HasOffset, shows-IsCivilNanos, told-IsCivilNanos, spread_reaches, clock-HasLocalTime, two_offsets, one_of_two}
 use Rattle.time_zones.proofs.clocks.assume_by_offsets.Goals as goal
 
 pub returns-in_default-clause-err : goal.returns-in_default-clause-err
@@ -15,13 +15,13 @@ returns-in_default-clause-err c =
       λ all. c.in_default.ensures.none (told-IsCivilNanos reading all),
     )
 
-pub returns-then-is_told_at_each_offset-clause-err : goal.returns-then-is_told_at_each_offset-clause-err
-returns-then-is_told_at_each_offset-clause-err c =
+pub returns-then-is_in_zone_range_at_each_offset-clause-err : goal.returns-then-is_in_zone_range_at_each_offset-clause-err
+returns-then-is_in_zone_range_at_each_offset-clause-err c =
     let zone = c.args.zone.now in
     let reading = plain_instant greatest_year c.args.clock in
     let each = subst (λ r. (s : ℤ) → HasOffset zone r s → ⊥) c.in-Some.ensures.value c.in_default-spread_at.ensures.each in
     let told = subst (λ r. (s : ℤ) → IsOffsetSeconds s → IsTimestampNanos (r -ℤ nanos_of_seconds s)) c.in-Some.ensures.value
-    (c.if-is_told_at_each_offset.ensures.0 (search rules)) in
+    (c.if-is_in_zone_range_at_each_offset.ensures.0 (search rules)) in
     (λ n h. each _ (shows-HasOffset zone reading n h).0, told)
 
 pub returns-in_default-spread_at-clause-err : goal.returns-in_default-spread_at-clause-err
@@ -32,7 +32,7 @@ returns-in_default-spread_at-clause-err c =
       λ n h. each _ (shows-HasOffset zone reading n h).0,
       λ all.
           let told = subst (λ r. (s : ℤ) → IsOffsetSeconds s → IsTimestampNanos (r -ℤ nanos_of_seconds s)) (sym c.in-Some.ensures.value) all in
-          let no : IsTrue false = c.if-is_told_at_each_offset.ensures.1 told in
+          let no : IsTrue false = c.if-is_in_zone_range_at_each_offset.ensures.1 told in
           absurd (search rules),
     )
 
@@ -45,8 +45,8 @@ returns-then-spread-clause-err c =
     let each = subst (λ r. (s : ℤ) → HasOffset zone r s → Covers (Some w) s) c.in-Some.ensures.value c.in-Some-spread_at.ensures.each in
     let earlier = c.moment_with-earlier.ensures in
     let later = c.moment_with-later.ensures in (
-      clock-IsShownIn zone c.args.clock _ _ earlier ends.greatest,
-      clock-IsShownIn zone c.args.clock _ _ later ends.least,
+      clock-HasLocalTime zone c.args.clock _ _ earlier ends.greatest,
+      clock-HasLocalTime zone c.args.clock _ _ later ends.least,
       omega (arith, ints, earlier.instant, later.instant, c.if-spread.true),
       λ n h. omega (arith, ints, spread_reaches zone reading w each n h, earlier.instant, later.instant),
     )
@@ -59,7 +59,7 @@ returns-clause-ok c =
     let ends = subst (λ r. IsSpread zone r w) c.in-Some.ensures.value c.in-Some-spread_at.ensures.ends in
     let each = subst (λ r. (s : ℤ) → HasOffset zone r s → Covers (Some w) s) c.in-Some.ensures.value c.in-Some-spread_at.ensures.each in
     let only = c.moment_with-earlier.ensures in (
-      clock-IsShownIn zone c.args.clock _ _ only ends.greatest,
+      clock-HasLocalTime zone c.args.clock _ _ only ends.greatest,
       λ n h. omega (arith, ints, spread_reaches zone reading w each n h, ends.rising, c.if-spread.false, only.instant),
     )
 

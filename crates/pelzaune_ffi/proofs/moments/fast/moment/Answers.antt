@@ -10,4 +10,4 @@ returns c =
     let all = c.in_ok-offset in
     let matches = whole_matches text front.rest.now middle.rest.now [] c.to_second.new.numbers middle.numbers all.field-0
     front.ensures.stands middle.ensures all.ensures.matches in
-    outcome_of text all.field-0 c.moment_from.result matches all.ensures.minute (rw c.said_rfc3339.ensures at c.moment_from.ensures)
+    outcome_of text all.field-0 c.moment_from.result matches all.ensures.minute (rw c.rfc3339_numbers.ensures at c.moment_from.ensures)

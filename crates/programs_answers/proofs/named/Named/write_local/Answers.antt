@@ -15,25 +15,25 @@ use Rattle.programs_answers.proofs.named.Named.write_local.Goals as goal
 -- ---- A list of one item parses as the item does
 
 -- the tree accepts each text that the list of that tree accepts
-single_reads : (Y : ℕ) (t : Tree) (b : List ℕ) (r : Record) (rest : List ℕ) (q : Record)
-    → Reads Y (sequence (more t none)) b r rest q → Reads Y t b r rest q
+single_reads : (t : Tree) (b : List ℕ) (r : Record) (rest : List ℕ) (q : Record)
+    → Reads greatest_year (sequence (more t none)) b r rest q → Reads greatest_year t b r rest q
 unfolding Reads ReadsAll
-single_reads Y t b r rest q (mid, m, here, same) =
-    subst (λ x. Reads Y t b r x q) (sym same.0) (subst (λ x. Reads Y t b r mid x) (sym same.1) here)
+single_reads t b r rest q (mid, m, here, same) =
+    subst (λ x. Reads greatest_year t b r x q) (sym same.0) (subst (λ x. Reads greatest_year t b r mid x) (sym same.1) here)
 
-single_fault : (Y : ℕ) (t : Tree) (b : List ℕ) (r : Record) (e : Refusal)
-    → IsFault Y (sequence (more t none)) b r e → IsFault Y t b r e
+single_fault : (t : Tree) (b : List ℕ) (r : Record) (e : Refusal)
+    → IsFault greatest_year (sequence (more t none)) b r e → IsFault greatest_year t b r e
 unfolding IsFault IsFaultAll
-single_fault Y t b r e (inl h) = h.1
-single_fault Y t b r e (inr h) = absurd h.3
+single_fault t b r e (inl h) = h.1
+single_fault t b r e (inr h) = absurd h.3
 
 -- and rejects each text that the list rejects
-single_refuses : (Y : ℕ) (t : Tree) (b : List ℕ) (r : Record) (e : Refusal)
-    → Refuses Y (sequence (more t none)) b r e → Refuses Y t b r e
+single_refuses : (t : Tree) (b : List ℕ) (r : Record) (e : Refusal)
+    → Refuses greatest_year (sequence (more t none)) b r e → Refuses greatest_year t b r e
 unfolding Reads ReadsAll
-single_refuses Y t b r e h = record {
+single_refuses t b r e h = record {
   unread = λ rest q here. h.unread rest q (rest, q, here, (refl, refl));
-  fault = single_fault Y t b r e h.fault;
+  fault = single_fault t b r e h.fault;
 }
 
 module _ (reads others : Reading) (refuses denies : Refusing)
@@ -47,8 +47,8 @@ module _ (reads others : Reading) (refuses denies : Refusing)
   same_outcome resolves text begin (Err e) (inr h) = inr (h.0, on text begin [] h.0 h.1, h.2)
 
   same_answer : (t : Target) (text answer : List ℕ)
-      → IsAnswerFor greatest_year t over_record reads refuses text answer
-      → IsAnswerFor greatest_year t over_record others denies text answer
+      → IsAnswerFor t over_record reads refuses text answer
+      → IsAnswerFor t over_record others denies text answer
   same_answer target.Date text answer h = (h.0, same_outcome (IsDated greatest_year) text empty h.0 h.1, h.2)
   same_answer target.Time text answer h = (h.0, same_outcome IsTimed text empty h.0 h.1, h.2)
   same_answer target.Offset text answer h = (h.0, same_outcome IsOffset text empty h.0 h.1, h.2)
@@ -59,15 +59,15 @@ module _ (reads others : Reading) (refuses denies : Refusing)
   same_answer target.Timestamp text answer h = (h.0, same_outcome (IsTimestamp greatest_year) text empty h.0 h.1, h.2)
 
 single_answers : (t : Tree) (target : Target) (text answer : List ℕ)
-    → IsDescribed greatest_year (sequence (more t none)) target text answer → IsDescribed greatest_year t target text answer
-single_answers t = same_answer _ _ _ _ (single_reads greatest_year t) (single_refuses greatest_year t)
+    → IsDescribed (sequence (more t none)) target text answer → IsDescribed t target text answer
+single_answers t = same_answer _ _ _ _ (single_reads t) (single_refuses t)
 
 -- a text has equal outcomes by a list of one tree and by the tree
 Writes-single : {E : Type 0} (r : Result (Unit {0}) E) (list t : Tree) (target : Target) (text : List ℕ)
-    (a b : Option (List ℕ)) → list ≡ sequence (trees (t ∷ [])) → OnOk r (Writes (IsDescribed greatest_year list target text) a b)
-    → OnOk r (Writes (IsDescribed greatest_year t target text) a b)
+    (a b : Option (List ℕ)) → list ≡ sequence (trees (t ∷ [])) → OnOk r (Writes (IsDescribed list target text) a b)
+    → OnOk r (Writes (IsDescribed t target text) a b)
 Writes-single (Ok u) list t target text a b is h =
-    (h.0, single_answers t target text h.0 (subst (λ l. IsDescribed greatest_year l target text h.0) is h.1), h.2)
+    (h.0, single_answers t target text h.0 (subst (λ l. IsDescribed l target text h.0) is h.1), h.2)
 Writes-single (Err e) list t target text a b is h = tt
 
 pub returns-clause-bytes : goal.returns-clause-bytes

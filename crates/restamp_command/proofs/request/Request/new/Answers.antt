@@ -8,8 +8,8 @@ pub returns-in_err-add_formats : goal.returns-in_err-add_formats
 returns-in_err-add_formats g c =
     let handed : c.from_residual-in_err-add_formats.result ≡ Err c.in_err-add_formats.field-0.0 = search rules in
     let fault = erased_fault c.in_err-add_formats.field-0.0 in
-    rw handed (fault_at greatest_year c.args.now c.args.options.now fault
-    (others_fault greatest_year c.args.options.now c.has_default_year.result _ fault c.has_default_year.ensures c.other_names-names.ensures
+    rw handed (fault_at c.args.now c.args.options.now fault
+    (others_fault c.args.options.now c.has_default_year.result _ fault c.has_default_year.ensures c.other_names-names.ensures
     c.in_err-add_formats.ensures.err))
 
 pub find_bounds-requires-clause-given : goal.find_bounds-requires-clause-given

@@ -1,18 +1,17 @@
 use Rattle.std.proofs.Common.{◌≡◌, ℕ, List, refl, sym, subst}
 use Rattle.time_values.specs.Calendar.{greatest_year}
-use Rattle.restamp_stream.specs.Reports.{action_of}
-use Rattle.restamp_stream.specs.declared.action.LineAction.TheVariants.{Without, Dropped, Refused}
+use Rattle.restamp_stream.specs.Reports.{Refused}
 use Rattle.restamp_stream.proofs.LinesLemmas.{OnOk-map}
-use Rattle.restamp_lines.specs.Job.{Verdict, IsJudged, refused}
+use Rattle.restamp_lines.specs.Job.{Verdict, Without, Dropped, IsJudged, refused}
 use Rattle.restamp_lines.specs.declared.job.Job.{Job}
 use Rattle.restamp_formats.specs.Reason.{Reason, seen}
-use Rattle.restamp_command.specs.Rewriting.{IsAction, one_action}
+use Rattle.restamp_command.specs.Rewriting.{IsAction, action_of_verdict, one_action}
 use Rattle.restamp_command.proofs.rewriting.RestampingRewriting.write_reason.Goals as goal
 
 -- each verdict on a rejected front has the action of a rejected line
 is_refused : (job : Job) (front : List ℕ) (verdict : Verdict)
-    → IsAction greatest_year job front (Refused tt) → IsJudged greatest_year job front verdict → Refused tt ≡ action_of verdict
-is_refused job front verdict p q = one_action job front (Refused tt) (action_of verdict) p (verdict, q, refl)
+    → IsAction job front Refused → IsJudged job front verdict → Refused ≡ action_of_verdict verdict
+is_refused job front verdict p q = one_action job front Refused (action_of_verdict verdict) p (verdict, q, refl)
 
 pub returns-in-Without : goal.returns-in-Without
 returns-in-Without g c =
@@ -30,7 +29,7 @@ pub returns-in-Refused-clause-reported : goal.returns-in-Refused-clause-reported
 returns-in-Refused-clause-reported g c =
     let refusal = c.in-Refused.refusal in
     let why = rw c.in-Refused.is at c.judge.ensures.verdict in
-    let judged = subst (λ (reason : Reason). IsJudged greatest_year c.args.self.now.job c.args.front.now (refused refusal.column reason))
+    let judged = subst (λ (reason : Reason). IsJudged c.args.self.now.job c.args.front.now (refused refusal.column reason))
     (sym why.1) why.2 in
     OnOk-map c.write_location.result _ _ c.write_location.ensures.reported
     (λ told. (told.0, told.1, (refusal.column, seen refusal.reason, judged, told.2), told.3))

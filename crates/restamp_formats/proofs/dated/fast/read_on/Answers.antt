@@ -15,19 +15,19 @@ returns-clause-said c =
     let v = c.assume_offset.result in
     let length_said = length text - length rest in
     let format = c.args.reading.now in
-    let read = subst (λ (x : Record). ReadsRecord greatest_year format text x rest r) c.new-parsed.ensures c.in_ok-rest.ensures in
+    let read = subst (λ (x : Record). ReadsRecord format text x rest r) c.new-parsed.ensures c.in_ok-rest.ensures in
     let all : c.args.is_prefix ≡ false → rest ≡ [] = elim c.else-not-is_prefix.branch [
       | else-not-is_prefix-via-then-not-is_prefix+else-not-is_empty w ↦ λ is. nothing_left rest (w.if-not-is_empty.ensures)
       | else-not-is_prefix-via-else-not-is_prefix w ↦ λ is. let opens = w.if-not-is_prefix.false in absurd cc
     ] in
-    let parts = plain_parts greatest_year _ c.in-Ok.clock
+    let parts = plain_parts _ c.in-Ok.clock
     (subst (λ (x : Record). IsPlain greatest_year x (Ok c.in-Ok.clock)) c.put_year.ensures c.in-Ok.ensures) in
     let plain = subst (λ (x : Record). (x.offset_hour ≡ None) × (x.unix_timestamp_nanos ≡ None) × (is_leap_second x ≡ false)) c.put_year.ensures
     (c.if-is_placed.ensures refl) in
     let when = subst (λ o. IsOffsetWhen clocks utc (Ok o)) (sym c.assume_offset.ensures.offset) c.in_ok-offset.ensures in
-    let told : ParsesLocally greatest_year format c.args.is_prefix text defaults (Ok (said v length_said)) =
-    says_once greatest_year text rest r format read c.args.is_prefix defaults clocks utc v
+    let told : ParsesLocally format c.args.is_prefix text defaults (Ok (said v length_said)) =
+    says_once text rest r format read c.args.is_prefix defaults clocks utc v
     (plain_date c.in-Ok.clock) (plain_time c.in-Ok.clock) all c.requires.clocks c.requires.offset parts.0 parts.1 plain
     (c.assume_utc.ensures.date, c.assume_utc.ensures.time, c.assume_utc.ensures.offset) when
     (c.assume_offset.ensures.date, c.assume_offset.ensures.time) in
-    subst (λ s. ParsesLocally greatest_year format c.args.is_prefix text defaults (Ok s)) (sym c.match_before.ensures.said) told
+    subst (λ s. ParsesLocally format c.args.is_prefix text defaults (Ok s)) (sym c.match_before.ensures.said) told

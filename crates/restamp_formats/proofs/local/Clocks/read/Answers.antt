@@ -1,6 +1,6 @@
 use Rattle.std.proofs.Common.{refl}
 use Rattle.restamp_formats.specs.{Common.greatest_year, Reason.seen}
-use Rattle.restamp_formats.proofs.{GivesLemmas.gives_so, ParseLemmas.on-unread, ParseLemmas.on-refused, ParseLemmas.on-shown}
+use Rattle.restamp_formats.proofs.{SatisfiesLemmas.gives_so, ParseLemmas.on-unread, ParseLemmas.on-refused, ParseLemmas.on-shown}
 use Rattle.restamp_formats.proofs.local.Clocks.read.Goals as goal
 
 pub returns-in-Err-clause-said : goal.returns-in-Err-clause-said
@@ -8,14 +8,14 @@ returns-in-Err-clause-said g c =
     let why = c.in-Err.ensures.said in (
       why.0,
       why.1,
-      on-unread greatest_year c.args.reading.now c.args.is_prefix c.args.text.now c.args.defaults.now c.args.self.now _ c.at.result
+      on-unread c.args.reading.now c.args.is_prefix c.args.text.now c.args.defaults.now c.args.self.now _ c.at.result
           c.at.ensures (refl, refl, refl) why.0 why.2,
     )
 
 pub returns-in-Ok-offset_when-clause-said : goal.returns-in-Ok-offset_when-clause-said
 returns-in-Ok-offset_when-clause-said g c =
     gives_so g.E.FromReason.is_of c.parse_outlined-in-Ok-offset_when.result
-    (λ given there. on-shown greatest_year c.args.reading.now c.args.is_prefix c.args.text.now c.args.defaults.now c.args.self.now _
+    (λ given there. on-shown c.args.reading.now c.args.is_prefix c.args.text.now c.args.defaults.now c.args.self.now _
     c.at.result c.at.ensures (refl, refl, refl) c.in-Ok.said c.in-Ok-offset_when.offset c.at-in-Ok-offset_when.result given
     c.in-Ok.ensures.said c.in-Ok-offset_when.ensures c.at-in-Ok-offset_when.ensures there)
     c.parse_outlined-in-Ok-offset_when.ensures.said
@@ -24,6 +24,6 @@ pub returns-in-Err-offset_when-clause-said : goal.returns-in-Err-offset_when-cla
 returns-in-Err-offset_when-clause-said g c = (
   seen c.in-Err-offset_when.why,
   c.from_reason.ensures,
-  on-refused greatest_year c.args.reading.now c.args.is_prefix c.args.text.now c.args.defaults.now c.args.self.now _ c.at.result
+  on-refused c.args.reading.now c.args.is_prefix c.args.text.now c.args.defaults.now c.args.self.now _ c.at.result
       c.at.ensures (refl, refl, refl) c.in-Ok.said (seen c.in-Err-offset_when.why) c.in-Ok.ensures.said c.in-Err-offset_when.ensures,
 )

@@ -7,4 +7,4 @@ pub returns : goal.returns
 returns c =
     let line = c.args.line.now in
     let rest : take (length line - c.args.start) (drop c.args.start line) ≡ drop c.args.start line = grind (arith, take_all, length-drop) in
-    matches-nothing greatest_year c.args.job.now line c.args.start c.args.reading.now (rw rest at (c.may_be_of.ensures c.if-may_be_of.false))
+    matches-nothing c.args.job.now line c.args.start c.args.reading.now (rw rest at (c.may_be_of.ensures c.if-may_be_of.false))

@@ -7,6 +7,6 @@ use Rattle.restamp_lines.proofs.job.Job.find_first.Goals as goal
 pub loop-start-preserved : goal.loop-start-preserved
 loop-start-preserved c =
     let next = c.next_start-start.ensures in
-    let before = below_more (λ (k : ℕ). MatchesFrom greatest_year c.args.self.now c.args.line.now k None) c.loop-start.start
+    let before = below_more (λ (k : ℕ). MatchesFrom c.args.self.now c.args.line.now k None) c.loop-start.start
     c.loop-start.invariant.1 c.in_default.ensures.matched in
     (next.high, λ k below. ⊎_elim (λ h. before k h) (λ h. next.passed k h below) (cases_lt k (c.loop-start.start + 1)))

@@ -5,7 +5,7 @@ use Rattle.restamp_lines.proofs.job.Job.find_first.Given as goal
 
 -- the line has no match from any byte before this one on
 abbrev pub invariant-loop-start : goal.invariant-loop-start
-invariant-loop-start l = (l.start ≤ length l.line) × MatchesNoneBefore greatest_year l.self l.line l.start
+invariant-loop-start l = (l.start ≤ length l.line) × MatchesNoneBefore l.self l.line l.start
 
 abbrev pub decreases-loop-start : goal.decreases-loop-start
 decreases-loop-start l = length l.line - l.start

@@ -8,5 +8,5 @@ use Rattle.restamp_lines.proofs.job.Job.read_others.Given as goal
 abbrev pub invariant-loop-reading : goal.invariant-loop-reading
 invariant-loop-reading l =
     (result : Option Match)
-    → AreTriedAlone greatest_year l.self l.line l.start (drop l.reading-index l.self.others.now) result
-    → AreTriedAlone greatest_year l.self l.line l.start l.self.others.now result
+    → AreTriedAlone l.self l.line l.start (drop l.reading-index l.self.others.now) result
+    → AreTriedAlone l.self l.line l.start l.self.others.now result

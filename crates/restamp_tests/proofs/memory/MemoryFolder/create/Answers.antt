@@ -7,7 +7,7 @@ use Rattle.restamp_tests.proofs.memory.MemoryFolder.create.Goals as goal
 
 pub returns-in_err-note-clause-made : goal.returns-in_err-note-clause-made
 returns-in_err-note-clause-made c =
-    let done = events_of c.args.self.now.done.items in
+    let done = events_of c.args.self.now.events.items in
     let number = c.len-number.result in
     let led = none c.leads.result c.if-is_some.ensures in
     let free : leads done c.args.name.now ≡ None = cc (led, c.leads.ensures, c.as_slice.ensures.value) in
@@ -19,7 +19,7 @@ returns-in_err-note-clause-made c =
 pub returns-clause-made : goal.returns-clause-made
 returns-clause-made c =
     let ended : Result ℕ ℕ = Ok 0 in
-    let done = events_of c.args.self.now.done.items in
+    let done = events_of c.args.self.now.events.items in
     let number = c.len-number.result in
     let led = none c.leads.result c.if-is_some.ensures in
     let free : leads done c.args.name.now ≡ None = cc (led, c.leads.ensures, c.as_slice.ensures.value) in

@@ -13,7 +13,7 @@ returns-in_err-name c = ([], refl, inr (c.from_residual-in_err-name.ensures.0, r
 
 pub returns : goal.returns
 returns c =
-    let there : leads (events_of c.args.self.now.done.items) c.args.name.now ≡ Some c.in-Some.number = cc (c.in-Some.ensures, c.as_slice.ensures.value) in
+    let there : leads (events_of c.args.self.now.events.items) c.args.name.now ≡ Some c.in-Some.number = cc (c.in-Some.ensures, c.as_slice.ensures.value) in
     let led : List ℕ → List ℕ → List Event = λ name onto. Leads name None ∷ Leads onto (Some c.in-Some.number) ∷ [] in
     let name = string_bytes c.in_ok-name.name in
     let onto = string_bytes c.in_ok-onto.onto in

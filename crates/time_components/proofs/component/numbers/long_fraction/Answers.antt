@@ -3,7 +3,7 @@ use Rattle.std.proofs.lemmas.List.{length-take-le, take-append-drop}
 use Rattle.time_digits.specs.Digits.{Cut, NoCut, AllDigits, digits_value, NoDigitFirst, IsDigitRun, IsDigitRunUpTo}
 use Rattle.time_digits.proofs.WordBytes.{take-drop}
 use Rattle.time_digits.proofs.Fractions.{read_more, no_digits, fraction_fits}
-use Rattle.time_components.specs.Spelling.{Says, number, IsFractionRun}
+use Rattle.time_components.specs.Spelling.{HasMappedValue, number, IsFractionRun}
 use Rattle.time_components.proofs.component.numbers.long_fraction.Goals as goal
 
 -- ---- Fractions of a second of up to 32 digits
@@ -12,7 +12,7 @@ use Rattle.time_components.proofs.component.numbers.long_fraction.Goals as goal
 long_fraction_cut : (s rest : List ℕ) (value unit greatest k : ℕ) → Cut (IsDigitRunUpTo greatest 1 9) s rest value
     → unit ≡ 10 ^ (9 - (length s - length rest)) → k ≤ length rest → k ≤ 23 → AllDigits (take k rest)
     → (k ≡ 23) ⊎ NoDigitFirst (drop k rest)
-    → Cut (Says number (IsFractionRun 1 32)) s (take (length rest - k) (drop k rest)) (number (value * unit))
+    → Cut (HasMappedValue number (IsFractionRun 1 32)) s (take (length rest - k) (drop k rest)) (number (value * unit))
 long_fraction_cut s rest value unit greatest k cut worth in_range within digits all =
     let text = cut.0 in
     let more = take k rest in
@@ -36,7 +36,7 @@ long_fraction_cut s rest value unit greatest k cut worth in_range within digits 
     (text ++ more, rw left (whole ∙ sym (append_assoc text more (drop k rest))), (value * unit, refl, (rw left found, read.is)))
 
 long_fraction_none : (greatest : ℕ) (s : List ℕ) → 10 ^ 9 ≤ greatest + 1 → NoCut (IsDigitRunUpTo greatest 1 9) s
-    → NoCut (Says number (IsFractionRun 1 32)) s
+    → NoCut (HasMappedValue number (IsFractionRun 1 32)) s
 long_fraction_none greatest s room none text rest v e found =
     let run = found.2.0 in
     no_digits greatest s text rest room none e run.digits run.enough (elim run.ends [ inl most ↦ inl (omega arith) | inr ends ↦ inr ends ])

@@ -19,8 +19,8 @@ use Rattle.time_parsing.specs.Outcome.{ParsesInto, begun}
 use Rattle.time_parsing.specs.Rfc3339.{with_leap_second, without_offset_sign}
 use Rattle.time_parsing.proofs.IsoParts.{read-answered}
 use Rattle.time_locating.specs.Iso8601 as spec
-use Rattle.time_locating.specs.Iso8601.{Locates, after, by_date, date_rows, from_time, left_at_number, missed_or_later, misses, offset_misses, offset_piece, rest_of, row_misses, rows_after, rows_misses, time_piece, wanted_at}
-use Rattle.time_locating.specs.Located.{IsLocated, place_in, seen_place, wants, seen_miss}
+use Rattle.time_locating.specs.Iso8601.{Locates, after, by_date, date_rows, from_time, left_at_number, miss_or_rest_misses, misses, offset_misses, offset_piece, rest_of, row_misses, rows_after, rows_misses, time_piece, expected_at}
+use Rattle.time_locating.specs.Located.{IsLocated, place_in, erased_located, wants, erased_miss}
 use Rattle.time_locating.specs.Misses.{Miss, furthest, further, missed, place_after, the_end}
 use Rattle.time_locating.specs.declared.located.Located.{Located}
 use Rattle.time_locating.specs.declared.iso8601.Piece.{Piece}
@@ -30,13 +30,13 @@ use Rattle.time_locating.proofs.IsoLengths.{after-within, byte-length, offset_te
 use Rattle.time_locating.proofs.MarkSteps.{no_furthest}
 use Rattle.time_locating.proofs.iso8601.Iso8601Locate.locate.Goals as goal
 
--- ---- The place of an ISO 8601 text, from its readings and misses. `Y` is the greatest year.
+-- ---- The place of an ISO 8601 text, from its readings and misses.
 
 -- ---- misses leave no more bytes than there are
 
 piece-within : (most : ℕ) (p : Piece) (ps : List Piece) (b : List ℕ) (o : Option (List ℕ)) → after p b ≡ o → length b ≤ most
     → ((rest : List ℕ) → length rest ≤ most → LeavesUpTo most (furthest (row_misses ps rest)))
-    → LeavesUpTo most (furthest (missed_or_later (missed (length b) (wanted_at p)) (row_misses ps) o))
+    → LeavesUpTo most (furthest (miss_or_rest_misses (missed (length b) (expected_at p)) (row_misses ps) o))
 piece-within most p ps b None is h later = h
 piece-within most p ps b (Some rest) is h later = later rest (omega (arith, after-within p b rest is))
 
@@ -88,16 +88,16 @@ after_date-within b d (Err e) is =
     further-leaves (length b) (Some (missed (left_at_number d.kind d.value (length d.rest)) _)) (furthest (spec.without_date b))
     (date-number b d is).0 (without_date-within (length b) b (omega arith))
 
-by_date-within : (Y : ℕ) (b : List ℕ) (r : Record) (o : Result (Found IsoDate) Refusal) → date_text b ≡ o
-    → LeavesUpTo (length b) (furthest (by_date Y b r o))
-by_date-within Y b r (Err e) is =
+by_date-within : (b : List ℕ) (r : Record) (o : Result (Found IsoDate) Refusal) → date_text b ≡ o
+    → LeavesUpTo (length b) (furthest (by_date b r o))
+by_date-within b r (Err e) is =
     join-within (length b) (rows_misses date_rows b) (spec.without_date b)
     (rows-within (length b) date_rows b (omega arith)) (without_date-within (length b) b (omega arith))
-by_date-within Y b r (Ok d) is = after_date-within b d (put_or_fault Y (date_entries d.value) r) is
+by_date-within b r (Ok d) is = after_date-within b d (put_or_fault greatest_year (date_entries d.value) r) is
 
-misses-within : (Y : ℕ) (b : List ℕ) (r : Record) → LeavesUpTo (length b) (furthest (misses Y b r))
+misses-within : (b : List ℕ) (r : Record) → LeavesUpTo (length b) (furthest (misses b r))
 unfolding misses
-misses-within Y b r = by_date-within Y b r (date_text b) refl
+misses-within b r = by_date-within b r (date_text b) refl
 
 -- ---- readings leave no more bytes than there are
 
@@ -110,85 +110,89 @@ put-rest : (d : Found IsoDate) (p : Result Record Refusal) (x : Found Record)
 put-rest d (Ok q) x h = sym (ap (λ (z : Found Record). z.rest) (same_Ok (with_value d q) x h))
 put-rest d (Err e) x h = absurd (Ok-Err x e h)
 
-module _ (Y : ℕ) where
-  text-within : (b : List ℕ) (r : Record) (o : Result (Found IsoDate) Refusal) (x : Found Record) → date_text b ≡ o
-      → result_and_then (λ d. result_and_then (λ q. Ok (with_value d q)) (put_or_fault Y (date_entries d.value) r)) o ≡ Ok x
-      → length x.rest ≤ length b
-  text-within b r (Err e) x is h = absurd (Ok-Err x e h)
-  text-within b r (Ok d) x is h =
-      let same = ap length (put-rest d (put_or_fault Y (date_entries d.value) r) x h) in
-      let room = rest-below d.kind d.value (length d.rest) (length b) (date-number b d is).0 in
-      omega arith
+text-within : (b : List ℕ) (r : Record) (o : Result (Found IsoDate) Refusal) (x : Found Record) → date_text b ≡ o
+    → result_and_then (λ d. result_and_then (λ q. Ok (with_value d q)) (put_or_fault greatest_year (date_entries d.value) r)) o ≡ Ok x
+    → length x.rest ≤ length b
+text-within b r (Err e) x is h = absurd (Ok-Err x e h)
+text-within b r (Ok d) x is h =
+    let same = ap length (put-rest d (put_or_fault greatest_year (date_entries d.value) r) x h) in
+    let room = rest-below d.kind d.value (length d.rest) (length b) (date-number b d is).0 in
+    omega arith
 
-  date_over-within : (b : List ℕ) (r : Record) (x : Found Record) → date_over Y b r ≡ Ok x → length x.rest ≤ length b
-  unfolding date_over
-  date_over-within b r x h = text-within b r (date_text b) x refl h
+date_over-within : (b : List ℕ) (r : Record) (x : Found Record) → date_over greatest_year b r ≡ Ok x → length x.rest ≤ length b
+unfolding date_over
+date_over-within b r x h = text-within b r (date_text b) x refl h
 
-  time_over-within : (needs_t : Bool) (kind : ExtendedKind) (b : List ℕ) (r : Record) (t : Found Record)
-      → time_over Y needs_t kind b r ≡ Some t → length t.rest ≤ length b
-  unfolding time_over
-  time_over-within needs_t kind b r t h =
-      option_and_then_some (λ u. option_map (with_value u) (put_all Y (time_entries u.value) r)) (time_text needs_t kind b) t h
-      (λ u e k.
-      omega (arith, ap length (value-rest u (put_all Y (time_entries u.value) r) t k), time_text-within needs_t kind b u e))
+time_over-within : (needs_t : Bool) (kind : ExtendedKind) (b : List ℕ) (r : Record) (t : Found Record)
+    → time_over greatest_year needs_t kind b r ≡ Some t → length t.rest ≤ length b
+unfolding time_over
+time_over-within needs_t kind b r t h =
+    option_and_then_some (λ u. option_map (with_value u) (put_all greatest_year (time_entries u.value) r)) (time_text needs_t kind b) t h
+    (λ u e k.
+    omega (arith, ap length (value-rest u (put_all greatest_year (time_entries u.value) r) t k), time_text-within needs_t kind b u e))
 
-  offset_over-within : (kind : ExtendedKind) (b : List ℕ) (r : Record) (o : Found Record)
-      → offset_over Y kind b r ≡ Some o → length o.rest ≤ length b
-  unfolding offset_over
-  offset_over-within kind b r o h =
-      option_and_then_some (λ u. option_map (with_value u) (put_all Y (offset_entries u.value) (without_offset_sign r))) (offset_text kind b) o h
-      (λ u e k.
-      omega (
-        arith,
-        ap length (value-rest u (put_all Y (offset_entries u.value) (without_offset_sign r)) o k),
-        offset_text-within kind b u e,
-      ))
+offset_over-within : (kind : ExtendedKind) (b : List ℕ) (r : Record) (o : Found Record)
+    → offset_over greatest_year kind b r ≡ Some o → length o.rest ≤ length b
+unfolding offset_over
+offset_over-within kind b r o h =
+    option_and_then_some (λ u. option_map (with_value u) (put_all greatest_year (offset_entries u.value) (without_offset_sign r))) (offset_text kind b) o h
+    (λ u e k.
+    omega (
+      arith,
+      ap length (value-rest u (put_all greatest_year (offset_entries u.value) (without_offset_sign r)) o k),
+      offset_text-within kind b u e,
+    ))
 
-  unwrapped : (kind : ExtendedKind) (b : List ℕ) (r : Record) (o : Option (Found Record)) → offset_over Y kind b r ≡ o
-      → length (unwrap_or {T = List ℕ × Record} (option_map {U = List ℕ × Record} (λ (f : Found Record). (f.rest, f.value)) o) (b, r)).0 ≤ length b
-  unwrapped kind b r None is = omega arith
-  unwrapped kind b r (Some f) is = offset_over-within kind b r f is
+unwrapped : (kind : ExtendedKind) (b : List ℕ) (r : Record) (o : Option (Found Record)) → offset_over greatest_year kind b r ≡ o
+    → length (unwrap_or {T = List ℕ × Record} (option_map {U = List ℕ × Record} (λ (f : Found Record). (f.rest, f.value)) o) (b, r)).0 ≤ length b
+unwrapped kind b r None is = omega arith
+unwrapped kind b r (Some f) is = offset_over-within kind b r f is
 
-  after_offset-within : (kind : ExtendedKind) (b : List ℕ) (r : Record) (o : Option (Found Record)) (p : List ℕ × Record)
-      → offset_over Y kind b r ≡ o → option_map {U = List ℕ × Record} (λ (f : Found Record). (f.rest, f.value)) o ≡ Some p
-      → length p.0 ≤ length b
-  after_offset-within kind b r None p is h = absurd (none-some p h)
-  after_offset-within kind b r (Some f) p is h =
-      omega (arith, offset_over-within kind b r f is, ap (λ (z : List ℕ × Record). length z.0) (same_Some (f.rest, f.value) p h))
+after_offset-within : (kind : ExtendedKind) (b : List ℕ) (r : Record) (o : Option (Found Record)) (p : List ℕ × Record)
+    → offset_over greatest_year kind b r ≡ o → option_map {U = List ℕ × Record} (λ (f : Found Record). (f.rest, f.value)) o ≡ Some p
+    → length p.0 ≤ length b
+after_offset-within kind b r None p is h = absurd (none-some p h)
+after_offset-within kind b r (Some f) p is h =
+    omega (arith, offset_over-within kind b r f is, ap (λ (z : List ℕ × Record). length z.0) (same_Some (f.rest, f.value) p h))
 
-  after_time-within : (kind : ExtendedKind) (b : List ℕ) (r : Record) → length (after_time Y kind b r).0 ≤ length b
-  unfolding after_time
-  after_time-within kind b r = unwrapped kind b r (offset_over Y kind b r) refl
+after_time-within : (kind : ExtendedKind) (b : List ℕ) (r : Record) → length (after_time greatest_year kind b r).0 ≤ length b
+unfolding after_time
+after_time-within kind b r = unwrapped kind b r (offset_over greatest_year kind b r) refl
 
-  after_date-rest : (d : Found Record) (o : Option (Found Record)) → time_over Y true d.kind d.rest d.value ≡ o
-      → length (after_date Y d o).0 ≤ length d.rest
-  after_date-rest d None is = omega arith
-  after_date-rest d (Some t) is =
-      let time = time_over-within true d.kind d.rest d.value t is in
-      let offset = after_time-within t.kind t.rest t.value in omega arith
+after_date-rest : (d : Found Record) (o : Option (Found Record)) → time_over greatest_year true d.kind d.rest d.value ≡ o
+    → length (after_date greatest_year d o).0 ≤ length d.rest
+after_date-rest d None is = omega arith
+after_date-rest d (Some t) is =
+    let time = time_over-within true d.kind d.rest d.value t is in
+    let offset = after_time-within t.kind t.rest t.value in omega arith
 
-  without_date-rest : (b : List ℕ) (r : Record) (e : Refusal) (o : Option (Found Record)) (p : List ℕ × Record)
-      → time_over Y false Unknown b r ≡ o → without_date Y e b r o ≡ Ok p → length p.0 ≤ length b
-  without_date-rest b r e (Some t) p is h =
-      let time = time_over-within false Unknown b r t is in
-      let offset = after_time-within t.kind t.rest t.value in
-      omega (arith, ap (λ (z : List ℕ × Record). length z.0) (same_Ok (after_time Y t.kind t.rest t.value) p h))
-  without_date-rest b r e None p is h =
-      need-Ok (after_offset Y Unknown b r) e (λ o. Ok o) p h
-      (λ o found k.
-      omega (arith, after_offset-within Unknown b r (offset_over Y Unknown b r) o refl found, ap (λ (z : List ℕ × Record). length z.0) (same_Ok o p k)))
+without_date-rest : (b : List ℕ) (r : Record) (e : Refusal) (o : Option (Found Record)) (p : List ℕ × Record)
+    → time_over greatest_year false Unknown b r ≡ o → without_date greatest_year e b r o ≡ Ok p → length p.0 ≤ length b
+without_date-rest b r e (Some t) p is h =
+    let time = time_over-within false Unknown b r t is in
+    let offset = after_time-within t.kind t.rest t.value in
+    omega (arith, ap (λ (z : List ℕ × Record). length z.0) (same_Ok (after_time greatest_year t.kind t.rest t.value) p h))
+without_date-rest b r e None p is h =
+    need-Ok (after_offset greatest_year Unknown b r) e (λ o. Ok o) p h
+    (λ o found k.
+    omega (
+      arith,
+      after_offset-within Unknown b r (offset_over greatest_year Unknown b r) o refl found,
+      ap (λ (z : List ℕ × Record). length z.0)
+          (same_Ok o p k),
+    ))
 
-  parts-rest : (b : List ℕ) (r : Record) (o : Result (Found Record) Refusal) (p : List ℕ × Record) → date_over Y b r ≡ o
-      → date_or_none Y b r o ≡ Ok p → length p.0 ≤ length b
-  parts-rest b r (Ok d) p is h =
-      let date = date_over-within b r d is in
-      let others = after_date-rest d (time_over Y true d.kind d.rest d.value) refl in
-      omega (arith, ap (λ (z : List ℕ × Record). length z.0) (same_Ok (after_date Y d (time_over Y true d.kind d.rest d.value)) p h))
-  parts-rest b r (Err e) p is h = without_date-rest b r e (time_over Y false Unknown b r) p refl h
+parts-rest : (b : List ℕ) (r : Record) (o : Result (Found Record) Refusal) (p : List ℕ × Record) → date_over greatest_year b r ≡ o
+    → date_or_none greatest_year b r o ≡ Ok p → length p.0 ≤ length b
+parts-rest b r (Ok d) p is h =
+    let date = date_over-within b r d is in
+    let others = after_date-rest d (time_over greatest_year true d.kind d.rest d.value) refl in
+    omega (arith, ap (λ (z : List ℕ × Record). length z.0) (same_Ok (after_date greatest_year d (time_over greatest_year true d.kind d.rest d.value)) p h))
+parts-rest b r (Err e) p is h = without_date-rest b r e (time_over greatest_year false Unknown b r) p refl h
 
-  reading-within : (b : List ℕ) (r : Record) (x : List ℕ) (q : Record) → reading Y b r ≡ Some (x, q) → length x ≤ length b
-  unfolding answer
-  reading-within b r x q h = parts-rest b r (date_over Y b r) (x, q) refl (read-answered Y b r (x, q) h)
+reading-within : (b : List ℕ) (r : Record) (x : List ℕ) (q : Record) → reading greatest_year b r ≡ Some (x, q) → length x ≤ length b
+unfolding answer
+reading-within b r x q h = parts-rest b r (date_over greatest_year b r) (x, q) refl (read-answered greatest_year b r (x, q) h)
 
 -- ---- a text without a date misses something
 
@@ -204,15 +208,15 @@ put_refused : (b : List ℕ) (d : Found IsoDate) (p : Result Record Refusal) (e 
 put_refused b d (Ok q) e h none = Ok-Err (with_value d q) e (sym h)
 put_refused b d (Err f) e h none = some-first _ (spec.without_date b) none
 
-text_refused : (Y : ℕ) (b : List ℕ) (r : Record) (o : Result (Found IsoDate) Refusal) (e : Refusal) → date_text b ≡ o
-    → result_and_then (λ d. result_and_then (λ q. Ok (with_value d q)) (put_or_fault Y (date_entries d.value) r)) o ≡ Err e
-    → furthest (by_date Y b r o) ≡ None → ⊥
-text_refused Y b r (Err f) e is h none = joined-first (rows_misses date_rows b) (spec.without_date b) (no_date-misses b f is) none
-text_refused Y b r (Ok d) e is h none = put_refused b d (put_or_fault Y (date_entries d.value) r) e h none
+text_refused : (b : List ℕ) (r : Record) (o : Result (Found IsoDate) Refusal) (e : Refusal) → date_text b ≡ o
+    → result_and_then (λ d. result_and_then (λ q. Ok (with_value d q)) (put_or_fault greatest_year (date_entries d.value) r)) o ≡ Err e
+    → furthest (by_date b r o) ≡ None → ⊥
+text_refused b r (Err f) e is h none = joined-first (rows_misses date_rows b) (spec.without_date b) (no_date-misses b f is) none
+text_refused b r (Ok d) e is h none = put_refused b d (put_or_fault greatest_year (date_entries d.value) r) e h none
 
-date_refused : (Y : ℕ) (b : List ℕ) (r : Record) (e : Refusal) → date_over Y b r ≡ Err e → furthest (misses Y b r) ≡ None → ⊥
+date_refused : (b : List ℕ) (r : Record) (e : Refusal) → date_over greatest_year b r ≡ Err e → furthest (misses b r) ≡ None → ⊥
 unfolding date_over misses
-date_refused Y b r e h none = text_refused Y b r (date_text b) e refl h none
+date_refused b r e h none = text_refused b r (date_text b) e refl h none
 
 -- ---- the result
 
@@ -220,12 +224,12 @@ some_further : (m : Miss) (n : Option Miss) → further (Some m) n ≡ None → 
 some_further m None is = none-some m (sym is)
 some_further m (Some n) is = none-some _ (sym is)
 
-module _ (Y : ℕ) (b : List ℕ) (r : Record) where
+module _ (b : List ℕ) (r : Record) where
   -- the miss at a place
   found : (place : Option Miss) (result : Option Located)
-      → place_after (rest_of (reading Y b (with_leap_second r))) (furthest (misses Y b (with_leap_second r))) ≡ place
-      → LeavesUpTo (length b) place → (place ≡ None → ⊥) → seen_place result ≡ place_in (length b) place
-      → IsLocated (Reads Y) (Locates Y) b r result
+      → place_after (rest_of (reading greatest_year b (with_leap_second r))) (furthest (misses b (with_leap_second r))) ≡ place
+      → LeavesUpTo (length b) place → (place ≡ None → ⊥) → erased_located result ≡ place_in (length b) place
+      → IsLocated (Reads greatest_year) Locates b r result
   found None result is within some e = absurd (some refl)
   found (Some m) None is within some e = absurd (none-some (missed (length b - m.left) m.wanted) e)
   found (Some m) (Some at) is within some e =
@@ -234,33 +238,33 @@ module _ (Y : ℕ) (b : List ℕ) (r : Record) where
       (m, is, omega arith, ap (λ (x : Miss). x.wanted) same)
 
   -- a front is read
-  read_located : (x : List ℕ) (q : Record) (result : Option Located) → reading Y b (with_leap_second r) ≡ Some (x, q)
-      → seen_place result ≡ place_in (length b) (place_after (Some x) (furthest (misses Y b (with_leap_second r))))
-      → IsLocated (Reads Y) (Locates Y) b r result
+  read_located : (x : List ℕ) (q : Record) (result : Option Located) → reading greatest_year b (with_leap_second r) ≡ Some (x, q)
+      → erased_located result ≡ place_in (length b) (place_after (Some x) (furthest (misses b (with_leap_second r))))
+      → IsLocated (Reads greatest_year) Locates b r result
   read_located [] q None h e = (q, h)
   read_located [] q (Some at) h e = absurd (none-some (missed at.index (wants at.expected)) (sym e))
   read_located (c ∷ x) q result h e =
       let end = missed (length (c ∷ x)) the_end in
-      let others = furthest (misses Y b (with_leap_second r)) in
+      let others = furthest (misses b (with_leap_second r)) in
       found (further (Some end) others) result (ap (λ (o : Option (List ℕ × Record)). place_after (rest_of o) others) h)
-      (further-leaves (length b) (Some end) others (reading-within Y b (with_leap_second r) (c ∷ x) q h)
-      (misses-within Y b (with_leap_second r))) (some_further end others) e
+      (further-leaves (length b) (Some end) others (reading-within b (with_leap_second r) (c ∷ x) q h)
+      (misses-within b (with_leap_second r))) (some_further end others) e
 
   -- the result for the parse's reading
   pub iso_located : (read : Result (Bor (List ℕ)) Parse) (new : Record) (missed : Option Miss) (result : Option Located)
-      → ParsesInto (Reads Y) (Refuses Y) b r read new → missed ≡ furthest (misses Y b (with_leap_second r))
-      → seen_place result ≡ place_in (length b) (place_after (option_copied (result_ok read)) missed)
-      → IsLocated (Reads Y) (Locates Y) b r result
+      → ParsesInto (Reads greatest_year) (Refuses greatest_year) b r read new → missed ≡ furthest (misses b (with_leap_second r))
+      → erased_located result ≡ place_in (length b) (place_after (option_copied (result_ok read)) missed)
+      → IsLocated (Reads greatest_year) Locates b r result
   iso_located (Ok rest) new miss result h is e =
-      read_located rest.now new result h (subst (λ m. seen_place result ≡ place_in (length b) (place_after (Some rest.now) m)) is e)
+      read_located rest.now new result h (subst (λ m. erased_located result ≡ place_in (length b) (place_after (Some rest.now) m)) is e)
   iso_located (Err fault) new miss result h is e =
-      let others = furthest (misses Y b (with_leap_second r)) in
+      let others = furthest (misses b (with_leap_second r)) in
       found others result (ap (λ (o : Option (List ℕ × Record)). place_after (rest_of o) others) h.0.0)
-      (misses-within Y b (with_leap_second r)) (date_refused Y b (with_leap_second r) _ h.0.1)
-      (subst (λ m. seen_place result ≡ place_in (length b) m) is e)
+      (misses-within b (with_leap_second r)) (date_refused b (with_leap_second r) _ h.0.1)
+      (subst (λ m. erased_located result ≡ place_in (length b) m) is e)
 
 pub returns : goal.returns
 returns c =
-    iso_located greatest_year c.args.input.now (begun c.args.defaults) c.parse_into.result c.parse_into.new.parsed (seen_miss c.missed.result) c.place.result
+    iso_located c.args.input.now (begun c.args.defaults) c.parse_into.result c.parse_into.new.parsed (erased_miss c.missed.result) c.place.result
     (rw c.begin-parsed.ensures at c.parse_into.ensures) (c.missed.ensures (with_leap_second (begun c.args.defaults)))
     (rw c.ok-unread.ensures.value at c.place.ensures.text)

@@ -1,24 +1,5 @@
-use Rattle.std.proofs.Common.{[], true, length, refl, inl}
-use Rattle.time_values.specs.Calendar.{greatest_year}
-use Rattle.time_readers.specs.Rfc3339.{Asks, nothing_read, places}
 use Rattle.time_parsing.specs.Outcome.{begun}
-use Rattle.time_parsing.specs.Rfc3339.{Reads}
-use Rattle.time_locating.specs.Marks.{at_once}
-use Rattle.time_locating.specs.Misses.{missed}
-use Rattle.time_locating.specs.Rfc3339.{wanted_at}
-use Rattle.time_locating.proofs.WholeTexts.{left-within, stands-located, reads_form}
 use Rattle.time_locating.proofs.rfc3339.Rfc3339Locate.locate.Goals as goal
 
-pub after_all-requires : goal.after_all-requires
-after_all-requires c =
-    left-within (Asks true) places nothing_read c.args.input.now c.in-Ok.found.0.now c.in-Ok.found.1 c.in-Ok.ensures
-
-pub returns-in-Ok : goal.returns-in-Ok
-returns-in-Ok c =
-    stands-located (Asks true) places nothing_read at_once wanted_at (Reads greatest_year) (begun c.args._defaults) c.args.input.now
-    c.in-Ok.found.0.now c.in-Ok.found.1 c.after_all.result c.in-Ok.ensures (λ r form. reads_form c.args.input.now [] c.in-Ok.found.1 r form) c.after_all.ensures
-
-pub returns-in-Err : goal.returns-in-Err
-returns-in-Err c =
-    let stop = c.in-Err.ensures in
-    (missed (length stop.mid) (wanted_at c.in-Err.place), inl (c.in-Err.place, stop, refl), c.index_of.ensures stop, c.expected_at.ensures)
+pub returns : goal.returns
+returns c = c.error_place.ensures (begun c.args._defaults)

@@ -1,6 +1,6 @@
 use Rattle.std.proofs.Common.{inl, refl, true, arith}
 use Rattle.time_parsing.specs.Outcome.{begun}
-use Rattle.time_readers.specs.Rfc3339.{Asks, fault, nothing_read, places}
+use Rattle.time_readers.specs.Rfc3339.{PlaceSyntax, fault, nothing_read, places}
 use Rattle.time_locating.specs.Marks.{at_once}
 use Rattle.time_locating.proofs.WholeTexts.{places_marked}
 use Rattle.time_locating.proofs.rfc3339.Rfc3339Locate.locate_component.Goals as goal
@@ -9,7 +9,7 @@ pub returns-in-Ok : goal.returns-in-Ok
 returns-in-Ok c =
     let form = c.in-Ok.ensures in
     rw c.index_of.ensures.text
-    (places_marked (Asks true) at_once (λ p b. omega arith) fault c.args.name.now places nothing_read c.args.input.now (begun c.args._defaults)
+    (places_marked (PlaceSyntax true) at_once (λ p b. omega arith) fault c.args.name.now places nothing_read c.args.input.now (begun c.args._defaults)
     _ _ c.mark_of_place.result form (c.mark_of_place.ensures _ _ form))
 
 pub returns-in-Err : goal.returns-in-Err

@@ -47,12 +47,12 @@ walk_first-returns-then-is_empty-clause-misses t c =
 pub walk_first-returns-then-is_empty-clause-marks : goal.walk_first-returns-then-is_empty-clause-marks
 walk_first-returns-then-is_empty-clause-marks t c =
     let is = no_steps c.args.steps.now (empty_length _ (sym c.is_empty.ensures ∙ c.if-is_empty.true)) in
-    no_marks _ _ _ _ _ _ is (Passes-none c.loop-item.invariant.0 is)
+    no_marks _ _ _ _ _ is (Passes-none c.loop-item.invariant.0 is)
 
 pub walk_first-returns-clause-marks : goal.walk_first-returns-clause-marks
 walk_first-returns-clause-marks t c =
     let some = some_length _ (sym c.is_empty.ensures ∙ c.if-is_empty.false) in
-    marks_unread _ _ _ _ _ (Passes-nothing c.loop-item.invariant.0 (no_steps c.loop-item.left.now c.in_default.ensures)
+    marks_unread _ _ _ _ (Passes-nothing c.loop-item.invariant.0 (no_steps c.loop-item.left.now c.in_default.ensures)
     (λ is. let short = some_steps c.args.steps.now is in omega arith))
 
 pub walk_first-returns-clause-reads : goal.walk_first-returns-clause-reads
@@ -70,7 +70,7 @@ walk_first-returns-clause-misses t c = Passes-kept c.loop-item.invariant.0 (no_s
 pub walk_group-returns-in-Optional-clause-reads : goal.walk_group-returns-in-Optional-clause-reads
 walk_group-returns-in-Optional-clause-reads t c =
     rw (c.in-Optional.is, c.unwrap_or.ensures)
-    (optional_reads _ _ c.args.input.now _ c.walk_list-walked.result.rest c.args.input _ refl c.walk_list-walked.ensures.reads)
+    (optional_reads _ c.args.input.now _ c.walk_list-walked.result.rest c.args.input _ refl c.walk_list-walked.ensures.reads)
 
 pub walk_group-returns-in-Optional-clause-misses : goal.walk_group-returns-in-Optional-clause-misses
 unfolding Misses
@@ -78,8 +78,8 @@ walk_group-returns-in-Optional-clause-misses t c = rw c.in-Optional.is c.walk_li
 
 pub walk_group-returns-in-Optional-clause-marks : goal.walk_group-returns-in-Optional-clause-marks
 walk_group-returns-in-Optional-clause-marks t c =
-    let read = optional_reads _ _ c.args.input.now _ c.walk_list-walked.result.rest c.args.input _ refl c.walk_list-walked.ensures.reads in
-    rw c.in-Optional.is (marks_read _ _ _ _ _ _ _ _ read c.walk_list-walked.ensures.marks)
+    let read = optional_reads _ c.args.input.now _ c.walk_list-walked.result.rest c.args.input _ refl c.walk_list-walked.ensures.reads in
+    rw c.in-Optional.is (marks_read _ _ _ _ _ _ _ read c.walk_list-walked.ensures.marks)
 
 pub walk_group-returns-in-First-clause-misses : goal.walk_group-returns-in-First-clause-misses
 unfolding Misses
@@ -167,7 +167,7 @@ pub walk_list-returns-in-None-clause-marks : goal.walk_list-returns-in-None-clau
 walk_list-returns-in-None-clause-marks t c =
     let s = c.in-Some.ensures in
     let read = rw c.in-None.is at (c.walk_item-walked.ensures.reads s.tree s.alone) in
-    marks_unread _ _ _ _ _ (Follows-unread c.loop-item.invariant.0 s.tree _ s.all (c.walk_item-walked.ensures.misses s.tree s.alone) read.unread)
+    marks_unread _ _ _ _ (Follows-unread c.loop-item.invariant.0 s.tree _ s.all (c.walk_item-walked.ensures.misses s.tree s.alone) read.unread)
 
 pub walk_list-loop-item-preserved : goal.walk_list-loop-item-preserved
 walk_list-loop-item-preserved t c =

@@ -1,7 +1,7 @@
 use Rattle.std.proofs.Common.{◌+◌, ◌*◌, ◌≤◌, length}
 use Rattle.time_values.specs.Calendar.{greatest_year}
 use Rattle.time_components.specs.Tree.{steps_trees}
-use Rattle.time_locating.specs.Located.{seen_miss}
+use Rattle.time_locating.specs.Located.{erased_miss}
 use Rattle.time_locating.specs.Misses.{first_byte}
 use Rattle.time_locating.proofs.TurnSteps.{Passes, Follows}
 use Rattle.time_locating.proofs.MarkSteps.{CarriesAll, CarriesFirst}
@@ -21,20 +21,20 @@ decreases-walk_group l = 3 * length l.inside.now + 3
 
 abbrev pub invariant-walk_list-loop-item : goal.invariant-walk_list-loop-item
 invariant-walk_list-loop-item l =
-    Follows greatest_year first_byte (steps_trees l.steps) l.fn.input l.fn.parsed (steps_trees l.left) l.rest l.parsed
-    (seen_miss l.furthest)
+    Follows first_byte (steps_trees l.steps) l.fn.input l.fn.parsed (steps_trees l.left) l.rest l.parsed
+    (erased_miss l.furthest)
     × (length l.left ≤ length l.steps)
-    × CarriesAll greatest_year l.name (steps_trees l.steps) l.fn.input l.fn.parsed (steps_trees l.left) l.rest l.parsed l.last
+    × CarriesAll l.name (steps_trees l.steps) l.fn.input l.fn.parsed (steps_trees l.left) l.rest l.parsed l.last
 
 abbrev pub decreases-walk_list-loop-item : goal.decreases-walk_list-loop-item
 decreases-walk_list-loop-item l = length l.left
 
 abbrev pub invariant-walk_first-loop-item : goal.invariant-walk_first-loop-item
 invariant-walk_first-loop-item l =
-    Passes greatest_year first_byte (steps_trees l.steps) (steps_trees l.left) l.input l.fn.parsed l.parsed
-    (seen_miss l.furthest)
+    Passes first_byte (steps_trees l.steps) (steps_trees l.left) l.input l.fn.parsed l.parsed
+    (erased_miss l.furthest)
     × (length l.left ≤ length l.steps)
-    × CarriesFirst greatest_year l.name (steps_trees l.steps) (steps_trees l.left) l.input l.fn.parsed
+    × CarriesFirst l.name (steps_trees l.steps) (steps_trees l.left) l.input l.fn.parsed
 
 abbrev pub decreases-walk_first-loop-item : goal.decreases-walk_first-loop-item
 decreases-walk_first-loop-item l = length l.left

@@ -14,8 +14,8 @@ returns c = λ r.
     let second = c.in_ok-second.second.1 in
     let p : Record = record r { hour_24 = Some hour } in
     let q : Record = record p { minute = Some minute } in
-    three_read greatest_year c.args.between (Hour24 HOUR) (Minute MINUTE) (Second SECOND) _ _ _ _ _ _
+    three_read c.args.between (Hour24 HOUR) (Minute MINUTE) (Second SECOND) _ _ _ _ _ _
     (number hour) (number minute) (number second) r p q (record q { second = Some second })
     c.in_ok-hour.ensures c.in_ok-after.ensures c.in_ok-minute.ensures c.in_ok-after-2.ensures c.in_ok-second.ensures
-    (put_hour greatest_year hour r (omega arith)) (put_minute greatest_year minute p (omega arith))
-    (put_second greatest_year second q (omega arith))
+    (put_hour hour r (omega arith)) (put_minute minute p (omega arith))
+    (put_second second q (omega arith))

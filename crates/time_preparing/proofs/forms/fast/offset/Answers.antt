@@ -18,7 +18,7 @@ returns-clause-reads c = λ r.
     let fits : FitsSigned w8 hour = omega (arith, ints) in
     let hour_within : unsigned_abs hour ≤ 25 = omega (arith, ints) in
     let minute_within : unsigned_abs minute ≤ 59 = omega (arith, ints, within.1, within.2) in
-    rw (to_z-of_z w8 hour fits, to_z-of_z w8 minute c.in_ok-minute.ensures.fits) (offset_read greatest_year c.args.between c.args.input.now _ _ _
+    rw (to_z-of_z w8 hour fits, to_z-of_z w8 minute c.in_ok-minute.ensures.fits) (offset_read c.args.between c.args.input.now _ _ _
     hour minute minus r p (record p { offset_minute = Some minute }) c.in_ok-hour.ensures c.in_ok-after_byte.ensures c.in_ok-minute.ensures.cut
-    (put_offset_hour greatest_year hour minus r (le-leb (unsigned_abs hour) 25 hour_within))
-    (put_offset_minute greatest_year minute p (le-leb (unsigned_abs minute) 59 minute_within)))
+    (put_offset_hour hour minus r (le-leb (unsigned_abs hour) 25 hour_within))
+    (put_offset_minute minute p (le-leb (unsigned_abs minute) 59 minute_within)))

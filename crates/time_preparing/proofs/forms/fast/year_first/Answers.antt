@@ -13,20 +13,20 @@ pub returns-clause-extended : goal.returns-clause-extended
 returns-clause-extended c = λ r.
     let p : Record = record r { year = Some c.in_ok-year.year.1 } in
     let q : Record = record p { month = Some c.in_ok-month.month.1 } in
-    rw (to_z-of_z w32 c.in_ok-year.year.1 c.in_ok-year.ensures.fits) (three_read greatest_year c.args.between
+    rw (to_z-of_z w32 c.in_ok-year.year.1 c.in_ok-year.ensures.fits) (three_read c.args.between
     (CalendarYearFullExtendedRange YEAR) (MonthNumerical MONTH) (Day DAY) _ _ _ _ _ _
     (signed c.in_ok-year.year.1) (month c.in_ok-month.month.1) (number c.in_ok-day.day.1.value) r p q (record q { day = Some c.in_ok-day.day.1.value })
     c.in_ok-year.ensures.cut c.in_ok-after.ensures c.in_ok-month.ensures c.in_ok-after-2.ensures c.in_ok-day.ensures
-    (put_year greatest_year c.in_ok-year.year.1 r c.in_ok-year.ensures.within) refl
-    (put_day greatest_year DAY _ _ _ q c.in_ok-day.ensures (omega arith)))
+    (put_year c.in_ok-year.year.1 r c.in_ok-year.ensures.within) refl
+    (put_day DAY _ _ _ q c.in_ok-day.ensures (omega arith)))
 
 pub returns-clause-standard : goal.returns-clause-standard
 returns-clause-standard c = λ r.
     let p : Record = record r { year = Some c.in_ok-year.year.1 } in
     let q : Record = record p { month = Some c.in_ok-month.month.1 } in
-    rw (to_z-of_z w32 c.in_ok-year.year.1 c.in_ok-year.ensures.fits) (three_read greatest_year c.args.between
+    rw (to_z-of_z w32 c.in_ok-year.year.1 c.in_ok-year.ensures.fits) (three_read c.args.between
     (CalendarYearFullStandardRange STANDARD_YEAR) (MonthNumerical MONTH) (Day DAY) _ _ _ _ _ _
     (signed c.in_ok-year.year.1) (month c.in_ok-month.month.1) (number c.in_ok-day.day.1.value) r p q (record q { day = Some c.in_ok-day.day.1.value })
     c.in_ok-year.ensures.standard c.in_ok-after.ensures c.in_ok-month.ensures c.in_ok-after-2.ensures c.in_ok-day.ensures
-    (put_standard_year greatest_year c.in_ok-year.year.1 r c.in_ok-year.ensures.within) refl
-    (put_day greatest_year DAY _ _ _ q c.in_ok-day.ensures (omega arith)))
+    (put_standard_year c.in_ok-year.year.1 r c.in_ok-year.ensures.within) refl
+    (put_day DAY _ _ _ q c.in_ok-day.ensures (omega arith)))

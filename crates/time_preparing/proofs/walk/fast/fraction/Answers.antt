@@ -7,5 +7,5 @@ use Rattle.time_preparing.proofs.walk.fast.fraction.Goals as goal
 pub returns : goal.returns
 returns c =
     let old = c.args.parsed.now in
-    rw c.put_fraction.ensures (tree_read greatest_year none c.args.input.now _ _ (fraction_tree c.args.point) old _ _
-    (c.in_ok-found.ensures.reads old) (read_all greatest_year _ _))
+    rw c.put_fraction.ensures (tree_read none c.args.input.now _ _ (fraction_tree c.args.point) old _ _
+    (c.in_ok-found.ensures.reads old) (read_all _ _))

@@ -12,7 +12,7 @@ use Rattle.time_preparing.proofs.walk.front.read.Goals as goal
 pub returns-in-Byte-clause-read : goal.returns-in-Byte-clause-read
 returns-in-Byte-clause-read c =
     let b = c.in-Byte.byte in
-    let read = byte_may_read greatest_year b c.args.input.now c.args.parsed.now c.after.result c.after.ensures in
+    let read = byte_may_read b c.args.input.now c.args.parsed.now c.after.result c.after.ensures in
     rw c.in-Byte.is (inr (
       omega arith,
       omega arith,
@@ -23,7 +23,7 @@ returns-in-Byte-clause-read c =
 pub returns-in-Component-clause-read : goal.returns-in-Component-clause-read
 returns-in-Component-clause-read c =
     let w = c.in-Component.wanted in
-    let read = tree_may_read greatest_year (component false w) c.args.input.now c.args.parsed.now _ c.component.result c.component.ensures in
+    let read = tree_may_read (component false w) c.args.input.now c.args.parsed.now _ c.component.result c.component.ensures in
     rw c.in-Component.is (inr (
       omega arith,
       omega arith,

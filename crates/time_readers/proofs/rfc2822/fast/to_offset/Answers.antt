@@ -8,8 +8,8 @@ use Rattle.time_digits.specs.Digits.{IsDigit}
 use Rattle.time_digits.proofs.WordBytes.{take-drop}
 use Rattle.time_readers.specs.Block.{AllWithin, pair_at}
 use Rattle.time_readers.specs.MailBlanks.{fws, cfws, opt_cfws_colon_opt_cfws}
-use Rattle.time_readers.specs.Readers.{Stand, IsWithin}
-use Rattle.time_readers.specs.Rfc2822.{Asks, to_offset_places}
+use Rattle.time_readers.specs.Readers.{MatchesPlaces, IsWithin}
+use Rattle.time_readers.specs.Rfc2822.{PlaceSyntax, to_offset_places}
 use Rattle.time_readers.specs.declared.rfc2822.fast.TheConstants.{LEAST, GREATEST}
 use Rattle.time_readers.specs.declared.rfc2822.Numbers.{Numbers}
 use Rattle.time_readers.proofs.ToSecond.{within, two_digits, four_digits}
@@ -40,10 +40,10 @@ to_offset_stands : (check_ranges : Bool) (n : Numbers) (x a b c y y0 y1 y2 y3 z 
     → hour ≡ (h0 - 48) * 10 + (h1 - 48) → IsWithin check_ranges 0 23 hour
     → minute ≡ (n0 - 48) * 10 + (n1 - 48)
     → second ≡ (s0 - 48) * 10 + (s1 - 48) → second ≤ 60
-    → Stand (Asks check_ranges) to_offset_places n
+    → MatchesPlaces (PlaceSyntax check_ranges) to_offset_places n
     (x ∷ a ∷ b ∷ c ∷ y ∷ y0 ∷ y1 ∷ y2 ∷ y3 ∷ z ∷ h0 ∷ h1 ∷ p ∷ n0 ∷ n1 ∷ q ∷ s0 ∷ s1 ∷ w ∷ next ∷ rest) (next ∷ rest)
     (to_offset_numbers n month year hour minute second)
-unfolding Stand
+unfolding MatchesPlaces
 to_offset_stands check_ranges n x a b c y y0 y1 y2 y3 z h0 h1 p n0 n1 q s0 s1 w next rest month year hour minute second (
   xl,
   xg,
@@ -161,16 +161,16 @@ to_offset_lists : (check_ranges : Bool) (n : Numbers) (text first rest : List �
     → hour ≡ pair_at first 10 → IsWithin check_ranges 0 23 hour
     → minute ≡ pair_at first 13
     → second ≡ pair_at rest 0 → second ≤ 60
-    → Stand (Asks check_ranges) to_offset_places n text (take (length rest - 3) (drop 3 rest)) (to_offset_numbers n month year hour minute second)
+    → MatchesPlaces (PlaceSyntax check_ranges) to_offset_places n text (take (length rest - 3) (drop 3 rest)) (to_offset_numbers n month year hour minute second)
 to_offset_lists check_ranges n text first rest month year hour minute second cut l short w
     sec0 sec1 space printed named yeq late heq hour_in neq seq shigh =
     let f = pick_l_whole 0 first 16 l in
     let r = four_first rest short in
     let stands = to_offset_stands check_ranges n _ _ _ _ _ _ _ _ _ _ _ _ _ _ _ _ _ _ _ _ (drop 4 rest) month year hour minute second
     (subst (AllWithin LEAST GREATEST) (sym f) w) sec0 sec1 space printed named yeq late heq hour_in neq seq shigh in
-    subst (λ t. Stand (Asks check_ranges) to_offset_places n text t (to_offset_numbers n month year hour minute second))
+    subst (λ t. MatchesPlaces (PlaceSyntax check_ranges) to_offset_places n text t (to_offset_numbers n month year hour minute second))
     (three_left rest short ∙ sym (take-drop rest 3 (omega (arith, short))))
-    (subst (λ t. Stand (Asks check_ranges) to_offset_places n t (get_or rest 3 0 ∷ drop 4 rest) (to_offset_numbers n month year hour minute second))
+    (subst (λ t. MatchesPlaces (PlaceSyntax check_ranges) to_offset_places n t (get_or rest 3 0 ∷ drop 4 rest) (to_offset_numbers n month year hour minute second))
     ((λ i. f i ++ r i) ∙ sym cut) stands)
 
 pub returns-in_err-first-clause-stands : goal.returns-in_err-first-clause-stands

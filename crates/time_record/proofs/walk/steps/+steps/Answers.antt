@@ -4,7 +4,7 @@ use Rattle.time_components.specs.Tree.{steps_after, steps_trees, tree_at, more}
 use Rattle.time_record.specs.Reading.{raised}
 use Rattle.time_record.proofs.Counting.{Chooses-start, Chooses-reads, Chooses-counts, Chooses-refused, Chooses-fault, Chooses-nothing}
 use Rattle.time_record.proofs.Counting.{Chooses-counts_end, Counts-sequence}
-use Rattle.time_record.proofs.WalkSteps.{behind_first, first_item, steps_trees-end, Goes-end, Goes-refused, Walked, Walked-counts, Walked-counts_leaf}
+use Rattle.time_record.proofs.WalkSteps.{behind_first, first_item, steps_trees-end, Resumes-end, Resumes-refused, Walked, Walked-counts, Walked-counts_leaf}
 use Rattle.time_record.proofs.WalkSteps.{Walked-counts_refused, Walked-further, Walked-reads, raised_further}
 use Rattle.time_record.proofs.walk.steps.+steps.Goals as goal
 
@@ -16,7 +16,7 @@ pub walk_list-returns-in_default-clause-answers : goal.walk_list-returns-in_defa
 walk_list-returns-in_default-clause-answers t c =
     let counted = c.add.ensures ∙ raised_further _ _ _ _ c.read_steps.ensures.fewer c.loop-later.invariant.2 in
     let w = Walked-further c.loop-later.invariant.0 _ _ c.read_steps.ensures.goes counted in
-    Goes-end w.goes (steps_trees-end c.read_steps.result.0.now (omega arith))
+    Resumes-end w.goes (steps_trees-end c.read_steps.result.0.now (omega arith))
 
 pub walk_list-returns-in_default-clause-counts : goal.walk_list-returns-in_default-clause-counts
 walk_list-returns-in_default-clause-counts t c =
@@ -30,7 +30,7 @@ walk_list-returns-in-Some-clause-answers t c =
     let counted = c.add.ensures ∙ raised_further _ _ _ _ c.read_steps.ensures.fewer c.loop-later.invariant.2 in
     let w = Walked-further c.loop-later.invariant.0 _ _ c.read_steps.ensures.goes counted in
     let leaf = rw c.in-Some.is at c.read_steps.ensures.fault in
-    (Goes-refused w.goes leaf.leaf leaf.later leaf.is leaf.refuses, refl)
+    (Resumes-refused w.goes leaf.leaf leaf.later leaf.is leaf.refuses, refl)
 
 pub walk_list-returns-in-Some-clause-counts : goal.walk_list-returns-in-Some-clause-counts
 walk_list-returns-in-Some-clause-counts t c =
@@ -48,7 +48,7 @@ walk_list-returns-in-Err-clause-answers t c =
     let counted = c.add.ensures ∙ raised_further _ _ _ _ c.read_steps.ensures.fewer c.loop-later.invariant.2 in
     let w = Walked-further c.loop-later.invariant.0 _ _ c.read_steps.ensures.goes counted in
     let is = first_item left x (omega arith) c.step-item.is in
-    (Goes-refused w.goes (tree_at steps_trees x behind) (steps_trees (steps_after x behind)) is c.in-Err.ensures.answers.0, refl)
+    (Resumes-refused w.goes (tree_at steps_trees x behind) (steps_trees (steps_after x behind)) is c.in-Err.ensures.answers.0, refl)
 
 pub walk_list-returns-in-Err-clause-counts : goal.walk_list-returns-in-Err-clause-counts
 walk_list-returns-in-Err-clause-counts t c =

@@ -1,6 +1,6 @@
 use Rattle.std.proofs.Common.{ap, ◌∙◌, length, drop, ◌-◌, arith, length-take, length-drop}
 use Rattle.time_components.specs.Tree.{steps_after, steps_trees, tree_at, more}
-use Rattle.time_record.proofs.WalkSteps.{behind_first, first_item, leaf_refused, Goes-counted, Goes-leaf}
+use Rattle.time_record.proofs.WalkSteps.{behind_first, first_item, leaf_refused, Resumes-counted, Resumes-leaf}
 use Rattle.time_record.proofs.walk.steps.read_steps.Goals as goal
 
 pub loop-left-preserved : goal.loop-left-preserved
@@ -11,8 +11,8 @@ loop-left-preserved c =
     let later = steps_trees behind in
     let is = first_item left c.step-item.result (omega arith) c.step-item.is ∙ ap (λ ys. more item (steps_trees ys)) c.in-Some-Some.ensures.alone in
     let reads = rw c.in-Some-Some.field-0-is at c.in-Some-Some.ensures.read in
-    let goes = Goes-leaf c.loop-left.invariant.0 item later is c.in-Some-Some.ensures.leaf reads in (
-      Goes-counted (omega (arith, length-take (length left - 1) (drop 1 left), length-drop 1 left)) goes,
+    let goes = Resumes-leaf c.loop-left.invariant.0 item later is c.in-Some-Some.ensures.leaf reads in (
+      Resumes-counted (omega (arith, length-take (length left - 1) (drop 1 left), length-drop 1 left)) goes,
       omega (arith, length-take (length left - 1) (drop 1 left), length-drop 1 left),
     )
 

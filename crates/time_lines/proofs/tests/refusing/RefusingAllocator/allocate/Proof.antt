@@ -1,4 +1,5 @@
 -- It returns `Err` where the call is due to fail, and else the result of the inner allocator. Assumes `Logic`.
+use Rattle.time_values.specs.Calendar.{greatest_year}
 use Rattle.std.proofs.Common.{◌≡◌, ℕ, ◌+◌, ◌^◌, ◌<◌, true, false, List, [], ◌∷◌, Ok, Err, refl, w64, Bor}
 use seplogic.Ra.Ura.{Ura}
 use mir.Syntax.{Ty, Args, Fn, a_type, dnil, dcons}
@@ -174,13 +175,13 @@ module _ (Z : Al) {M : Type 1} {𝓤 : Ura M} (𝓛 : Logic 𝓤) (at_mem : Memo
 
 pub allocate_spec : {M : Type 1} → stated.statement M
 unfolding tables_of
-allocate_spec 𝓤 𝓛 𝓜 𝓡 wired Y L g d d' met _ =
-    let Z : Al = record { row = Y; laws = L; g = g; d = d; drops = d' } in
+allocate_spec 𝓤 𝓛 𝓜 𝓡 wired greatest_year L g d d' met _ =
+    let Z : Al = record { row = greatest_year; laws = L; g = g; d = d; drops = d' } in
     let A = 𝓛.A in
     let 𝓣 : Tables 𝓤 𝓛.H = tables_of 𝓤 𝓛.H 𝓜 (tables 𝓤 𝓛.H 𝓜 𝓡 𝓡.env) in
-    let c = F.clauses Y g d d' 𝓛 𝓜.mem 𝓡.returns in
-    entered 𝓤 𝓛.H (triple_of 𝓛 (F.signature Y) (F.spec Y g d d' 𝓛 𝓜.mem 𝓡.returns)) 𝓣.C 𝓣.Λ (key.name (args Z)) (here Z)
-    (code.unfolded 𝓤 𝓛.H 𝓜 𝓡 wired (Y, tt) d d')
+    let c = F.clauses greatest_year g d d' 𝓛 𝓜.mem 𝓡.returns in
+    entered 𝓤 𝓛.H (triple_of 𝓛 (F.signature greatest_year) (F.spec greatest_year g d d' 𝓛 𝓜.mem 𝓡.returns)) 𝓣.C 𝓣.Λ (key.name (args Z)) (here Z)
+    (code.unfolded 𝓤 𝓛.H 𝓜 𝓡 wired (greatest_year, tt) d d')
     (walk_Meets 𝓛 (ended Z) (stayed Z) (
       Goes-dropped 𝓛 2 (self Z) yes (λ κs x f. refl),
       (

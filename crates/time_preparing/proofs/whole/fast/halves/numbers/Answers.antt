@@ -5,6 +5,6 @@ use Rattle.time_preparing.proofs.whole.fast.halves.numbers.Goals as goal
 
 pub returns : goal.returns
 returns c = λ r.
-    half_read greatest_year c.args.form.now _ c.args.input.now _ _ _ _ _ _ r
+    half_read c.args.form.now _ c.args.input.now _ _ _ _ _ _ r
     c.in_ok-hour.ensures (omega arith) (omega arith) c.in_ok-after.ensures c.in_ok-minute.ensures (omega arith)
     c.in_ok-second.ensures.reads c.in_ok-after-2.ensures c.in_ok-half.ensures

@@ -10,7 +10,7 @@ use Rattle.time_preparing.proofs.whole.fast.in_year.month_and_day.Goals as goal
 pub returns : goal.returns
 returns c = λ r.
     let p : Record = record r { month = Some c.in_ok-month.month.1 } in
-    two_read greatest_year c.args.between (MonthShort MONTH_NAME) (Day SPACED_DAY) _ _ _ _
+    two_read c.args.between (MonthShort MONTH_NAME) (Day SPACED_DAY) _ _ _ _
     (month c.in_ok-month.month.1) (number c.in_ok-day.day.1.value) r p (record p { day = Some c.in_ok-day.day.1.value })
     c.in_ok-month.ensures c.in_ok-after.ensures c.in_ok-day.ensures refl
-    (put_day greatest_year SPACED_DAY _ _ _ p c.in_ok-day.ensures (omega arith))
+    (put_day SPACED_DAY _ _ _ p c.in_ok-day.ensures (omega arith))

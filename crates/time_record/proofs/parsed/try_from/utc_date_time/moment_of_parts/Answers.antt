@@ -10,14 +10,14 @@ pub returns-in_err-time : goal.returns-in_err-time
 unfolding IsUtcMomentOfParts
 returns-in_err-time c =
     let p = err_from_is_err_and c.from_residual-in_err-time.result c.from_residual-in_err-time.ensures.1 in
-    let timed = rw c.stand_in-second.ensures at c.in_err-time.ensures in
+    let timed = rw c.replace_leap_second-second.ensures at c.in_err-time.ensures in
     rw (p.1, p.2) (Then-next c.in_ok-date.date c.in_ok-date.ensures (inl (_, timed, refl)))
 
 pub returns-in_err-offset : goal.returns-in_err-offset
 unfolding IsUtcMomentOfParts
 returns-in_err-offset c =
     let p = err_from_is_err_and c.from_residual-in_err-offset.result c.from_residual-in_err-offset.ensures.1 in
-    let timed = rw c.stand_in-second.ensures at c.in_ok-time.ensures in
+    let timed = rw c.replace_leap_second-second.ensures at c.in_ok-time.ensures in
     rw (p.1, p.2) (Then-next c.in_ok-date.date c.in_ok-date.ensures
     (Then-next c.in_ok-time.time timed (inl (_, c.in_err-offset.ensures, refl))))
 
@@ -25,7 +25,7 @@ pub returns-in_err-moment : goal.returns-in_err-moment
 unfolding IsUtcMomentOfParts
 returns-in_err-moment c =
     let p = err_from_is_err_and c.from_residual-in_err-moment.result c.from_residual-in_err-moment.ensures.1 in
-    let timed = rw c.stand_in-second.ensures at c.in_ok-time.ensures in
+    let timed = rw c.replace_leap_second-second.ensures at c.in_ok-time.ensures in
     let parts = c.new_in_offset.ensures in
     let refused = rw (parts.date, parts.time, parts.offset) at c.in_err-moment.ensures in
     rw (p.1, p.2) (Then-next c.in_ok-date.date c.in_ok-date.ensures
@@ -35,7 +35,7 @@ returns-in_err-moment c =
 pub returns-then-not-is_valid_leap_second_stand_in : goal.returns-then-not-is_valid_leap_second_stand_in
 unfolding IsUtcMomentOfParts
 returns-then-not-is_valid_leap_second_stand_in c =
-    let timed = rw c.stand_in-second.ensures at c.in_ok-time.ensures in
+    let timed = rw c.replace_leap_second-second.ensures at c.in_ok-time.ensures in
     let parts = c.new_in_offset.ensures in
     let seen = rw (parts.date, parts.time, parts.offset) at c.in_ok-moment.ensures in
     let leap = sym c.is_leap_second.ensures ∙ c.if-is_leap_second.true in
@@ -48,7 +48,7 @@ returns-then-not-is_valid_leap_second_stand_in c =
 pub returns : goal.returns
 unfolding IsUtcMomentOfParts
 returns c =
-    let timed = rw c.stand_in-second.ensures at c.in_ok-time.ensures in
+    let timed = rw c.replace_leap_second-second.ensures at c.in_ok-time.ensures in
     let parts = c.new_in_offset.ensures in
     let seen = rw (parts.date, parts.time, parts.offset) at c.in_ok-moment.ensures in
     Then-next c.in_ok-date.date c.in_ok-date.ensures

@@ -1,0 +1,22 @@
+//! Tests of components and records: parsers of components, items that are parsed into a record, its fields, and its
+//! conversions to values.
+#![tactic(auto)]
+
+#[cfg(test)]
+mod components;
+#[cfg(test)]
+mod conversions;
+#[cfg(test)]
+mod fields;
+#[cfg(test)]
+mod guides;
+pub mod inspected;
+#[cfg(test)]
+mod items;
+#[cfg(test)]
+mod records;
+pub mod same;
+#[cfg(test)]
+mod surface;
+#[cfg(test)]
+mod walks;

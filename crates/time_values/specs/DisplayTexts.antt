@@ -1,0 +1,82 @@
+-- Digits of numbers, and values as they are printed.
+use Rattle.std.specs.Prelude.{ℕ, zero, suc, ◌+◌, ◌/◌, ◌%◌, max, ℤ, pos, int_lt, unsigned_abs, List, [], ◌∷◌, ◌++◌, codes, take, Bool, ◌||◌, ◌==◌, nat_lt, if◌then◌else◌}
+use Rattle.time_values.specs.Dates as Dates
+use Rattle.time_values.specs.Moments.{plain_date, plain_time, utc_date, utc_time, offset_date, offset_time, offset_of}
+use Rattle.time_values.specs.Names.{month_number}
+use Rattle.time_values.specs.Offsets as Offsets
+use Rattle.time_values.specs.Times as Times
+use Rattle.time_values.specs.declared.date.Date.{Date}
+use Rattle.time_values.specs.declared.offset_date_time.OffsetDateTime.{OffsetDateTime}
+use Rattle.time_values.specs.declared.plain_date_time.PlainDateTime.{PlainDateTime}
+use Rattle.time_values.specs.declared.time.Time.{Time}
+use Rattle.time_values.specs.declared.utc_date_time.UtcDateTime.{UtcDateTime}
+use Rattle.time_values.specs.declared.utc_offset.UtcOffset.{UtcOffset}
+
+-- the bytes of a text
+pub record Items : Type 0 where
+  pub items : List ℕ
+
+-- the last k decimal digits of n
+unfoldable pub fixed : ℕ → ℕ → List ℕ
+fixed zero n = []
+fixed (suc k) n = fixed k (n / 10) ++ ((48 + n % 10) ∷ [])
+
+-- the number of the last k digits of n before the zeros at the end
+unfoldable pub significant : ℕ → ℕ → ℕ
+significant zero n = 0
+significant (suc k) n = if n % 10 == 0 then significant k (n / 10) else suc k
+
+-- a point and the first k of nine digits, or nothing if k is 0
+abbrev pub fraction_display : ℕ → ℕ → List ℕ
+fraction_display k n = if k == 0 then [] else codes "." ++ take k (fixed 9 n)
+
+-- as many digits as the number has, and at least four; it is below 1000000
+abbrev pub magnitude_display : ℕ → List ℕ
+magnitude_display n = if nat_lt n 10_000 then fixed 4 n else if nat_lt n 100_000 then fixed 5 n else fixed 6 n
+
+-- nothing for a year of four digits, and else the sign
+abbrev pub year_sign_display : ℤ → List ℕ
+year_sign_display y = if int_lt y (pos 0) then codes "-" else if int_lt (pos 9999) y then codes "+" else []
+
+-- `YYYY-MM-DD`
+abbrev pub date_display : Date → List ℕ
+date_display d =
+    year_sign_display (Dates.year d) ++ magnitude_display (unsigned_abs (Dates.year d)) ++ codes "-"
+    ++ fixed 2 (month_number (Dates.month d)) ++ codes "-" ++ fixed 2 (Dates.day d)
+
+-- one digit, or two
+abbrev pub hour_display : ℕ → List ℕ
+hour_display h = if nat_lt h 10 then (48 + h) ∷ [] else fixed 2 h
+
+-- `H:MM:SS.n`, with at least one digit of a fraction
+abbrev pub time_display : Time → List ℕ
+time_display t =
+    hour_display (Times.hour t) ++ codes ":" ++ fixed 2 (Times.minute t) ++ codes ":" ++ fixed 2 (Times.second t)
+    ++ fraction_display (max (significant 9 (Times.nanosecond t)) 1) (Times.nanosecond t)
+
+-- a part of the offset is below 0
+abbrev pub is_behind : UtcOffset → Bool
+is_behind o =
+    int_lt (Offsets.hours o) (pos 0) || int_lt (Offsets.minutes o) (pos 0) || int_lt (Offsets.seconds o) (pos 0)
+
+-- `-`, or `+`
+abbrev pub offset_sign_display : UtcOffset → ℕ
+offset_sign_display o = if is_behind o then 45 else 43
+
+-- `+HH:MM:SS`
+abbrev pub offset_display : UtcOffset → List ℕ
+offset_display o =
+    offset_sign_display o ∷ fixed 2 (unsigned_abs (Offsets.hours o)) ++ codes ":"
+    ++ fixed 2 (unsigned_abs (Offsets.minutes o)) ++ codes ":" ++ fixed 2 (unsigned_abs (Offsets.seconds o))
+
+-- the date, a space, and the time
+abbrev pub plain_display : PlainDateTime → List ℕ
+plain_display p = date_display (plain_date p) ++ codes " " ++ time_display (plain_time p)
+
+-- the date, a space, the time, a space, and the offset
+abbrev pub moment_display : OffsetDateTime → List ℕ
+moment_display v =
+    date_display (offset_date v) ++ codes " " ++ time_display (offset_time v) ++ codes " " ++ offset_display (offset_of v)
+
+abbrev pub utc_display : UtcDateTime → List ℕ
+utc_display u = date_display (utc_date u) ++ codes " " ++ time_display (utc_time u) ++ codes " +00"

@@ -14,6 +14,7 @@ import writing
 from formats import ISO8601, RFC2822, RFC3339_STRICT, ByTree, outcome
 from programs import Cases, run
 from records import resolve
+from reading_descriptions import steps
 from values import Refused, instant
 
 NUMBERS = {"rfc3339": 1, "rfc2822": 2, "iso8601": 3}
@@ -172,11 +173,6 @@ def random_form(rng):
         # One with a `%` is of strftime, and any other in brackets of version 2.
         if syntax == "strftime" and steps(tree) <= LARGEST_DESCRIPTION or syntax == "v2" and b"%" not in text:
             return text.hex(), ByTree(tree), lambda rng: texts.spelled(rng, tree, texts.random_moment(rng, -3, 10_002))
-
-
-def steps(tree):
-    kind, inside = tree
-    return len(inside) if kind == "literal" else 1 if kind == "component" else sum(map(steps, inside))
 
 
 def ask(rng):

@@ -17,7 +17,7 @@ static const char *meaning_of(uint8_t letter)
         "Ihour repr:12", "lhour repr:12 padding:space", "mmonth", "Mminute", "Ssecond", "pperiod", "Pperiod case:lower",
         "sunix_timestamp", "uweekday repr:monday", "wweekday repr:sunday one_indexed:false", "Uweek_number repr:sunday",
         "Vweek_number", "Wweek_number repr:monday", "D%m/%d/%y", "x%m/%d/%y", "F%Y-%m-%d", "R%H:%M", "T%H:%M:%S",
-        "X%H:%M:%S", "r%I:%M:%S %p", "c%a %b %e %H:%M:%S %Y" };
+        "X%H:%M:%S", "r%I:%M:%S %p", "c%a %b %e %H:%M:%S %Y", "fsubsecond", "Nsubsecond digits:9" };
     for (size_t k = 0; k < sizeof meanings / sizeof *meanings; k++)
         if ((uint8_t)*meanings[k] == letter) return meanings[k] + 1;
     return "";
@@ -31,19 +31,26 @@ static bytes bytes_of_words(const char *words)
 
 static void write_strftime(writing *it, bytes described);
 
-/* Writes a conversion. A flag (-, _ or 0) selects the padding of its number. */
+/* Writes a conversion. A flag selects the padding of its number (-, _ or 0) or the digits of its fraction (3, 6 or 9), or
+ * adds a point before the fraction or a colon inside the offset. */
 static void put_conversion(writing *it, uint8_t flag, uint8_t letter)
 {
     char words[64];
-    const char *meaning = meaning_of(letter);
+    const char *meaning = meaning_of(letter), *modifier = "";
+    if (flag == '-') modifier = " padding:none";
+    if (flag == '_') modifier = " padding:space";
+    if (flag == '0') modifier = " padding:zero";
+    if (flag == '3') modifier = " digits:3";
+    if (flag == '6') modifier = " digits:6";
+    if (flag == '9') modifier = " digits:9";
     if (letter == '%' || letter == 'n' || letter == 't') put(it, letter == 'n' ? "\n" : letter == 't' ? "\t" : "%", 1);
     if (letter == 'z') put_component(it, bytes_of_words("offset_hour sign:mandatory"));
+    if (flag == ':' || flag == '.') put(it, flag == ':' ? ":" : ".", 1);
     if (letter == 'z') put_component(it, bytes_of_words("offset_minute"));
     if (*meaning == '%') {
         write_strftime(it, bytes_of_words(meaning));
     } else {
-        snprintf(words, sizeof words, "%s%s", meaning, flag == '-' ? " padding:none" : flag == '_' ? " padding:space"
-            : flag == '0' ? " padding:zero" : "");
+        snprintf(words, sizeof words, "%s%s", meaning, modifier);
         put_component(it, bytes_of_words(words));
     }
 }
@@ -56,7 +63,7 @@ static void write_strftime(writing *it, bytes described)
             continue;
         }
         uint8_t flag = ++k < described.length ? described.at[k] : 0;
-        if (flag == '-' || flag == '_' || flag == '0') k++;
+        if (flag && strchr("-_0369.:", flag)) k++;
         if (k < described.length) put_conversion(it, flag, described.at[k]);
     }
 }

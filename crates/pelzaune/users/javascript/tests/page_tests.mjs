@@ -39,7 +39,7 @@ export async function typing(tab, checks) {
   checks.same([rows['RFC 3339'], rows['In UTC'], rows['Milliseconds since 1970']],
     ['2021-01-02T03:04:05.25-00:30', '2021-01-02T03:34:05.25Z', '1609558445250'], 'the value');
   checks.same(await tab.evaluate("[...document.querySelectorAll('#parts li')].map((it) => it.textContent)"),
-    ['year 2021', 'month 01', 'day 02', 'hour 03', 'minute 04', 'second 05', 'subsecond 25', 'offset hour -00', 'offset minute 30'], 'the parts');
+    ['year 2021', 'month 01', 'day 02', 'separator T', 'hour 03', 'minute 04', 'second 05', 'subsecond 25', 'offset hour -00', 'offset minute 30'], 'the parts');
   await focus(tab, '#text');
   await tab.type('2021-13-02T03:04:05Z');
   checks.same(await textOf(tab, '#verdict'), 'Month is out of range. At character 6: expected month.', 'the error');

@@ -18,7 +18,7 @@ SHORTHANDS = {"D": "m/d/y", "x": "m/d/y", "F": "Y-m-d", "R": "H:M", "T": "H:M:S"
               "c": "a b e H:M:S Y"}
 BYTES_OF = {"n": b"\n", "t": b"\t", "%": b"%"}
 FLAGS = {"-": "none", "_": "space", "0": "zero"}
-# The items of a letter after a flag that is none of padding.
+# The items of a letter after a flag that isn't one of padding.
 FLAGGED = {
     **{f"{digits}f": [part("subsecond", digits=digits)] for digits in "369"},
     ".f": [("optional", ("list", [("literal", b"."), part("subsecond")]))],

@@ -149,9 +149,9 @@ def lacking(job, text):
         return "day"
     if not (names_day and year_of(record, "") is not None or names_week_day and year_of(record, "iso_") is not None):
         says_part = any(it in record for it in YEAR_PARTS)
-        return "whole year for its day" if says_part else "year; --year or --latest gives one"
+        return "whole year" if says_part else "year; --year or --latest gives one"
     if "hour_24" not in record and not has(record, "hour_12", "is_pm"):
-        return "half of the day" if "hour_12" in record else "hour"
+        return "AM or PM" if "hour_12" in record else "hour"
     return next((it for it in ("minute", "second") if it not in record), "offset")
 
 
@@ -216,7 +216,7 @@ class Job:
         place = wrong_place(self, text, reason.fault)
         column = start + (place[0] if place else 0) + 1
         if reason.fault.kind == "missing":
-            return "refused", column, f"it says no {lacking(self, text)}"
+            return "refused", column, f"missing {lacking(self, text)}"
         return "refused", column, reason.text + (place[1] if place else "")
 
 
@@ -263,7 +263,7 @@ class Expected:
             self.line(line, ending, fate)
         if self.settings.most is not None and here > self.settings.most:
             more = here - self.settings.most
-            self.reports.append((f"{name}: {more} more line{'s were' if more > 1 else ' was'} refused", True))
+            self.reports.append((f"{name}: {more} more line{'s were' if more > 1 else ' was'} rejected", True))
 
     def report(self, name, number, line, fate):
         _, column, reason = fate

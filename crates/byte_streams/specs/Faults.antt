@@ -1,7 +1,7 @@
 -- How many calls have failed, and how many bytes were read.
 use Rattle.std.specs.Prelude.{◌≡◌, ◌⊎◌, ℕ, ◌+◌, ◌-◌, ◌^◌, ◌≤◌, min, Result, MatchResult}
 
--- A count rose by at least one, unless it is the greatest 64-bit number.
+-- A count rose by at least one, or it was already 2^64 - 1 or more, and didn't fall.
 abbrev pub Rises : ℕ → ℕ → Type 0
 Rises before now = (before ≤ now) × (min (before + 1) (2 ^ 64 - 1) ≤ now)
 
@@ -17,10 +17,10 @@ count_more before n = min (before + n) (2 ^ 64 - 1)
 abbrev pub HasGiven : {E : Type 0} → Result ℕ E → ℕ → ℕ → Type 0
 HasGiven result before now = MatchResult result (λ n. now ≡ count_more before n) (λ _. now ≡ before)
 
--- A call of a source has failed since, or the source has returned as many bytes as the count can hold.
+-- The count of failed calls rose, or a source has returned 2^64 - 1 bytes or more.
 abbrev pub IsCutOff : ℕ → ℕ → ℕ → Type 0
 IsCutOff before now given = Rises before now ⊎ (2 ^ 64 - 1 ≤ given)
 
--- A read returned at least one byte, or it failed.
+-- By the counts before and after, no call failed and at least one byte was read, or a call failed.
 abbrev pub HasProgressed : ℕ → ℕ → ℕ → ℕ → Type 0
 HasProgressed faults faults' given given' = ((faults' ≡ faults) × (count_more given 1 ≤ given')) ⊎ Rises faults faults'

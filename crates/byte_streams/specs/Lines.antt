@@ -14,12 +14,12 @@ ended text = record { text = text; ending = 10 ∷ [] }
 abbrev pub unended : List ℕ → Line
 unended text = record { text = text; ending = [] }
 
--- the lines, with the byte b before the first one
+-- the lines, with the byte b before the first line's text; if there are none, one line of b without LF
 abbrev pub onto_first : ℕ → List Line → List Line
 onto_first b [] = unended (b ∷ []) ∷ []
 onto_first b (line ∷ lines) = record { text = b ∷ line.text; ending = line.ending } ∷ lines
 
--- The lines of a text. The bytes after the last LF are a line, unless there are no bytes.
+-- The lines of a text, which end with LF. The bytes after the last LF are a line, unless there are none.
 abbrev pub lines_of : List ℕ → List Line
 lines_of [] = []
 lines_of (b ∷ bytes) = if b == 10 then ended [] ∷ lines_of bytes else onto_first b (lines_of bytes)
@@ -28,7 +28,7 @@ lines_of (b ∷ bytes) = if b == 10 then ended [] ∷ lines_of bytes else onto_f
 abbrev pub line_texts : List ℕ → List (List ℕ)
 line_texts bytes = map (λ (line : Line). line.text) (lines_of bytes)
 
--- the bytes of the lines, one after the other
+-- the bytes of the lines with their endings, one line after the other
 abbrev pub joined : List Line → List ℕ
 joined [] = []
 joined (line ∷ lines) = (line.text ++ line.ending) ++ joined lines
@@ -37,7 +37,7 @@ joined (line ∷ lines) = (line.text ++ line.ending) ++ joined lines
 abbrev pub HasNoLf : List ℕ → Type 0
 HasNoLf bytes = (k : ℕ) → k < length bytes → ¬ (slice_index bytes k ≡ 10)
 
--- each line ends with its only LF
+-- each line ends with LF, and has no other LF
 abbrev pub AreEnded : List Line → Type 0
 AreEnded [] = Unit {0}
 AreEnded (line ∷ lines) = HasNoLf line.text × (line.ending ≡ 10 ∷ []) × AreEnded lines

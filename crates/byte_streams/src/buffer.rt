@@ -10,12 +10,15 @@ use std::io;
 use std::io::{ErrorKind, Write};
 use std::marker::Model;
 
-/// A buffer of at most `N` bytes in an array. It allocates nothing, and clearing it costs nothing. As a writer it takes
-/// the bytes that fit.
+/// A buffer of at most `N` bytes in an array. It allocates nothing, and clearing it costs nothing. Its `write`
+/// appends the bytes that fit, and returns how many.
 #[derive(Drop)]
 pub struct ArrayBuf<const N: usize> {
+    /// The buffered bytes, from `start` to before `end`.
     pub(crate) array: [u8; N],
+    /// The index of the first buffered byte.
     pub(crate) start: usize,
+    /// The index after the last buffered byte. The bytes from here are free.
     pub(crate) end: usize,
 }
 
@@ -71,7 +74,7 @@ impl<const N: usize> ArrayBuf<N> {
         self.end = 0;
     }
 
-    /// Removes all bytes but the last `n`.
+    /// Removes all bytes but the last `n`. The buffer must contain that many.
     pub fn keep_last(&mut self, n: usize)
         requires { n ≤ length self.old.items }
         ensures { self.new.items ≡ drop (length self.old.items - n) self.old.items }
@@ -79,7 +82,7 @@ impl<const N: usize> ArrayBuf<N> {
         self.start = self.end - n;
     }
 
-    /// Whether these bytes fit after the buffered ones.
+    /// Whether these bytes fit between the buffered ones and the end of the array.
     #[inline(always)]
     pub fn has_room(&self, bytes: &[u8]) -> bool
         ensures { IsTrue result ↔ (length bytes.now ≤ self.now.room) }
@@ -87,7 +90,7 @@ impl<const N: usize> ArrayBuf<N> {
         bytes.len() <= N - self.end
     }
 
-    /// Appends bytes.
+    /// Appends bytes, which must fit (see [`has_room`](ArrayBuf::has_room)).
     #[inline(always)]
     pub fn append(&mut self, bytes: &[u8])
         requires { length bytes.now ≤ self.old.room }
@@ -113,7 +116,8 @@ impl<const N: usize> ArrayBuf<N> {
         self.start = 0;
     }
 
-    // Reads once, into the free bytes at the end of the array. 0 means the end of the input.
+    // Reads once, into the free bytes at the end of the array. Returns how many bytes were read: 0 at the end of the
+    // input.
     fn read_behind<R: Source>(&mut self, input: &mut R) -> io::Result<usize>
         requires { 0 < self.old.room }
         ensures read { MatchResult result
@@ -134,8 +138,9 @@ impl<const N: usize> ArrayBuf<N> {
         }
     }
 
-    /// Reads once, and appends the bytes. Returns `false` at the end of the input. An interrupted read appends nothing,
-    /// and returns `true`.
+    /// Reads once, and appends the bytes. Returns `false` at the end of the input, and otherwise `true`, also for an
+    /// interrupted read, which appends nothing. Another failed read is an error, and leaves the buffered bytes
+    /// unchanged. The buffer must contain fewer than `N` bytes.
     pub fn fill<R: Source>(&mut self, input: &mut R) -> io::Result<bool>
         requires { length self.old.items < N }
         ensures read { MatchResult result
@@ -173,11 +178,12 @@ impl<const N: usize> Write for ArrayBuf<N> {
         Ok(n)
     }
 
+    // Does nothing, and never fails.
     fn flush(&mut self) -> io::Result<()> {
         Ok(())
     }
 
-    // Appends the bytes. Returns an error if they don't all fit.
+    // Appends the bytes. If they don't all fit, appends those that fit, and returns an error of the kind `WriteZero`.
     #[inline(always)]
     fn write_all(&mut self, buf: &[u8]) -> io::Result<()> {
         if self.has_room(buf) {

@@ -10,16 +10,18 @@ use crate::sink::{Sink, Unwritten};
 use std::fmt::Display;
 use std::io::Write;
 
-// How many bytes are buffered.
+// How many bytes fit in the buffer of a sink.
 const CAPACITY: usize = 65536;
 
-// More bytes than most printed values have.
+// How many bytes of a printed value fit in its array: more than most values have.
 const LONGEST: usize = 128;
 
-/// A sink with a buffer of up to 65536 bytes that are still to be written to it. It allocates nothing.
+/// A sink with a buffer of up to 65536 bytes that are still to be written to it. Later writes and
+/// [`flush_buffer`](BufferedSink::flush_buffer) write them, but neither `flush` nor dropping does. It allocates
+/// nothing.
 #[derive(Drop)]
 pub struct BufferedSink<W> {
-    /// The sink.
+    /// The sink that the buffered bytes are written to.
     pub sink: W,
     pub(crate) buffer: ArrayBuf<CAPACITY>,
 }
@@ -36,7 +38,7 @@ impl<W> BufferedSink<W> {
         }
     }
 
-    /// The sink. The buffered bytes are dropped.
+    /// The sink. The buffered bytes are dropped, and not written.
     pub fn into_sink(self) -> W
         ensures { result ≡ self.sink }
     {
@@ -44,7 +46,7 @@ impl<W> BufferedSink<W> {
         sink
     }
 
-    /// Drops the buffered bytes.
+    /// Drops the buffered bytes without writing them.
     pub fn clear_buffer(&mut self)
         ensures sink { self.new.sink ≡ self.old.sink }
         ensures none { self.new.buffer.items ≡ [] }
@@ -54,7 +56,8 @@ impl<W> BufferedSink<W> {
 }
 
 impl<W: Sink> BufferedSink<W> {
-    /// Writes the buffered bytes to the sink.
+    /// Writes the buffered bytes to the sink, and doesn't flush the sink. After an error they are still buffered,
+    /// although some may have been written.
     #[inline(never)]
     pub fn flush_buffer(&mut self) -> Result<(), Unwritten>
         ensures written { OnOk result (Keeps (append_known (W.contents self.old.sink) self.old.buffer.items) (W.contents self.new.sink)) }
@@ -119,7 +122,8 @@ impl<W: Sink> BufferedSink<W> {
         self.write_all(&bytes[end..])
     }
 
-    /// Writes bytes with a text in place of those from `begin` to before `end`.
+    /// Writes `bytes` with `text` in place of those from `begin` to before `end`. Returns an error if a write to the
+    /// sink failed; then some of these bytes may have been written.
     #[inline(always)]
     pub fn write_spliced(
         &mut self,
@@ -163,6 +167,8 @@ impl<W: Sink> Sink for BufferedSink<W> {
         Ok(())
     }
 
+    // Prints the value into an array first. If that fails, as for a text of more than 128 bytes, writes the buffered
+    // bytes, and prints the value to the sink itself.
     fn write_fmt<D: Display>(&mut self, text: D) -> Result<(), Unwritten>
     where
         D: Drop,
@@ -174,7 +180,7 @@ impl<W: Sink> Sink for BufferedSink<W> {
         }
     }
 
-    // Leaves the bytes buffered, since after a failed write nothing is known of them.
+    // Leaves the bytes buffered: a flush mustn't change the contents, and after a failed write they aren't known.
     fn flush(&mut self) -> Result<(), Unwritten> {
         self.sink.flush()
     }

@@ -11,7 +11,7 @@ use std::io::{Read, Write};
 /// A reader or a writer of std. It counts the failed calls and the bytes that reads returned, both up to
 /// 18446744073709551615, and keeps the last error of a write or a flush.
 ///
-/// A call on a `Vec` fails if memory is short.
+/// A write to a `Vec` fails if no memory can be allocated.
 #[derive(Drop)]
 pub struct Counted<T> {
     inner: T,
@@ -36,14 +36,14 @@ impl<T> Counted<T> {
         }
     }
 
-    /// The reader or writer.
+    /// The wrapped reader or writer.
     pub fn get_ref(&self) -> &T
         ensures { result.now ≡ self.now.inner }
     {
         &self.inner
     }
 
-    /// The reader or writer, and the last error of a write or a flush, if one failed.
+    /// The wrapped reader or writer, and the last error of a write or a flush, or `None` if none failed.
     pub fn into_parts(self) -> (T, Option<io::Error>)
         ensures inner { result.0 ≡ self.inner }
         ensures error { result.1 ≡ self.error }
@@ -64,8 +64,8 @@ impl<T> Counted<T> {
         self.faults > 0 || self.given == u64::MAX
     }
 
-    /// A count of readers that were cut off, raised by one if this one was: a call has failed, or reads have returned
-    /// 18446744073709551615 bytes.
+    /// `count`, a number of readers that were cut off, plus one if this reader was: one of its calls has failed, or its
+    /// reads have returned 18446744073709551615 bytes or more. The result is at most 18446744073709551615.
     pub fn count_cut_off(&self, count: u64) -> u64
         ensures cut_off { IsCutOff 0 self.now.faults self.now.given → Rises count result }
         ensures whole { ¬ IsCutOff 0 self.now.faults self.now.given → result ≡ count }

@@ -8,7 +8,7 @@ use std::io;
 use std::io::{ErrorKind, Write};
 
 /// A borrowed writer of std. Like [`Counted`](crate::Counted) it counts the failed calls, and keeps the last error. The
-/// writer's owner has what was written to it.
+/// writer contains what was written when the borrow ends.
 #[derive(Drop)]
 pub struct Lent<'a, W> {
     inner: &'a mut W,

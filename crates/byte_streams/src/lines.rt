@@ -22,7 +22,8 @@ pub fn whole_line(bytes: &[u8]) -> Option<(&[u8], &[u8])>
     }
 }
 
-/// The first line, without its LF, and the bytes after it. The bytes must not be empty. The last line may have no LF.
+/// The first line, without its LF, and the bytes after that LF. Without an LF, all bytes are the line, and none are
+/// after it. The bytes must not be empty.
 #[inline(always)]
 pub fn first_line(bytes: &[u8]) -> (&[u8], &[u8])
     requires { 0 < length bytes.now }

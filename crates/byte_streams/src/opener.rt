@@ -15,7 +15,7 @@ pub struct Opener<'a, R> {
 }
 
 impl<'a, R> Opener<'a, R> {
-    /// Opens the files of this system. No failure is counted yet.
+    /// An opener of the files of this system, with a count of 0.
     pub fn new(rt: &'a R) -> Opener<'a, R>
         ensures { result.faults ≡ 0 }
     {
@@ -31,7 +31,8 @@ impl<'a, R> Opener<'a, R> {
 }
 
 impl<R: Files> Opener<'_, R> {
-    /// Opens a file by name. No call of the returned file has failed yet. A name that isn't UTF-8 is an error.
+    /// Opens a file by name. The counts of the returned file are 0. Returns an error, and counts a failure, if the file
+    /// can't be opened, or if the name isn't UTF-8 (`InvalidInput`).
     pub fn open(&mut self, name: &[u8]) -> io::Result<Counted<R::File>>
         ensures begun { IfOk result (λ file. file.faults ≡ 0) }
         ensures cause { HasCause result self.old.faults self.new.faults }

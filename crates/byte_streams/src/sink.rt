@@ -5,28 +5,29 @@ ghost use Rattle.byte_streams.specs.Faults.{HasCause};
 
 use std::fmt::Display;
 
-/// A write or a flush failed. The type is small, since it is part of the result for each line.
+/// The error of a write or a flush. The type has no fields, so that the result for each line is small.
 #[derive(Clone, Copy, Debug, PartialEq, Eq)]
 pub struct Unwritten;
 
-/// A writer. An error means that one of its calls failed.
+/// A writer. A method returns an error if and only if a call to the underlying writer failed while the method ran.
 pub trait Sink {
     // The bytes that it contains, if they are known.
     ghost contents: { Self → Option (List ℕ) };
 
-    // How many of its calls have failed.
+    // How many calls to the underlying writer have failed. The count may stop at 18446744073709551615.
     ghost faults: { Self → ℕ };
 
     // Identifies the reference that it writes through, if there is one.
     ghost through: { Self → ℕ } = { λ _. 0 };
 
-    /// Writes all of the bytes.
+    /// Writes all of the bytes. After an error, some of them may have been written.
     fn write_all(&mut self, bytes: &[u8]) -> Result<(), Unwritten>
         ensures bytes { OnOk result (Appends (contents self.old) (contents self.new) bytes.now) }
         ensures cause { HasCause result (faults self.old) (faults self.new) }
         ensures through { through self.new ≡ through self.old };
 
-    /// Writes what `Display` prints of a value. `write!` calls it.
+    /// Writes what `Display` prints of a value. `write!` calls this method. After an error, some of it may have been
+    /// written.
     fn write_fmt<D: Display>(&mut self, text: D) -> Result<(), Unwritten>
     where
         D: Drop,
@@ -34,7 +35,7 @@ pub trait Sink {
         ensures cause { HasCause result (faults self.old) (faults self.new) }
         ensures through { through self.new ≡ through self.old };
 
-    /// Flushes the writer.
+    /// Flushes the writer. Its contents are unchanged, also after an error.
     fn flush(&mut self) -> Result<(), Unwritten>
         ensures bytes { Keeps (contents self.old) (contents self.new) }
         ensures cause { HasCause result (faults self.old) (faults self.new) }

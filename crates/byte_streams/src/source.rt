@@ -7,18 +7,19 @@ ghost use Rattle.byte_streams.specs.Faults.{HasCause, HasGiven};
 use std::io;
 use std::io::Read;
 
-/// A reader. An error means that one of its calls failed.
+/// A reader. `read` returns an error if and only if a call to the underlying reader failed while it ran.
 pub trait Source {
     // The unread bytes, if they are known.
     ghost remaining: { Self → Option (List ℕ) };
 
-    // How many of its calls have failed.
+    // How many calls to the underlying reader have failed. The count may stop at 18446744073709551615.
     ghost faults: { Self → ℕ };
 
     // How many bytes its reads have returned, up to 18446744073709551615.
     ghost given: { Self → ℕ };
 
-    /// Reads some bytes into the start of a buffer. Returns how many: 0 at the end, or if the buffer has length 0.
+    /// Reads some bytes into the start of a buffer. Returns how many: 0 at the end of the input, or if the buffer has
+    /// length 0. A failed read consumes no bytes.
     fn read(&mut self, buffer: &mut [u8]) -> io::Result<usize>
         ensures bound { ReadsAtMost result buffer.new }
         ensures bytes { ReadConsumes (remaining self.old) (remaining self.new) result buffer.new }

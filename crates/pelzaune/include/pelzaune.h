@@ -100,7 +100,8 @@ enum {
  * `moment` is a date, time and offset; `instant` and `nanoseconds` count that moment from 1970-01-01T00:00:00Z. `local`
  * is the date and time, and drops an offset; `utc` is the date and time in UTC, and takes a text without an offset as
  * UTC. `date`, `time` and `offset` are parts of the text. A leap second, such as 23:59:60, is parsed as the last
- * nanosecond before it, but `time` and `local` reject it. */
+ * nanosecond before it if it ends a month in UTC, but `time` and `local` reject it, as do `moment`, `utc`, `instant`
+ * and `nanoseconds` by a description without a Unix timestamp. `date` and `offset` drop the second. */
 pelzaune_status pelzaune_parse_moment(uint32_t format, const uint8_t *text, size_t length, pelzaune_moment *out);
 pelzaune_status pelzaune_parse_local(uint32_t format, const uint8_t *text, size_t length, pelzaune_local *out);
 pelzaune_status pelzaune_parse_utc(uint32_t format, const uint8_t *text, size_t length, pelzaune_local *out);
@@ -133,9 +134,10 @@ pelzaune_status pelzaune_parse_parts(uint32_t format, const uint8_t *text, size_
  * brackets of up to 64 bytes always fits. */
 pelzaune_status pelzaune_check_description(uint32_t syntax, const uint8_t *description, size_t description_length, size_t *index);
 
-/* Each parses a text by a description, into the value of the function with that name above. A malformed description has
- * the status of pelzaune_check_description. Each call parses the description again: for many texts by one description
- * see pelzaune_describe. */
+/* Each parses a text by a description, into the value of the function with that name above. A Unix timestamp alone
+ * decides `utc`, `moment` (in UTC), `instant` and `nanoseconds`, but a subsecond replaces its fraction; the others drop
+ * it. A malformed description has the status of pelzaune_check_description. Each call parses the description again: for
+ * many texts by one description see pelzaune_describe. */
 pelzaune_status pelzaune_read_moment(uint32_t syntax, const uint8_t *description, size_t description_length,
     const uint8_t *text, size_t length, pelzaune_moment *out);
 pelzaune_status pelzaune_read_local(uint32_t syntax, const uint8_t *description, size_t description_length,
@@ -175,10 +177,11 @@ pelzaune_status pelzaune_described_instant(const pelzaune_description *descripti
 pelzaune_status pelzaune_described_nanoseconds(const pelzaune_description *description, const uint8_t *text, size_t length, int64_t *out);
 pelzaune_status pelzaune_described_parts(const pelzaune_description *description, const uint8_t *text, size_t length, pelzaune_parts *out);
 
-/* Where a text fails. */
+/* Where a text fails: at the start of the expected component, even of a truncated one, at the first byte that doesn't
+ * match a literal, or at the first byte too many. */
 typedef struct pelzaune_place {
-    size_t index; /* of the part that was expected; the length where the text is too short */
-    uint8_t byte; /* the first byte of the literal that was expected there, or 0 where none was */
+    size_t index; /* the length if the text ends there */
+    uint8_t byte; /* the byte of a literal that was expected there, or 0 where none was */
 } pelzaune_place;
 
 /* Locates the error of a rejected text, for a message to its author. Returns PELZAUNE_OK and leaves *out unchanged where

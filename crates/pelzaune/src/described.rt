@@ -19,8 +19,9 @@ use pelzaune_ffi::results::{count, parts, store_value};
 use pelzaune_ffi::stored::{StoredDescription, describe};
 use time_values::{Date, OffsetDateTime, PlainDateTime, Time, UtcDateTime, UtcOffset};
 
-/// Parses a description in the syntax with this number and stores it in `out`. Returns 0, or the status of its first
-/// fault and stores that fault's index in `index`, if it has one.
+/// Parses a description in the syntax with this number and stores it in `out`. Returns 0; or the status of its first
+/// fault, stores that fault's byte index in `index`, and leaves `out` unchanged. With the status 0, 16 for more than 64
+/// steps, or 17 for an unknown syntax, `index` is unchanged.
 #[unsafe(no_mangle)]
 pub extern "C" fn pelzaune_describe(
     syntax: u32,
@@ -33,8 +34,8 @@ pub extern "C" fn pelzaune_describe(
     describe(syntax, text, out, index)
 }
 
-/// Parses the date of a text by a stored description, and stores it in `out`. Returns 0, or the error's status and
-/// leaves `out` unchanged.
+/// Parses a whole text by a stored description, and stores its date in `out`. Any other component is dropped. Returns
+/// 0, or the error's status and leaves `out` unchanged.
 #[unsafe(no_mangle)]
 pub extern "C" fn pelzaune_described_date(
     description: &StoredDescription,
@@ -47,8 +48,8 @@ pub extern "C" fn pelzaune_described_date(
     store_value::<Date, DateParts, StoredDescription>(description, text, out)
 }
 
-/// Parses the time of a text by a stored description, and stores it in `out`. Returns 0, or the error's status and
-/// leaves `out` unchanged.
+/// Parses a whole text by a stored description, and stores its time in `out`. Any other component is dropped, and a
+/// second of 60 is rejected. Returns 0, or the error's status and leaves `out` unchanged.
 #[unsafe(no_mangle)]
 pub extern "C" fn pelzaune_described_time(
     description: &StoredDescription,
@@ -60,8 +61,8 @@ pub extern "C" fn pelzaune_described_time(
     store_value::<Time, TimeParts, StoredDescription>(description, text, out)
 }
 
-/// Parses the offset of a text by a stored description, and stores it in `out`. Returns 0, or the error's status and
-/// leaves `out` unchanged.
+/// Parses a whole text by a stored description, and stores its offset in `out`, in seconds ahead of UTC. Any other
+/// component is dropped. Returns 0, or the error's status and leaves `out` unchanged.
 #[unsafe(no_mangle)]
 pub extern "C" fn pelzaune_described_offset(
     description: &StoredDescription,
@@ -73,8 +74,8 @@ pub extern "C" fn pelzaune_described_offset(
     store_value::<UtcOffset, OffsetParts, StoredDescription>(description, text, out)
 }
 
-/// Parses the date and time of a text by a stored description, and stores it in `out`. Returns 0, or the error's status
-/// and leaves `out` unchanged.
+/// Parses a whole text by a stored description, and stores its date and time in `out`. An offset or a Unix timestamp is
+/// dropped, and a second of 60 is rejected. Returns 0, or the error's status and leaves `out` unchanged.
 #[unsafe(no_mangle)]
 pub extern "C" fn pelzaune_described_local(
     description: &StoredDescription,
@@ -87,8 +88,9 @@ pub extern "C" fn pelzaune_described_local(
     store_value::<PlainDateTime, LocalParts, StoredDescription>(description, text, out)
 }
 
-/// Parses the date and time in UTC of a text by a stored description, and stores it in `out`. Returns 0, or the error's
-/// status and leaves `out` unchanged.
+/// Parses a whole text by a stored description, and stores the date and time of its moment in UTC in `out`. A Unix
+/// timestamp gives the moment, and a subsecond replaces its fraction; without a timestamp, a second of 60 is rejected,
+/// and a text without an offset is in UTC. Returns 0, or the error's status and leaves `out` unchanged.
 #[unsafe(no_mangle)]
 pub extern "C" fn pelzaune_described_utc(
     description: &StoredDescription,
@@ -101,8 +103,9 @@ pub extern "C" fn pelzaune_described_utc(
     store_value::<UtcDateTime, LocalParts, StoredDescription>(description, text, out)
 }
 
-/// Parses the date, time and offset of a text by a stored description, and stores it in `out`. Returns 0, or the
-/// error's status and leaves `out` unchanged.
+/// Parses a whole text by a stored description, and stores its date, time and offset in `out`. A Unix timestamp gives
+/// the moment, in UTC, and a subsecond replaces its fraction; without a timestamp, a second of 60 or a missing offset
+/// is rejected. Returns 0, or the error's status and leaves `out` unchanged.
 #[unsafe(no_mangle)]
 pub extern "C" fn pelzaune_described_moment(
     description: &StoredDescription,
@@ -114,8 +117,10 @@ pub extern "C" fn pelzaune_described_moment(
     store_value::<OffsetDateTime, MomentParts, StoredDescription>(description, text, out)
 }
 
-/// Parses the instant of a text's date, time and offset by a stored description, and stores it in `out`. Returns 0, or
-/// the error's status and leaves `out` unchanged.
+/// Parses a whole text by a stored description, and stores the instant of its date, time and offset in `out`, as the
+/// time since 1970-01-01T00:00:00Z. A Unix timestamp gives the moment, in UTC, and a subsecond replaces its fraction;
+/// without a timestamp, a second of 60 or a missing offset is rejected. Returns 0, or the error's status and leaves
+/// `out` unchanged.
 #[unsafe(no_mangle)]
 pub extern "C" fn pelzaune_described_instant(
     description: &StoredDescription,
@@ -127,8 +132,10 @@ pub extern "C" fn pelzaune_described_instant(
     store_value::<OffsetDateTime, Instant, StoredDescription>(description, text, out)
 }
 
-/// Parses the nanoseconds from 1970-01-01T00:00:00Z to the instant of a text, by a stored description, and stores it in
-/// `out`. Returns 0, or the error's status and leaves `out` unchanged.
+/// Parses a whole text by a stored description, and stores the nanoseconds from 1970-01-01T00:00:00Z to its moment in
+/// `out`. A Unix timestamp gives the moment, in UTC, and a subsecond replaces its fraction; without a timestamp, a
+/// second of 60 or a missing offset is rejected. Returns 0; or the error's status, 7 if they don't fit 64 bits, and
+/// leaves `out` unchanged.
 #[unsafe(no_mangle)]
 pub extern "C" fn pelzaune_described_nanoseconds(
     description: &StoredDescription,
@@ -140,8 +147,9 @@ pub extern "C" fn pelzaune_described_nanoseconds(
     count(description, text, out)
 }
 
-/// Parses a text once, by a stored description, into its date, its time and its offset. Each part has a status of its
-/// own. Where the text isn't parsed as a whole, all of `out` is unchanged.
+/// Parses a text once, by a stored description, into its date, its time and its offset. Returns 0 if the whole text is
+/// parsed: then `out` has a status for each part, and a part whose status isn't 0 is unchanged. A second of 60 rejects
+/// the time, and a Unix timestamp is dropped. Otherwise returns the error's status and leaves all of `out` unchanged.
 #[unsafe(no_mangle)]
 pub extern "C" fn pelzaune_described_parts(
     description: &StoredDescription,
@@ -153,7 +161,8 @@ pub extern "C" fn pelzaune_described_parts(
     parts(description, text, out)
 }
 
-/// Parses each line of a text by a stored description, as `pelzaune_column` does by a format.
+/// As `pelzaune_column`, by a stored description, which is prepared once. Each line is parsed as by
+/// `pelzaune_described_nanoseconds`.
 #[unsafe(no_mangle)]
 pub extern "C" fn pelzaune_described_column(
     description: &StoredDescription,
@@ -168,8 +177,10 @@ pub extern "C" fn pelzaune_described_column(
     column_stored(description, text, entries, refused)
 }
 
-/// Writes to `out` where a text fails that the format with this number rejects. Returns the status of what was expected
-/// there, numbered as by a parse. Where the format parses the whole text, returns 0 and leaves `out` unchanged.
+/// Writes to `out` where a text fails to match the format with this number. Returns the status of what was expected
+/// there: 1 for a literal, 2 plus 256 times its number for a component, or 3 for the end of the text. If the whole text
+/// matches, returns 0 and leaves `out` unchanged, also for a date that doesn't exist, such as 30 February. An unknown
+/// format has the status 8, and leaves `out` unchanged.
 #[unsafe(no_mangle)]
 pub extern "C" fn pelzaune_locate(format: u32, text: &[u8], out: &mut Place) -> u32
     ensures { StoresPlace (Formats.format_of format) text.now result out.old out.new }
@@ -177,8 +188,8 @@ pub extern "C" fn pelzaune_locate(format: u32, text: &[u8], out: &mut Place) -> 
     locate_by(format, text, out)
 }
 
-/// As `pelzaune_locate`, by a description in the syntax with this number. A malformed description has the status that
-/// `pelzaune_check_description` returns, and leaves `out` unchanged.
+/// As `pelzaune_locate`, by a description in the syntax with this number. For a malformed description or an unknown
+/// syntax, returns the status that `pelzaune_check_description` returns, and leaves `out` unchanged.
 #[unsafe(no_mangle)]
 pub extern "C" fn pelzaune_read_locate(
     syntax: u32,
@@ -191,14 +202,16 @@ pub extern "C" fn pelzaune_read_locate(
     locate_read(syntax, description, text, out)
 }
 
-/// Parses each line of a text by the format with this number, and stores the nanoseconds from 1970-01-01T00:00:00Z to
-/// its instant in the entry at the line's index. Returns how many lines the text has, which may be more than there are
-/// entries.
+/// Parses the first lines of a text by the format with this number, as many as there are entries, and stores in the
+/// entry at a line's index the nanoseconds from 1970-01-01T00:00:00Z to its instant. Returns how many lines the text
+/// has, which may be more.
 ///
-/// The entry of a rejected line becomes `i64::MIN`, and `refused` the number of those entries. An entry without a line
-/// is unchanged.
+/// The entry of a rejected line becomes `i64::MIN`, which is also that of the earliest instant that fits; `refused`
+/// becomes the number of rejected lines that have an entry. A line is also rejected if its instant doesn't fit 64 bits,
+/// and each line if no format has this number. An entry without a line is unchanged.
 ///
-/// A line ends with LF, which is optional after the last one, and is parsed as by `pelzaune_parse_nanoseconds`.
+/// A line ends with LF, which is optional after the last one. Without its LF, it is parsed as by
+/// `pelzaune_parse_nanoseconds`; a CR before the LF belongs to the line.
 #[unsafe(no_mangle)]
 pub extern "C" fn pelzaune_column(
     format: u32,
@@ -213,8 +226,8 @@ pub extern "C" fn pelzaune_column(
     column_by(format, text, entries, refused)
 }
 
-/// As `pelzaune_column`, by a description in the syntax with this number, which is parsed once. A malformed description
-/// or an unknown syntax rejects each line.
+/// As `pelzaune_column`, by a description in the syntax with this number, which is parsed once. Each line is parsed as
+/// by `pelzaune_read_nanoseconds`. A malformed description or an unknown syntax rejects each line.
 #[unsafe(no_mangle)]
 pub extern "C" fn pelzaune_read_column(
     syntax: u32,

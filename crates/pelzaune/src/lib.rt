@@ -1,7 +1,13 @@
-//! Parses date-time texts for callers in C: `include/pelzaune.h` declares these functions.
+//! Parses date-time texts, and formats moments, for callers in C: `include/pelzaune.h` declares these functions.
 //!
-//! A reference is a pointer in C, and a slice is a pointer and a length. Each call that parses takes the number of a
-//! format. It returns the status 0 after writing the value, or else the status of the error.
+//! A reference is a pointer in C, and a slice is a pointer and a length. A call that parses a text does so by a format
+//! with a number, or by a description. It returns the status 0 after writing the value, or else the status of the
+//! error; a call for a column of lines returns their number.
+//!
+//! The formats are 1 for RFC 3339, 2 for RFC 2822, 3 for ISO 8601, and 4 for RFC 3339 with only `T`, `t` or a space
+//! between the date and the time. The syntaxes of descriptions are 1 and 2 for those versions of the syntax in
+//! brackets, and 3 for strftime. The status of an error is the number of its kind, 1 to 18, plus 256 times the number
+//! of the component that it names (0 for none).
 #![tactic(auto)]
 
 ghost use Rattle.std.specs.Prelude.{◌≡◌, length};
@@ -31,8 +37,9 @@ pub extern "C" fn pelzaune_version() -> u32
     0x0100
 }
 
-/// Writes the text of a status over the start of the buffer, truncated to the buffer's length. Returns the length of
-/// the whole text, which is 0 for a status that no call returns.
+/// Writes the text of a status over the start of the buffer, truncated to the buffer's length. The rest of the buffer
+/// is unchanged. Returns the length of the whole text, which is 0 for a status whose remainder by 256, its kind, is 0
+/// or above 18.
 #[unsafe(no_mangle)]
 pub extern "C" fn pelzaune_write_text(status: u32, buffer: &mut [u8]) -> usize
     ensures length { result ≡ length (status_text status) }
@@ -43,8 +50,8 @@ pub extern "C" fn pelzaune_write_text(status: u32, buffer: &mut [u8]) -> usize
     pieces[0].len() + pieces[1].len() + pieces[2].len()
 }
 
-/// Parses the date of a text by the format with this number, and stores it in `out`. Returns 0, or the error's status
-/// and leaves `out` unchanged.
+/// Parses a whole text by the format with this number, and stores its date in `out`. A time and an offset are dropped.
+/// Returns 0; or the error's status, 8 for an unknown format, and leaves `out` unchanged.
 #[unsafe(no_mangle)]
 pub extern "C" fn pelzaune_parse_date(format: u32, text: &[u8], out: &mut DateParts) -> u32
     ensures { StoresValue HasDate (over_empty (IsDated greatest_year)) (format_of format) text.now
@@ -53,8 +60,9 @@ pub extern "C" fn pelzaune_parse_date(format: u32, text: &[u8], out: &mut DatePa
     store_value_by::<Date, DateParts>(format, text, out)
 }
 
-/// Parses the time of a text by the format with this number, and stores it in `out`. Returns 0, or the error's status
-/// and leaves `out` unchanged.
+/// Parses a whole text by the format with this number, and stores its time in `out`. A date and an offset are dropped,
+/// and a second of 60 is rejected. Returns 0; or the error's status, 8 for an unknown format, and leaves `out`
+/// unchanged.
 #[unsafe(no_mangle)]
 pub extern "C" fn pelzaune_parse_time(format: u32, text: &[u8], out: &mut TimeParts) -> u32
     ensures { StoresValue HasTime (over_empty IsTimed) (format_of format) text.now result out.old out.new }
@@ -62,8 +70,8 @@ pub extern "C" fn pelzaune_parse_time(format: u32, text: &[u8], out: &mut TimePa
     store_value_by::<Time, TimeParts>(format, text, out)
 }
 
-/// Parses the offset of a text by the format with this number, and stores it in `out`. Returns 0, or the error's status
-/// and leaves `out` unchanged.
+/// Parses a whole text by the format with this number, and stores its offset in `out`, in seconds ahead of UTC. A date
+/// and a time are dropped. Returns 0; or the error's status, 8 for an unknown format, and leaves `out` unchanged.
 #[unsafe(no_mangle)]
 pub extern "C" fn pelzaune_parse_offset(format: u32, text: &[u8], out: &mut OffsetParts) -> u32
     ensures { StoresValue HasOffset (over_empty IsOffset) (format_of format) text.now result out.old out.new }
@@ -71,8 +79,8 @@ pub extern "C" fn pelzaune_parse_offset(format: u32, text: &[u8], out: &mut Offs
     store_value_by::<UtcOffset, OffsetParts>(format, text, out)
 }
 
-/// Parses the date and time of a text by the format with this number, drops an offset, and stores them in `out`.
-/// Returns 0, or the error's status and leaves `out` unchanged.
+/// Parses a whole text by the format with this number, and stores its date and time in `out`. An offset is dropped, and
+/// a second of 60 is rejected. Returns 0; or the error's status, 8 for an unknown format, and leaves `out` unchanged.
 #[unsafe(no_mangle)]
 pub extern "C" fn pelzaune_parse_local(format: u32, text: &[u8], out: &mut LocalParts) -> u32
     ensures { StoresValue HasPlain (over_empty (IsPlain greatest_year)) (format_of format) text.now
@@ -81,8 +89,9 @@ pub extern "C" fn pelzaune_parse_local(format: u32, text: &[u8], out: &mut Local
     local_by(format, text, out)
 }
 
-/// Parses the date and time in UTC of a text by the format with this number, and stores it in `out`. Returns 0, or the
-/// error's status and leaves `out` unchanged.
+/// Parses a whole text by the format with this number, and stores the date and time of its moment in UTC in `out`. A
+/// text without an offset is in UTC. A leap second is valid only at the end of a month in UTC, and becomes the last
+/// nanosecond before it. Returns 0; or the error's status, 8 for an unknown format, and leaves `out` unchanged.
 #[unsafe(no_mangle)]
 pub extern "C" fn pelzaune_parse_utc(format: u32, text: &[u8], out: &mut LocalParts) -> u32
     ensures { StoresValue HasUtc (over_empty (IsUtcMoment greatest_year)) (format_of format) text.now
@@ -91,8 +100,9 @@ pub extern "C" fn pelzaune_parse_utc(format: u32, text: &[u8], out: &mut LocalPa
     store_value_by::<UtcDateTime, LocalParts>(format, text, out)
 }
 
-/// Parses the date, time and offset of a text by the format with this number, and stores it in `out`. Returns 0, or the
-/// error's status and leaves `out` unchanged.
+/// Parses a whole text by the format with this number, and stores its date, time and offset in `out`. A text without an
+/// offset is rejected. A leap second is valid only at the end of a month in UTC, and becomes the last nanosecond before
+/// it. Returns 0; or the error's status, 8 for an unknown format, and leaves `out` unchanged.
 #[unsafe(no_mangle)]
 pub extern "C" fn pelzaune_parse_moment(format: u32, text: &[u8], out: &mut MomentParts) -> u32
     ensures { StoresValue HasMoment of_moment (format_of format) text.now result out.old out.new }
@@ -100,8 +110,10 @@ pub extern "C" fn pelzaune_parse_moment(format: u32, text: &[u8], out: &mut Mome
     moment_by::<MomentParts>(format, text, out)
 }
 
-/// Parses the instant of a text's date, time and offset by the format with this number, and stores it in `out`. Returns
-/// 0, or the error's status and leaves `out` unchanged.
+/// Parses a whole text by the format with this number, and stores the instant of its date, time and offset in `out`, as
+/// the time since 1970-01-01T00:00:00Z. A text without an offset is rejected. A leap second is valid only at the end of
+/// a month in UTC, and becomes the last nanosecond before it. Returns 0; or the error's status, 8 for an unknown
+/// format, and leaves `out` unchanged.
 #[unsafe(no_mangle)]
 pub extern "C" fn pelzaune_parse_instant(format: u32, text: &[u8], out: &mut Instant) -> u32
     ensures { StoresValue HasInstant of_moment (format_of format) text.now result out.old out.new }
@@ -109,8 +121,10 @@ pub extern "C" fn pelzaune_parse_instant(format: u32, text: &[u8], out: &mut Ins
     moment_by::<Instant>(format, text, out)
 }
 
-/// Parses the nanoseconds from 1970-01-01T00:00:00Z to the instant of a text's date, time and offset, by the format
-/// with this number. An instant that doesn't fit 64 bits has a status of its own. On an error `out` is unchanged.
+/// Parses a whole text by the format with this number, and stores the nanoseconds from 1970-01-01T00:00:00Z to its
+/// moment in `out`. A text without an offset is rejected. A leap second is valid only at the end of a month in UTC, and
+/// becomes the last nanosecond before it. Returns 0; or the error's status, 7 if they don't fit 64 bits, 8 for an
+/// unknown format, and leaves `out` unchanged.
 #[unsafe(no_mangle)]
 pub extern "C" fn pelzaune_parse_nanoseconds(format: u32, text: &[u8], out: &mut Nanoseconds) -> u32
     ensures { StoresCount (format_of format) text.now result out.old out.new }
@@ -118,8 +132,9 @@ pub extern "C" fn pelzaune_parse_nanoseconds(format: u32, text: &[u8], out: &mut
     count_by(format, text, out)
 }
 
-/// Parses a text once, by the format with this number, into its date, its time and its offset. Each part has a status
-/// of its own, and is unchanged where that isn't 0. Where the text isn't parsed as a whole, all of `out` is unchanged.
+/// Parses a text once, by the format with this number, into its date, its time and its offset. Returns 0 if the whole
+/// text is parsed: then `out` has a status for each part, and a part whose status isn't 0 is unchanged. A second of 60
+/// rejects the time. Otherwise returns the error's status, 8 for an unknown format, and leaves all of `out` unchanged.
 #[unsafe(no_mangle)]
 pub extern "C" fn pelzaune_parse_parts(format: u32, text: &[u8], out: &mut Parts) -> u32
     ensures { StoresParts (format_of format) text.now result out.old out.new }
@@ -128,10 +143,10 @@ pub extern "C" fn pelzaune_parse_parts(format: u32, text: &[u8], out: &mut Parts
 }
 
 /// Writes the text of a moment, in the format with this number, over the start of the buffer, truncated to the buffer's
-/// length. Stores the length of the whole text in `count`.
+/// length. The rest of the buffer is unchanged. Stores the length of the whole text in `count`.
 ///
-/// On an error both are unchanged: a part is out of range, the format can't write the moment, or no format has this
-/// number.
+/// Returns 0, or the status of the error and leaves `buffer` and `count` unchanged: that of a part that is out of range
+/// or that the format can't write, or 8 for an unknown format.
 #[unsafe(no_mangle)]
 pub extern "C" fn pelzaune_format_moment(
     format: u32,
@@ -144,8 +159,9 @@ pub extern "C" fn pelzaune_format_moment(
     format_moment(format, moment, buffer, count)
 }
 
-/// Checks a description in the syntax with this number. Returns 0, or the status of its first fault and stores that
-/// fault's index in `index`, if it has one.
+/// Checks a description in the syntax with this number. Returns 0; or the status of its first fault, and stores that
+/// fault's byte index in `index`. With the status 0, 16 for more than 64 steps, or 17 for an unknown syntax, `index` is
+/// unchanged.
 #[unsafe(no_mangle)]
 pub extern "C" fn pelzaune_check_description(
     syntax: u32,
@@ -157,8 +173,9 @@ pub extern "C" fn pelzaune_check_description(
     check(syntax, description, index)
 }
 
-/// Parses the date of a text by a description in the syntax with this number, and stores it in `out`. Returns 0, or the
-/// error's status and leaves `out` unchanged.
+/// Parses a whole text by a description in the syntax with this number, and stores its date in `out`. Any other
+/// component is dropped. Returns 0; or the status of the text's or the description's error, 17 for an unknown syntax,
+/// and leaves `out` unchanged.
 #[unsafe(no_mangle)]
 pub extern "C" fn pelzaune_read_date(
     syntax: u32,
@@ -172,8 +189,9 @@ pub extern "C" fn pelzaune_read_date(
     store_value_read::<Date, DateParts>(syntax, description, text, out)
 }
 
-/// Parses the time of a text by a description in the syntax with this number, and stores it in `out`. Returns 0, or the
-/// error's status and leaves `out` unchanged.
+/// Parses a whole text by a description in the syntax with this number, and stores its time in `out`. Any other
+/// component is dropped, and a second of 60 is rejected. Returns 0; or the status of the text's or the description's
+/// error, 17 for an unknown syntax, and leaves `out` unchanged.
 #[unsafe(no_mangle)]
 pub extern "C" fn pelzaune_read_time(
     syntax: u32,
@@ -187,8 +205,9 @@ pub extern "C" fn pelzaune_read_time(
     store_value_read::<Time, TimeParts>(syntax, description, text, out)
 }
 
-/// Parses the offset of a text by a description in the syntax with this number, and stores it in `out`. Returns 0, or
-/// the error's status and leaves `out` unchanged.
+/// Parses a whole text by a description in the syntax with this number, and stores its offset in `out`, in seconds
+/// ahead of UTC. Any other component is dropped. Returns 0; or the status of the text's or the description's error, 17
+/// for an unknown syntax, and leaves `out` unchanged.
 #[unsafe(no_mangle)]
 pub extern "C" fn pelzaune_read_offset(
     syntax: u32,
@@ -202,8 +221,9 @@ pub extern "C" fn pelzaune_read_offset(
     store_value_read::<UtcOffset, OffsetParts>(syntax, description, text, out)
 }
 
-/// Parses the date and time of a text by a description in the syntax with this number, and stores it in `out`. Returns
-/// 0, or the error's status and leaves `out` unchanged.
+/// Parses a whole text by a description in the syntax with this number, and stores its date and time in `out`. An
+/// offset or a Unix timestamp is dropped, and a second of 60 is rejected. Returns 0; or the status of the text's or the
+/// description's error, 17 for an unknown syntax, and leaves `out` unchanged.
 #[unsafe(no_mangle)]
 pub extern "C" fn pelzaune_read_local(
     syntax: u32,
@@ -217,8 +237,10 @@ pub extern "C" fn pelzaune_read_local(
     store_value_read::<PlainDateTime, LocalParts>(syntax, description, text, out)
 }
 
-/// Parses the date and time in UTC of a text by a description in the syntax with this number, and stores it in `out`.
-/// Returns 0, or the error's status and leaves `out` unchanged.
+/// Parses a whole text by a description in the syntax with this number, and stores the date and time of its moment in
+/// UTC in `out`. A Unix timestamp gives the moment, and a subsecond replaces its fraction; without a timestamp, a
+/// second of 60 is rejected, and a text without an offset is in UTC. Returns 0; or the status of the text's or the
+/// description's error, 17 for an unknown syntax, and leaves `out` unchanged.
 #[unsafe(no_mangle)]
 pub extern "C" fn pelzaune_read_utc(
     syntax: u32,
@@ -232,8 +254,10 @@ pub extern "C" fn pelzaune_read_utc(
     store_value_read::<UtcDateTime, LocalParts>(syntax, description, text, out)
 }
 
-/// Parses the date, time and offset of a text by a description in the syntax with this number, and stores it in `out`.
-/// Returns 0, or the error's status and leaves `out` unchanged.
+/// Parses a whole text by a description in the syntax with this number, and stores its date, time and offset in `out`.
+/// A Unix timestamp gives the moment, in UTC, and a subsecond replaces its fraction; without a timestamp, a second of
+/// 60 or a missing offset is rejected. Returns 0; or the status of the text's or the description's error, 17 for an
+/// unknown syntax, and leaves `out` unchanged.
 #[unsafe(no_mangle)]
 pub extern "C" fn pelzaune_read_moment(
     syntax: u32,
@@ -247,8 +271,10 @@ pub extern "C" fn pelzaune_read_moment(
     store_value_read::<OffsetDateTime, MomentParts>(syntax, description, text, out)
 }
 
-/// Parses the instant of a text's date, time and offset by a description in the syntax with this number, and stores it
-/// in `out`. Returns 0, or the error's status and leaves `out` unchanged.
+/// Parses a whole text by a description in the syntax with this number, and stores the instant of its date, time and
+/// offset in `out`, as the time since 1970-01-01T00:00:00Z. A Unix timestamp gives the moment, in UTC, and a subsecond
+/// replaces its fraction; without a timestamp, a second of 60 or a missing offset is rejected. Returns 0; or the status
+/// of the text's or the description's error, 17 for an unknown syntax, and leaves `out` unchanged.
 #[unsafe(no_mangle)]
 pub extern "C" fn pelzaune_read_instant(
     syntax: u32,
@@ -262,8 +288,11 @@ pub extern "C" fn pelzaune_read_instant(
     store_value_read::<OffsetDateTime, Instant>(syntax, description, text, out)
 }
 
-/// Parses the nanoseconds from 1970-01-01T00:00:00Z to the instant of a text, by a description in the syntax with this
-/// number, and stores it in `out`. Returns 0, or the error's status and leaves `out` unchanged.
+/// Parses a whole text by a description in the syntax with this number, and stores the nanoseconds from
+/// 1970-01-01T00:00:00Z to its moment in `out`. A Unix timestamp gives the moment, in UTC, and a subsecond replaces its
+/// fraction; without a timestamp, a second of 60 or a missing offset is rejected. Returns 0; or the status of the
+/// text's or the description's error, 7 if they don't fit 64 bits, 17 for an unknown syntax, and leaves `out`
+/// unchanged.
 #[unsafe(no_mangle)]
 pub extern "C" fn pelzaune_read_nanoseconds(
     syntax: u32,
@@ -277,8 +306,10 @@ pub extern "C" fn pelzaune_read_nanoseconds(
     count_read(syntax, description, text, out)
 }
 
-/// Parses a text once, by a description in the syntax with this number, into its date, its time and its offset. Each
-/// part has a status of its own. Where the text isn't parsed as a whole, all of `out` is unchanged.
+/// Parses a text once, by a description in the syntax with this number, into its date, its time and its offset. Returns
+/// 0 if the whole text is parsed: then `out` has a status for each part, and a part whose status isn't 0 is unchanged.
+/// A second of 60 rejects the time, and a Unix timestamp is dropped. Otherwise returns the status of the text's or the
+/// description's error, 17 for an unknown syntax, and leaves all of `out` unchanged.
 #[unsafe(no_mangle)]
 pub extern "C" fn pelzaune_read_parts(
     syntax: u32,

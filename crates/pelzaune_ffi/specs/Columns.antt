@@ -6,15 +6,16 @@ use Rattle.pelzaune_ffi.specs.Described.{StoresByTree}
 use Rattle.pelzaune_ffi.specs.Results.{IsCountStored, of_moment}
 use Rattle.pelzaune_ffi.specs.declared.parts.Nanoseconds.{Nanoseconds}
 
--- How a line is stored: the status of its parse, and the entry before and after it.
+-- A relation of a line, the status of its parse, and its entry before and after the line is stored.
 abbrev pub Counting : Type 1
 Counting = List ℕ → ℕ → Nanoseconds → Nanoseconds → Type 0
 
--- Parsed by the description with this tree.
+-- The line is parsed by the description with this tree, and the nanoseconds of its moment are stored in the entry; or
+-- the status is the error's, and the entry is unchanged.
 abbrev pub by_tree : Tree → Counting
 by_tree tree line status old new = StoresByTree IsCountStored of_moment (Ok tree) line status old new
 
--- Rejected with this status, whatever the line.
+-- Any line is rejected with this status, and the entry is unchanged.
 abbrev pub rejecting : ℕ → Counting
 rejecting reason line status old new = (status ≡ reason) × (new ≡ old)
 
@@ -22,12 +23,12 @@ rejecting reason line status old new = (status ≡ reason) × (new ≡ old)
 abbrev pub no_count : Nanoseconds
 no_count = record { count = neg_ℤ (pos 9_223_372_036_854_775_808) }
 
--- 1 for the status of an error, else 0.
+-- 0 for the status 0, and 1 for any other, which is an error's.
 abbrev pub one_if_refused : ℕ → ℕ
 one_if_refused status = if nat_eq status 0 then 0 else 1
 
--- Each line that has an entry is stored in it, over `no_count`. `refused` is the number of those lines that are
--- rejected. An entry without a line is unchanged.
+-- The entry at a line's index is what `stores` makes of `no_count` for the line, for as many lines as there are
+-- entries. `refused` is the number of those lines that are rejected. An entry without a line is unchanged.
 abbrev pub IsColumn : Counting → List (List ℕ) → List Nanoseconds → List Nanoseconds → ℕ → Type 0
 IsColumn stores [] old new refused = (new ≡ old) × (refused ≡ 0)
 IsColumn stores (line ∷ lines) [] new refused = (new ≡ []) × (refused ≡ 0)
@@ -36,7 +37,7 @@ IsColumn stores (line ∷ lines) (entry ∷ old) new refused =
     × (others : List Nanoseconds) × (later : ℕ) × IsColumn stores lines old others later
     × (new ≡ first ∷ others) × (refused ≡ one_if_refused status + later)
 
--- The line is the first of a text, and the bytes after it have the other lines.
+-- The line is the first of a text, and the bytes `after` it, which are fewer than the text's, have the other lines.
 pub record IsFirstLine (line text after : List ℕ) : Type 0 where
   pub lines : line_texts text ≡ line ∷ line_texts after
   pub shorter : length after < length text

@@ -29,14 +29,15 @@ use Rattle.pelzaune_ffi.specs.declared.descriptions.Syntax.TheVariants as syntax
 use Rattle.pelzaune_ffi.specs.declared.stored.StoredDescription.{StoredDescription}
 use Rattle.pelzaune_ffi.specs.declared.steps.StoredStep.{StoredStep}
 
--- The syntax with this number, if there is one.
+-- The syntax with this number, 1 to 3; None for any other number.
 abbrev pub syntax_of : ℕ → Option Syntax
 syntax_of number =
     if nat_eq number 1 then Some syntax.One else
     if nat_eq number 2 then Some syntax.Two else
     if nat_eq number 3 then Some syntax.Strftime else None
 
--- The tree that a text describes in a syntax, or the error with which it is rejected.
+-- The tree that a text describes in a syntax, with any number of steps; or the error of a rejected text, with room for
+-- `MOST_STEPS` steps.
 abbrev pub IsDescribed : Syntax → List ℕ → Result Tree Refusal → Type 0
 IsDescribed syntax.One text (Ok tree) = Describes version.One text tree
 IsDescribed syntax.One text (Err e) = IsRefused MOST_STEPS version.One text e
@@ -45,7 +46,7 @@ IsDescribed syntax.Two text (Err e) = IsRefused MOST_STEPS version.Two text e
 IsDescribed syntax.Strftime text (Ok tree) = DescribesStrftime text tree
 IsDescribed syntax.Strftime text (Err e) = IsRefusedStrftime MOST_STEPS text e
 
--- The status of a malformed description.
+-- The status of a malformed description, by the kind of its error.
 abbrev pub fault_status : Refusal → ℕ
 fault_status (unclosed index) = 9
 fault_status (component_name name index) = 10
@@ -56,18 +57,20 @@ fault_status (expected_here what index) = 14
 fault_status (not_supported what context index) = 15
 fault_status too_long = 16
 
--- Status 0 for a description; else the status of its first fault, and that fault's index, if it has one.
+-- Status 0 for a description; else the status of its first fault, and the new index is that of the fault. Without a
+-- fault, or for a fault without an index, the index is unchanged.
 abbrev pub IsChecked : Result Tree Refusal → ℕ → ℕ → ℕ → Type 0
 IsChecked (Ok tree) status old new = (status ≡ 0) × (new ≡ old)
 IsChecked (Err e) status old new = (status ≡ fault_status e) × (new ≡ unwrap_or (index_of e) old)
 
--- The description is checked in its syntax. An unknown syntax has a status of its own.
+-- The description is checked in its syntax. An unknown syntax has the status 17, and no index is stored.
 abbrev pub Checks : Option Syntax → List ℕ → ℕ → ℕ → ℕ → Type 0
 Checks (Some s) description status old new =
     (described : Result Tree Refusal) × IsDescribed s description described × IsChecked described status old new
 Checks None description status old new = (status ≡ unknown_syntax) × (new ≡ old)
 
--- The text is parsed by the described tree, and its result stored. A malformed description has its fault's status.
+-- The text is parsed by the described tree, and its result stored. A malformed description has its fault's status, and
+-- nothing is stored.
 abbrev pub StoresByTree : {V S : Type 0} → Storing V S → Outcomes V → Result Tree Refusal → List ℕ → ℕ → S → S
     → Type 0
 StoresByTree storing outcomes (Ok tree) text status old new =
@@ -75,7 +78,8 @@ StoresByTree storing outcomes (Ok tree) text status old new =
     status old new
 StoresByTree storing outcomes (Err e) text status old new = (status ≡ fault_status e) × (new ≡ old)
 
--- The text is parsed by a description in the syntax, and its result stored. An unknown syntax has a status of its own.
+-- The text is parsed by a description in the syntax, and its result stored. An unknown syntax has the status 17, and
+-- nothing is stored.
 abbrev pub StoresByDescription : {V S : Type 0} → Storing V S → Outcomes V → Option Syntax → List ℕ → List ℕ → ℕ → S → S
     → Type 0
 StoresByDescription storing outcomes (Some s) description text status old new =
@@ -85,16 +89,17 @@ StoresByDescription storing outcomes None description text status old new = (sta
 
 -- ---- Stored descriptions: rows of steps, each a few numbers. Any numbers are a valid step.
 
--- The padding with this number. An unknown number is 0, padding with zeros.
+-- The padding with this number: 1 is spaces, 2 is none, and any other number is zeros.
 abbrev pub padding_of : ℕ → Padding
 padding_of number = if nat_eq number 1 then padding.Space else if nat_eq number 2 then padding.None else padding.Zero
 
+-- The number of a padding: 0 is zeros, 1 is spaces and 2 is none.
 abbrev pub padding_number : Padding → ℕ
 padding_number padding.Zero = 0
 padding_number padding.Space = 1
 padding_number padding.None = 2
 
--- The digits with this number. An unknown number is 0, one or more digits.
+-- How many digits a fraction has, by their number: 1 to 9 is exactly that many, and any other number is one or more.
 abbrev pub digits_of : ℕ → SubsecondDigits
 digits_of number =
     if nat_eq number 1 then digits.One else
@@ -107,6 +112,7 @@ digits_of number =
     if nat_eq number 8 then digits.Eight else
     if nat_eq number 9 then digits.Nine else digits.OneOrMore
 
+-- The number for the digits of a fraction: 1 to 9 for exactly that many, and 0 for one or more.
 abbrev pub digits_number : SubsecondDigits → ℕ
 digits_number digits.OneOrMore = 0
 digits_number digits.One = 1
@@ -119,28 +125,29 @@ digits_number digits.Seven = 7
 digits_number digits.Eight = 8
 digits_number digits.Nine = 9
 
--- The treatment of trailing bytes with this number. An unknown number is 0, which prohibits them.
+-- The treatment of trailing bytes with this number: 1 discards them, and any other number prohibits them.
 abbrev pub trailing_of : ℕ → TrailingInput
 trailing_of number = if nat_eq number 1 then trailing.Discard else trailing.Prohibit
 
+-- The number of a treatment of trailing bytes: 0 prohibits them, and 1 discards them.
 abbrev pub trailing_number : TrailingInput → ℕ
 trailing_number trailing.Prohibit = 0
 trailing_number trailing.Discard = 1
 
--- A flag is set by any number but 0.
+-- Whether a flag with this number is set: any number but 0 sets it.
 abbrev pub is_set : ℕ → Bool
 is_set number = if nat_eq number 0 then false else true
 
--- The literal of byte 0, which an unknown kind means.
+-- The literal of byte 0, which a stored step of an unknown kind encodes.
 abbrev pub nothing : Step
 nothing = step.Literal 0
 
--- The component that skips bytes. Skipping none is the literal of byte 0.
+-- The step of a component that skips bytes; for None, the literal of byte 0.
 abbrev pub skipping : Option Ignore → Step
 skipping None = nothing
 skipping (Some i) = step.Component (component.Ignore i)
 
--- The step that a stored step means under each kind, from kind 0.
+-- The steps that a stored step encodes if its kind is 0, 1 and so on, up to 41.
 abbrev pub kinds : StoredStep → List Step
 kinds h =
     step.Literal h.choice
@@ -196,16 +203,16 @@ kinds h =
     ∷ step.Component (component.End (record { trailing_input = trailing_of h.choice }))
     ∷ []
 
--- The row of a kind in a table whose first row has kind `first`.
+-- The row of a kind in a table whose first row has kind `first`; the literal of byte 0 for a kind that isn't in it.
 abbrev pub kind_in : List Step → ℕ → ℕ → Step
 kind_in [] first kind = nothing
 kind_in (row ∷ rows) first kind = if nat_eq kind first then row else kind_in rows (first + 1) kind
 
--- The step that a stored step means.
+-- The step that a stored step encodes. An unknown kind, or skipping 0 bytes, is the literal of byte 0.
 unfoldable pub step_of : StoredStep → Step
 step_of h = kind_in (kinds h) 0 h.kind
 
--- A stored step of this kind, with a choice and a flag.
+-- The stored step with this kind, choice and flag, and 0 in its other fields. A flag that is set is 1.
 abbrev pub chosen : ℕ → ℕ → Bool → StoredStep
 chosen kind choice flag = record { len = 0; count = 0; kind = kind; choice = choice; flag = if flag then 1 else 0 }
 
@@ -213,25 +220,27 @@ chosen kind choice flag = record { len = 0; count = 0; kind = kind; choice = cho
 abbrev pub steps_of : StoredDescription → List Step
 steps_of h = map step_of (take h.count h.steps)
 
--- The tree of a stored description.
+-- The tree that the steps of a stored description encode.
 abbrev pub stored_tree : StoredDescription → Tree
 stored_tree h = steps_shape (steps_of h)
 
--- The stored description has the tree; or the description has more steps than fit.
+-- Status 0, and the stored description has the tree; or status 16, the description has more steps than fit, and nothing
+-- is stored.
 abbrev pub HasTree : Tree → ℕ → StoredDescription → StoredDescription → Type 0
 HasTree tree status old new =
     ((status ≡ 0) × (stored_tree new ≡ tree))
     ⊎ ((status ≡ fault_status too_long) × (new ≡ old)
     × (steps : List Step) × (steps_shape steps ≡ tree) × (MOST_STEPS < length steps))
 
--- Status 0, and the stored description has the tree; else the status of the first fault, and that fault's index, if it
--- has one.
+-- `HasTree` for the tree, and the index is unchanged; or the status of the first fault, and the new index is that of
+-- the fault, or unchanged if the fault has none; the description is unchanged then.
 abbrev pub IsDescriptionStored : Result Tree Refusal → ℕ → StoredDescription → StoredDescription → ℕ → ℕ → Type 0
 IsDescriptionStored (Ok tree) status old new index new_index = HasTree tree status old new × (new_index ≡ index)
 IsDescriptionStored (Err e) status old new index new_index =
     (status ≡ fault_status e) × (new ≡ old) × (new_index ≡ unwrap_or (index_of e) index)
 
--- The description is parsed in its syntax and stored. An unknown syntax has a status of its own.
+-- The description is parsed in its syntax and stored, or its error's status and index are. An unknown syntax has the
+-- status 17, and nothing is stored.
 abbrev pub StoresDescription : Option Syntax → List ℕ → ℕ → StoredDescription → StoredDescription → ℕ → ℕ → Type 0
 StoresDescription (Some s) text status old new index new_index =
     (described : Result Tree Refusal) × IsDescribed s text described
@@ -239,7 +248,7 @@ StoresDescription (Some s) text status old new index new_index =
 StoresDescription None text status old new index new_index =
     (status ≡ unknown_syntax) × (new ≡ old) × (new_index ≡ index)
 
--- The text is parsed by a stored description, and its result stored.
+-- The text is parsed by a stored description, and its result stored: a value with status 0, or the error's status.
 abbrev pub StoresBySteps : {V S : Type 0} → Storing V S → Outcomes V → StoredDescription → List ℕ → ℕ → S → S → Type 0
 StoresBySteps storing outcomes h text status old new =
     StoresByTree storing outcomes (Ok (stored_tree h)) text status old new

@@ -33,23 +33,26 @@ component_names =
     ∷ codes "ignore"
     ∷ []
 
--- The number of a name in a table whose first row has that number, or 0 where the name isn't in it.
+-- The number of a name in a table whose first row has the number `first`, or 0 if the name isn't in it.
 abbrev pub number_in : List (List ℕ) → ℕ → List ℕ → ℕ
 number_in [] first name = 0
 number_in (row ∷ rows) first name = if bytes_eq name row then first else number_in rows (first + 1) name
 
--- The name of a number in such a table, or an empty text where the number isn't in it.
+-- The name of a number in a table whose first row has the number `first`, or an empty text if the number isn't in it.
 abbrev pub name_in : List (List ℕ) → ℕ → ℕ → List ℕ
 name_in [] first number = []
 name_in (row ∷ rows) first number = if nat_eq number first then row else name_in rows (first + 1) number
 
+-- The number of a component's name, 1 to 23; 0 for any other text.
 abbrev pub component_number : List ℕ → ℕ
 component_number name = number_in component_names 1 name
 
+-- The name of the component with this number, 1 to 23; empty for any other number.
 abbrev pub component_name : ℕ → List ℕ
 component_name number = name_in component_names 1 number
 
--- The status of an error: the number of its kind, and 256 times the number of the component that it names.
+-- The status of an error: the number of its kind, 1 to 6, plus 256 times the number of the component that it names (0
+-- for none or an unknown name).
 abbrev pub status_of : Refusal → ℕ
 status_of literal = 1
 status_of (component name) = 2 + 256 * component_number name
@@ -62,15 +65,16 @@ status_of (range name true) = 6 + 256 * component_number name
 abbrev pub too_wide : ℕ
 too_wide = 7
 
--- The status of an unknown format's number.
+-- The status of a call with a number that no format has.
 abbrev pub unknown_format : ℕ
 unknown_format = 8
 
--- The status of an unknown syntax's number.
+-- The status of a call with a number that no syntax has.
 abbrev pub unknown_syntax : ℕ
 unknown_syntax = 17
 
--- The text of a status of this kind that names that component. For a parse error it is the error's text.
+-- The text of a status of this kind that names that component; empty for a kind outside 1 to 18. For the kinds of parse
+-- errors, 1 to 6, it is the error's text.
 abbrev pub kind_text : ℕ → List ℕ → List ℕ
 kind_text kind name =
     if nat_eq kind 1 then refusal_text literal else
@@ -93,7 +97,7 @@ kind_text kind name =
     if nat_eq kind 18 then codes "the '" ++ name ++ codes "' component has no text in that format" else
     []
 
--- The text of a status.
+-- The text of a status: of the kind `status % 256` and the component with the number `status / 256`.
 abbrev pub status_text : ℕ → List ℕ
 status_text status = kind_text (status % 256) (component_name (status / 256))
 
@@ -107,18 +111,18 @@ laid_over text buffer = take (length buffer) text ++ drop (length text) buffer
 
 -- ---- The law of the statuses' texts
 
--- The text of the error's status is the error's text.
+-- The text of the parse error's status is the error's own text.
 abbrev pub HasErrorText : Refusal → Type 0
 HasErrorText e = status_text (status_of e) ≡ refusal_text e
 
--- The status of each error that names one of these components has the error's text.
+-- The status of each parse error that names one of these components has the error's text. True for an empty list.
 abbrev pub EachHasErrorText : List (List ℕ) → Type 0
 EachHasErrorText [] = Unit {0}
 EachHasErrorText (name ∷ names) =
     (HasErrorText (component name) × HasErrorText (range name false) × HasErrorText (range name true))
     × EachHasErrorText names
 
--- The status of each error that names no component, or one of the table, has the error's text.
+-- The status of each parse error that names no component, or one of `component_names`, has the error's text.
 abbrev pub HaveErrorTexts : Type 0
 HaveErrorTexts =
     HasErrorText literal × HasErrorText trailing × HasErrorText insufficient × EachHasErrorText component_names

@@ -18,17 +18,17 @@ use crate::status::UNKNOWN_SYNTAX;
 use crate::stored::{StoredDescription, prepare};
 use time_preparing::Prepared;
 
-// Stores the nanoseconds of a line's moment.
+// Parses a line and stores the nanoseconds from 1970-01-01T00:00:00Z to its moment.
 trait Count {
-    // The status that the call returns, and the entry before and after it.
+    // Relates a line to the status that `count_line` returns, and to the entry before and after the call.
     ghost stores: { Self → Counting };
 
-    // Stores them in `entry` and returns the status.
+    // Stores the line's nanoseconds in `entry` and returns 0; or returns the error's status, and `entry` is unchanged.
     fn count_line(&self, line: &[u8], entry: &mut Nanoseconds) -> u32
         ensures { stores self.now line.now result entry.old entry.new };
 }
 
-// By a format's number.
+// Parses lines by the format with this number. An unknown number rejects each line.
 #[derive(Clone, Copy)]
 struct ByNumber(u32);
 
@@ -41,7 +41,7 @@ impl Count for ByNumber {
     }
 }
 
-// By a prepared description.
+// Parses lines by a prepared description.
 impl Count for Prepared<MOST_STEPS> {
     ghost stores = { λ s. by_tree (steps_shape s) };
 
@@ -64,7 +64,7 @@ impl Count for RejectAll {
     }
 }
 
-// 1 for the status of an error, else 0.
+// 0 for the status 0, and 1 for any other, which is an error's.
 #[inline(always)]
 fn one_if_refused(status: u32) -> usize
     ensures one { result ≡ spec.one_if_refused status }
@@ -73,7 +73,9 @@ fn one_if_refused(status: u32) -> usize
     usize::from(status != 0)
 }
 
-// Stores the nanoseconds of each line that has an entry, and returns how many lines the text has.
+// Parses each line that has an entry by `counting`, and stores its nanoseconds, or `i64::MIN` if the line is rejected.
+// Stores in `refused` how many of these lines are rejected. An entry without a line is unchanged. Returns how many
+// lines the whole text has.
 #[inline(always)]
 fn column<C: Count>(
     counting: &C,
@@ -99,14 +101,16 @@ fn column<C: Count>(
     index + count_lines(rest)
 }
 
-/// Parses each line of a text by the format with this number, and stores the nanoseconds from 1970-01-01T00:00:00Z to
-/// its instant in the entry at the line's index. Returns how many lines the text has, which may be more than there are
-/// entries.
+/// Parses the first lines of a text by the format with this number, as many as there are entries, and stores in the
+/// entry at a line's index the nanoseconds from 1970-01-01T00:00:00Z to its instant. Returns how many lines the text
+/// has, which may be more.
 ///
-/// The entry of a rejected line becomes `i64::MIN`, and `refused` the number of those entries. An entry without a line
-/// is unchanged.
+/// The entry of a rejected line becomes `i64::MIN`, which is also that of the earliest instant that fits; `refused`
+/// becomes the number of rejected lines that have an entry. A line is also rejected if its instant doesn't fit 64 bits,
+/// and each line if no format has this number. An entry without a line is unchanged.
 ///
-/// A line ends with LF, which is optional after the last one, and is parsed as by [`count_by`].
+/// A line ends with LF, which is optional after the last one. Without its LF, it is parsed as by [`count_by`]; a CR
+/// before the LF belongs to the line.
 #[inline(always)]
 pub fn column_by(
     format: u32,
@@ -121,7 +125,8 @@ pub fn column_by(
     column(&ByNumber(format), text, entries, refused)
 }
 
-// As [`column_by`], by a description that is parsed once.
+// As [`column_by`], by a description that is parsed once. Each line is parsed as by [`count`]. A malformed description
+// rejects each line.
 fn described_column(
     syntax: Syntax,
     description: &[u8],
@@ -139,8 +144,8 @@ fn described_column(
     }
 }
 
-/// As [`column_by`], by a description in the syntax with this number, which is parsed once. A malformed description or
-/// an unknown syntax rejects each line.
+/// As [`column_by`], by a description in the syntax with this number, which is parsed once. Each line is parsed as by
+/// [`count_read`](crate::results::count_read). A malformed description or an unknown syntax rejects each line.
 #[inline(always)]
 pub fn column_read(
     syntax: u32,
@@ -159,7 +164,7 @@ pub fn column_read(
     }
 }
 
-/// As [`column_by`], by a stored description, which is prepared once.
+/// As [`column_by`], by a stored description, which is prepared once. Each line is parsed as by [`count`].
 #[inline(always)]
 pub fn column_stored(
     description: &StoredDescription,

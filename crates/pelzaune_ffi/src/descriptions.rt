@@ -23,7 +23,7 @@ pub enum Syntax {
     Strftime,
 }
 
-/// The syntax with this number, or `None`.
+/// The syntax with this number: 1 is `One`, 2 is `Two` and 3 is `Strftime`. `None`: any other number.
 pub fn syntax_of(number: u32) -> Option<Syntax>
     ensures { result ≡ Described.syntax_of number }
 {
@@ -35,7 +35,8 @@ pub fn syntax_of(number: u32) -> Option<Syntax>
     }
 }
 
-/// Parses a description in a syntax.
+/// Parses the text of a description in a syntax, or returns the error of its first fault. The error is `TooLong` if
+/// more than [`MOST_STEPS`] steps start before that fault or the end.
 pub fn read_description(
     syntax: Syntax,
     text: &[u8],
@@ -50,7 +51,7 @@ pub fn read_description(
     }
 }
 
-/// The status of a malformed description.
+/// The status of a malformed description: 9 to 16, by the kind of its error.
 #[cold]
 pub fn fault_status(error: InvalidFormatDescription<'_>) -> u32
     ensures { result ≡ Described.fault_status (refusal_of error.entry) }
@@ -67,8 +68,9 @@ pub fn fault_status(error: InvalidFormatDescription<'_>) -> u32
     }
 }
 
-/// Checks a description in the syntax with this number. Returns 0, or the status of its first fault and stores that
-/// fault's index, if it has one.
+/// Checks a description in the syntax with this number. Returns 0; or the status of its first fault, and stores that
+/// fault's byte index in `index`. With the status 0, [`TOO_LONG`], or [`UNKNOWN_SYNTAX`] for an unknown syntax, `index`
+/// is unchanged.
 pub fn check(syntax: u32, description: &[u8], index: &mut usize) -> u32
     ensures { Checks (Described.syntax_of syntax) description.now result index.old index.new }
 {

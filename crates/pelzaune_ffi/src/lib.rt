@@ -1,10 +1,11 @@
-//! Returns the results of parses to C: plain structs, and the numbers of statuses.
+//! Parses texts and formats moments for C, which gets plain structs and the numbers of statuses.
 //!
 //! The crate `pelzaune` exports these functions. A caller in Rattle gets from them what C gets.
 #![tactic(auto)]
 
-// Evaluates the expression with the description that a text has in the syntax with this number, or returns the status
-// of its fault.
+// Evaluates `$made`, in which `$description` is the description that `$text` has in the syntax with the number
+// `$syntax`. For a malformed description the value is its fault's status instead; for an unknown syntax,
+// `UNKNOWN_SYNTAX`.
 macro_rules! by_description {
     ($syntax:ident, $text:ident, $description:ident => $made:expr) => {
         match syntax_of($syntax) {

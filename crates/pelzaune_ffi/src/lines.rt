@@ -6,7 +6,8 @@ ghost use Rattle.pelzaune_ffi.specs.Columns.{IsFirstLine};
 use memchr::memchr;
 use std::simd::prelude::*;
 
-// The index of the first LF among the 32 bytes from an index on, all tested at once.
+// The index in the text of the first LF among the 32 bytes from `from` on, which are tested at once. `None`: none of
+// them is LF.
 #[inline(always)]
 fn lf_among(text: &[u8], from: usize) -> Option<usize>
     requires { from + 32 ≤ length text.now }
@@ -23,14 +24,14 @@ fn lf_among(text: &[u8], from: usize) -> Option<usize>
     Some(from + ends.trailing_zeros() as usize)
 }
 
-// The index of the LF that ends the first line of a text. `None`: the whole text is one line.
+// The index of the LF that ends the first line of a text. `None`: the text has no LF, so it is one line.
 #[inline(always)]
 fn line_end(text: &[u8]) -> Option<usize>
     requires { 0 < length text.now }
     ensures { MatchOption result (line_texts text.now ≡ text.now ∷ [])
         (λ i. (i < length text.now) × (line_texts text.now ≡ take i text.now ∷ line_texts (drop (i + 1) text.now))) }
 {
-    // A call for a line of up to 63 bytes would cost more than the two tests.
+    // If the line has up to 63 bytes, a call of `memchr` would cost more than these two tests.
     if text.len() >= 64 {
         if let Some(end) = lf_among(text, 0) {
             return Some(end);
@@ -42,7 +43,7 @@ fn line_end(text: &[u8]) -> Option<usize>
     memchr(b'\n', text)
 }
 
-/// The first line of a non-empty text, and the bytes after its LF.
+/// The first line of a non-empty text, without its LF, and the bytes after that LF: none if the text has no LF.
 #[inline]
 pub fn first_line(bytes: &[u8]) -> (&[u8], &[u8])
     requires { 0 < length bytes.now }
@@ -54,7 +55,7 @@ pub fn first_line(bytes: &[u8]) -> (&[u8], &[u8])
     }
 }
 
-/// How many lines a text has.
+/// How many lines a text has. A line ends with LF, which is optional after the last one; an empty text has none.
 pub fn count_lines(text: &[u8]) -> usize
     ensures count { result ≡ length (line_texts text.now) }
     ensures bound { result ≤ length text.now }

@@ -14,13 +14,14 @@ use time_values::error::ParseFromDescription;
 #[repr(C)]
 #[derive(Clone, Copy)]
 pub struct Place {
-    /// The index in the text of the part that was expected, or the text's length where the text is too short.
+    /// The byte index at which the text fails: the start of the expected component, even of a truncated one, the first
+    /// byte that doesn't match a literal, or the first byte too many. It is the text's length if the text ends there.
     pub index: usize,
-    /// The first byte of the literal that was expected there, or 0 where none was.
+    /// The byte of a literal that was expected there, or 0 where a component or the end was expected.
     pub byte: u8,
 }
 
-// The first of these bytes, or 0.
+// The first of these bytes, or 0 if there are none.
 fn first_of(bytes: &[u8]) -> u8
     ensures { result ≡ first_of bytes.now }
 {
@@ -30,7 +31,8 @@ fn first_of(bytes: &[u8]) -> u8
     }
 }
 
-// Stores a location, and returns the status of what was expected there, or 0.
+// Stores a location in `out`. Returns the status of what was expected there: 1 for a literal, 2 plus 256 times its
+// number for a component, or 3 for the end. For `None` returns 0, and `out` is unchanged.
 fn store_place(answer: Option<Located<'_>>, out: &mut Place) -> u32
     ensures { IsPlaceStored answer.entry result out.old out.new }
 {
@@ -49,15 +51,18 @@ fn store_place(answer: Option<Located<'_>>, out: &mut Place) -> u32
     status_of_description(refusal)
 }
 
-// Locates the error of a text that the format rejects.
+// Stores where a text fails to match the format. Returns the status of what was expected there; 0 if it matches, and
+// then `out` is unchanged.
 fn locate<F: Locate>(format: &F, text: &[u8], out: &mut Place) -> u32
     ensures { LocatesBy (F.reads format.now) (F.locates format.now) text.now result out.old out.new }
 {
     store_place(format.locate(text, None), out)
 }
 
-/// Writes to `out` where a text fails that the format with this number rejects. Returns the status of what was expected
-/// there, numbered as by a parse. Where the format parses the whole text, returns 0 and leaves `out` unchanged.
+/// Writes to `out` where a text fails to match the format with this number. Returns the status of what was expected
+/// there: 1 for a literal, 2 plus 256 times its number for a component, or 3 for the end of the text. If the whole text
+/// matches, returns 0 and leaves `out` unchanged, also for a date that doesn't exist, such as 30 February. An unknown
+/// format has the status 8, and leaves `out` unchanged.
 #[inline(always)]
 pub fn locate_by(format: u32, text: &[u8], out: &mut Place) -> u32
     ensures { StoresPlace (Formats.format_of format) text.now result out.old out.new }
@@ -71,8 +76,8 @@ pub fn locate_by(format: u32, text: &[u8], out: &mut Place) -> u32
     }
 }
 
-/// As [`locate_by`], by a description in the syntax with this number. A malformed description has the status that
-/// [`check`](crate::descriptions::check) returns, and leaves `out` unchanged.
+/// As [`locate_by`], by a description in the syntax with this number. For a malformed description or an unknown syntax,
+/// returns the status that [`check`](crate::descriptions::check) returns, and leaves `out` unchanged.
 #[inline(always)]
 pub fn locate_read(syntax: u32, description: &[u8], text: &[u8], out: &mut Place) -> u32
     ensures { StoresPlaceByDescription (Described.syntax_of syntax) description.now text.now result out.old out.new }

@@ -17,7 +17,8 @@ use crate::status::{Format, UNKNOWN_FORMAT, format_of};
 use time_parsing::{Iso8601, Parsable, Rfc2822, Rfc3339, Rfc3339Strict, Target, strict_text};
 use time_values::{OffsetDateTime, PlainDateTime};
 
-// Stores the parts of a moment of RFC 3339.
+// Parses a text by RFC 3339, and stores its moment in `out` as a `P`. Returns 0, or the error's status and leaves `out`
+// unchanged.
 #[inline(never)]
 fn moment_3339<P: From<OffsetDateTime> + Copy>(text: &[u8], out: &mut P) -> u32
     ensures { StoresValue P.from_gives of_moment (Some rfc3339) text.now result out.old out.new }
@@ -31,7 +32,8 @@ fn moment_3339<P: From<OffsetDateTime> + Copy>(text: &[u8], out: &mut P) -> u32
     }
 }
 
-// Stores the parts of a mail date's moment.
+// Parses a mail date of RFC 2822, and stores its moment in `out` as a `P`. Returns 0, or the error's status and leaves
+// `out` unchanged.
 #[inline(never)]
 fn moment_2822<P: From<OffsetDateTime> + Copy>(text: &[u8], out: &mut P) -> u32
     ensures { StoresValue P.from_gives of_moment (Some rfc2822) text.now result out.old out.new }
@@ -45,7 +47,8 @@ fn moment_2822<P: From<OffsetDateTime> + Copy>(text: &[u8], out: &mut P) -> u32
     }
 }
 
-// Stores the parts of a moment of ISO 8601.
+// Parses a text by ISO 8601, and stores its moment in `out` as a `P`. Returns 0, or the error's status and leaves `out`
+// unchanged.
 #[inline(never)]
 fn moment_8601<P: From<OffsetDateTime> + Copy>(text: &[u8], out: &mut P) -> u32
     ensures { StoresValue P.from_gives of_moment (Some iso8601) text.now result out.old out.new }
@@ -59,7 +62,7 @@ fn moment_8601<P: From<OffsetDateTime> + Copy>(text: &[u8], out: &mut P) -> u32
     }
 }
 
-// As [`store_value`], in a function of its own.
+// [`store_value`], not inlined.
 #[inline(never)]
 fn parsed<V: Target, P: From<V> + Copy, F: Parsable>(format: &F, text: &[u8], out: &mut P) -> u32
     ensures { IsResultStored (IsStored P.from_gives)
@@ -68,8 +71,9 @@ fn parsed<V: Target, P: From<V> + Copy, F: Parsable>(format: &F, text: &[u8], ou
     store_value::<V, P, F>(format, text, out)
 }
 
-/// Parses a text by the format with this number and stores the parts of its moment. Returns 0, or the error's status
-/// and leaves `out` unchanged.
+/// Parses a whole text by the format with this number and stores its moment in `out`, as a `P`. Returns 0; or the
+/// error's status, [`UNKNOWN_FORMAT`] for an unknown number, and leaves `out` unchanged. A text without an offset is
+/// rejected. A leap second is valid only at the end of a month in UTC, and becomes the last nanosecond before it.
 #[inline(always)]
 pub fn moment_by<P: From<OffsetDateTime> + Copy>(format: u32, text: &[u8], out: &mut P) -> u32
     ensures { StoresValue P.from_gives of_moment (Formats.format_of format) text.now result out.old out.new }
@@ -83,7 +87,8 @@ pub fn moment_by<P: From<OffsetDateTime> + Copy>(format: u32, text: &[u8], out: 
     }
 }
 
-// Stores the nanoseconds of a moment of RFC 3339.
+// Parses a text by RFC 3339, and stores the nanoseconds from 1970-01-01T00:00:00Z to its moment. Returns 0, or the
+// error's status and leaves `out` unchanged.
 #[inline(never)]
 fn count_3339(text: &[u8], out: &mut Nanoseconds) -> u32
     ensures { StoresCount (Some rfc3339) text.now result out.old out.new }
@@ -94,7 +99,8 @@ fn count_3339(text: &[u8], out: &mut Nanoseconds) -> u32
     }
 }
 
-// Stores the nanoseconds of a mail date's moment.
+// Parses a mail date of RFC 2822, and stores the nanoseconds from 1970-01-01T00:00:00Z to its moment. Returns 0, or the
+// error's status and leaves `out` unchanged.
 #[inline(never)]
 fn count_2822(text: &[u8], out: &mut Nanoseconds) -> u32
     ensures { StoresCount (Some rfc2822) text.now result out.old out.new }
@@ -105,7 +111,8 @@ fn count_2822(text: &[u8], out: &mut Nanoseconds) -> u32
     }
 }
 
-// Stores the nanoseconds of a moment of ISO 8601.
+// Parses a text by ISO 8601, and stores the nanoseconds from 1970-01-01T00:00:00Z to its moment. Returns 0, or the
+// error's status and leaves `out` unchanged.
 #[inline(never)]
 fn count_8601(text: &[u8], out: &mut Nanoseconds) -> u32
     ensures { StoresCount (Some iso8601) text.now result out.old out.new }
@@ -116,7 +123,7 @@ fn count_8601(text: &[u8], out: &mut Nanoseconds) -> u32
     }
 }
 
-// Stores the nanoseconds of a text's moment.
+// [`count`], not inlined.
 #[inline(never)]
 fn parsed_count<F: Parsable>(format: &F, text: &[u8], out: &mut Nanoseconds) -> u32
     ensures { IsResultStored IsCountStored
@@ -125,8 +132,11 @@ fn parsed_count<F: Parsable>(format: &F, text: &[u8], out: &mut Nanoseconds) -> 
     count(format, text, out)
 }
 
-/// Parses a text by the format with this number and stores the nanoseconds of its moment. Returns 0, or the error's
-/// status and leaves `out` unchanged.
+/// Parses a whole text by the format with this number and stores the nanoseconds from 1970-01-01T00:00:00Z to its
+/// moment. Returns 0; or the error's status, [`UNKNOWN_FORMAT`] for an unknown number or
+/// [`TOO_WIDE`](crate::status::TOO_WIDE) if they don't fit 64 bits, and leaves `out` unchanged. A text without an
+/// offset is rejected. A leap second is valid only at the end of a month in UTC, and becomes the last nanosecond before
+/// it.
 #[inline(always)]
 pub fn count_by(format: u32, text: &[u8], out: &mut Nanoseconds) -> u32
     ensures { StoresCount (Formats.format_of format) text.now result out.old out.new }
@@ -140,7 +150,8 @@ pub fn count_by(format: u32, text: &[u8], out: &mut Nanoseconds) -> u32
     }
 }
 
-// Stores the parts of a date and time of ISO 8601.
+// Parses a text by ISO 8601, and stores the parts of its date and time. An offset is dropped, and a second of 60 is
+// rejected. Returns 0, or the error's status and leaves `out` unchanged.
 #[inline(never)]
 fn local_8601(text: &[u8], out: &mut LocalParts) -> u32
     ensures { StoresValue HasPlain (over_empty (IsPlain greatest_year)) (Some iso8601) text.now result out.old out.new }
@@ -154,8 +165,9 @@ fn local_8601(text: &[u8], out: &mut LocalParts) -> u32
     }
 }
 
-/// Parses a text by the format with this number and stores the parts of its date and time. An offset is parsed and
-/// dropped.
+/// Parses a whole text by the format with this number and stores the parts of its date and time. An offset is parsed
+/// and dropped; a second of 60 is rejected. Returns 0; or the error's status, [`UNKNOWN_FORMAT`] for an unknown number,
+/// and leaves `out` unchanged.
 #[inline(always)]
 pub fn local_by(format: u32, text: &[u8], out: &mut LocalParts) -> u32
     ensures { StoresValue HasPlain (over_empty (IsPlain greatest_year)) (Formats.format_of format) text.now

@@ -40,7 +40,7 @@ pub struct OffsetParts {
     pub seconds: i32,
 }
 
-/// The parts of a date and a time.
+/// The parts of a date and a time, without an offset.
 #[repr(C)]
 #[derive(Clone, Copy)]
 pub struct LocalParts {
@@ -96,11 +96,11 @@ pub struct Instant {
 #[repr(C)]
 #[derive(Clone, Copy)]
 pub struct Nanoseconds {
-    /// The nanoseconds.
+    /// The nanoseconds, negative before 1970.
     pub count: i64,
 }
 
-/// The date, the time and the offset of a text. A part is set where its status is 0.
+/// The date, the time and the offset of a text, each with a status. A parse sets a part only if its status is 0.
 #[repr(C)]
 #[derive(Clone, Copy)]
 pub struct Parts {
@@ -222,7 +222,8 @@ impl From<OffsetDateTime> for Instant {
     }
 }
 
-/// The nanoseconds from 1970-01-01T00:00:00Z to a moment's instant. `None`: 64 bits can't hold them.
+/// The nanoseconds from 1970-01-01T00:00:00Z to a moment's instant, negative before it. `None`: an `i64` can't hold
+/// them.
 #[inline]
 pub fn nanoseconds_of(value: OffsetDateTime) -> Option<Nanoseconds>
     ensures { MatchOption result (¬ (Results.FitsI64 (offset_instant greatest_year value)))

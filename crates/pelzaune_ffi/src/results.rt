@@ -17,7 +17,8 @@ use time_record::Parsed;
 use time_values::error::TryFromParsed;
 use time_values::{Date, OffsetDateTime, Time, UtcOffset};
 
-/// Parses a text and stores its value in `out`. Returns 0, or the error's status and leaves `out` unchanged.
+/// Parses a whole text by the format and stores its value in `out`, as a `P`. Returns 0, or the error's status and
+/// leaves `out` unchanged.
 #[inline(always)]
 pub fn store_value<V: Target, P: From<V> + Copy, F: Parsable>(
     format: &F,
@@ -36,7 +37,8 @@ pub fn store_value<V: Target, P: From<V> + Copy, F: Parsable>(
     }
 }
 
-/// As [`store_value`], by the format with this number.
+/// As [`store_value`], by the format with this number. An unknown number has the status [`UNKNOWN_FORMAT`], and leaves
+/// `out` unchanged.
 #[inline(always)]
 pub fn store_value_by<V: Target, P: From<V> + Copy>(format: u32, text: &[u8], out: &mut P) -> u32
     ensures { StoresValue P.from_gives V.outcome (Formats.format_of format) text.now result out.old out.new }
@@ -54,7 +56,8 @@ pub fn store_value_by<V: Target, P: From<V> + Copy>(format: u32, text: &[u8], ou
     }
 }
 
-/// Stores the nanoseconds of a moment. Returns 0, or [`TOO_WIDE`] where 64 bits can't hold them.
+/// Stores the nanoseconds from 1970-01-01T00:00:00Z to a moment's instant. Returns 0; or [`TOO_WIDE`] if they don't fit
+/// 64 bits, and leaves `out` unchanged.
 #[inline(always)]
 pub fn store_count(value: OffsetDateTime, out: &mut Nanoseconds) -> u32
     ensures { IsCountStored (Ok value) result out.old out.new }
@@ -68,7 +71,9 @@ pub fn store_count(value: OffsetDateTime, out: &mut Nanoseconds) -> u32
     }
 }
 
-/// Parses a text and stores the nanoseconds of its moment.
+/// Parses a whole text by the format and stores the nanoseconds from 1970-01-01T00:00:00Z to its instant. Returns 0; or
+/// the error's status, [`TOO_WIDE`] if they don't fit 64 bits, and leaves `out` unchanged. A text is rejected if it has
+/// neither an offset nor a Unix timestamp.
 #[inline(always)]
 pub fn count<F: Parsable>(format: &F, text: &[u8], out: &mut Nanoseconds) -> u32
     ensures { IsResultStored IsCountStored
@@ -80,7 +85,8 @@ pub fn count<F: Parsable>(format: &F, text: &[u8], out: &mut Nanoseconds) -> u32
     }
 }
 
-// Resolves a record and stores the value.
+// Resolves a record to a `V` and stores it in `out`, as a `P`. Returns 0, or the error's status and leaves `out`
+// unchanged.
 #[inline(always)]
 fn resolve<V: TryFrom<Parsed, Error = TryFromParsed> + Drop, P: From<V> + Copy>(
     parsed: &Parsed,
@@ -98,7 +104,9 @@ fn resolve<V: TryFrom<Parsed, Error = TryFromParsed> + Drop, P: From<V> + Copy>(
     }
 }
 
-/// Parses a text and stores its date, time and offset, each with a status of its own.
+/// Parses a text once, and stores its date, time and offset, each with a status of its own; a part with another status
+/// than 0 is unchanged. A second of 60 rejects the time. Returns 0; or if the text isn't parsed whole, the error's
+/// status, and leaves `out` unchanged.
 #[inline(always)]
 pub fn parts<F: Parsable>(format: &F, text: &[u8], out: &mut Parts) -> u32
     ensures { IsResultStored ArePartsStored
@@ -115,7 +123,8 @@ pub fn parts<F: Parsable>(format: &F, text: &[u8], out: &mut Parts) -> u32
     }
 }
 
-/// As [`parts`], by the format with this number.
+/// As [`parts`], by the format with this number. An unknown number has the status [`UNKNOWN_FORMAT`], and leaves `out`
+/// unchanged.
 #[inline(always)]
 pub fn parts_by(format: u32, text: &[u8], out: &mut Parts) -> u32
     ensures { StoresParts (Formats.format_of format) text.now result out.old out.new }
@@ -129,7 +138,8 @@ pub fn parts_by(format: u32, text: &[u8], out: &mut Parts) -> u32
     }
 }
 
-/// As [`store_value`], by a description in the syntax with this number.
+/// As [`store_value`], by a description in the syntax with this number. A malformed description or an unknown syntax
+/// has the status that [`check`](crate::descriptions::check) returns, and leaves `out` unchanged.
 pub fn store_value_read<V: Target, P: From<V> + Copy>(
     syntax: u32,
     description: &[u8],
@@ -144,7 +154,8 @@ pub fn store_value_read<V: Target, P: From<V> + Copy>(
     })
 }
 
-/// As [`count`], by a description in the syntax with this number.
+/// As [`count`], by a description in the syntax with this number. A malformed description or an unknown syntax has the
+/// status that [`check`](crate::descriptions::check) returns, and leaves `out` unchanged.
 pub fn count_read(syntax: u32, description: &[u8], text: &[u8], out: &mut Nanoseconds) -> u32
     ensures { StoresByDescription IsCountStored of_moment (Described.syntax_of syntax) description.now
         text.now result out.old out.new }
@@ -152,7 +163,8 @@ pub fn count_read(syntax: u32, description: &[u8], text: &[u8], out: &mut Nanose
     by_description!(syntax, description, found => count(&found, text, out))
 }
 
-/// As [`parts`], by a description in the syntax with this number.
+/// As [`parts`], by a description in the syntax with this number. A malformed description or an unknown syntax has the
+/// status that [`check`](crate::descriptions::check) returns, and leaves `out` unchanged.
 pub fn parts_read(syntax: u32, description: &[u8], text: &[u8], out: &mut Parts) -> u32
     ensures { StoresByDescription ArePartsStored of_record (Described.syntax_of syntax) description.now
         text.now result out.old out.new }

@@ -10,16 +10,16 @@ use time_values::error::{ComponentRange, Parse, ParseFromDescription, TryFromPar
 /// The status of an instant whose nanoseconds don't fit 64 bits.
 pub const TOO_WIDE: u32 = 7;
 
-/// The status of an unknown format's number.
+/// The status of a call with a number that no format has.
 pub const UNKNOWN_FORMAT: u32 = 8;
 
-/// The status of a description with too many steps.
+/// The status of a description with more than 64 steps.
 pub const TOO_LONG: u32 = 16;
 
-/// The status of an unknown syntax's number.
+/// The status of a call with a number that no syntax has.
 pub const UNKNOWN_SYNTAX: u32 = 17;
 
-// The number of a component's name, or 0 for any other name.
+// The number of a component's name, 1 to 23, or 0 for any other name.
 fn component_number(name: &str) -> u32
     ensures { result ≡ Status.component_number name.now }
 {
@@ -51,7 +51,8 @@ fn component_number(name: &str) -> u32
     }
 }
 
-/// The status of an error of a parse by a description.
+/// The status of a text that doesn't match: 1 for a literal, 3 for trailing bytes, or 2 plus 256 times its number for a
+/// component, where the number of an unknown name is 0.
 pub fn status_of_description(error: ParseFromDescription) -> u32
     ensures { result ≡ Status.status_of (refusal_of_description error) }
 {
@@ -62,7 +63,8 @@ pub fn status_of_description(error: ParseFromDescription) -> u32
     }
 }
 
-/// The status of a component that is out of its range.
+/// The status of a component that is out of range: 256 times its number, plus 6 if its range depends on other
+/// components, else plus 5. The number of an unknown name is 0.
 pub fn status_of_range(error: ComponentRange) -> u32
     ensures { result ≡ Status.status_of (refusal_of_range error) }
 {
@@ -74,7 +76,8 @@ pub fn status_of_range(error: ComponentRange) -> u32
     }
 }
 
-/// The status of any error of a parse.
+/// The status of any error of a parse: that of [`status_of_description`] or [`status_of_range`], or 4 if the text has
+/// too few components for the value.
 #[cold]
 #[inline(never)]
 pub fn status_of(error: Parse) -> u32
@@ -100,7 +103,8 @@ pub enum Format {
     Rfc3339Strict,
 }
 
-/// The format with this number, or `None`.
+/// The format with this number: 1 is `Rfc3339`, 2 is `Rfc2822`, 3 is `Iso8601` and 4 is `Rfc3339Strict`. `None`: any
+/// other number.
 #[inline]
 pub fn format_of(number: u32) -> Option<Format>
     ensures { result ≡ Formats.format_of number }
@@ -114,7 +118,7 @@ pub fn format_of(number: u32) -> Option<Format>
     }
 }
 
-/// The status's text is the error's text, for each component of the table.
+/// The text of a parse error's status is the error's text, if the error names no component, or one that has a number.
 pub fn law_status_texts()
     ensures { HaveErrorTexts }
 {}

@@ -12,20 +12,21 @@ use time_components::{Component, Group, Padding, Step};
 #[repr(C)]
 #[derive(Clone, Copy)]
 pub struct StoredStep {
-    /// For a group: how many of the following steps are in it.
+    /// For a group: how many of the following steps are in it. Ignored for any other kind.
     pub len: usize,
-    /// For skipped bytes: how many.
+    /// For skipped bytes: how many. Ignored for any other kind.
     pub count: u16,
-    /// The number of the step's kind.
+    /// The number of the step's kind: 0 is a literal, 1 a further byte of one, 2 to 4 a group, and 5 to 41 a component.
+    /// Any other number, or skipping 0 bytes, is a literal of byte 0.
     pub kind: u8,
-    /// The byte of a literal, or the number of the component's padding, digits, half of the day or treatment of
-    /// trailing bytes.
+    /// The byte of a literal; or the number of a component's padding, digits or treatment of trailing bytes; or for the
+    /// half of the day, 0 for `am` and `pm`, and another number for `AM` and `PM`.
     pub choice: u8,
-    /// The component's modifier of yes or no: 0 is no.
+    /// The component's modifier of yes or no: 0 is no, any other number is yes.
     pub flag: u8,
 }
 
-// The padding with this number. An unknown number is padding with zeros.
+// The padding with this number: 1 is spaces, 2 is none, and any other number is zeros.
 fn padding_of(number: u8) -> Padding
     ensures { result ≡ spec.padding_of number }
 {
@@ -36,7 +37,7 @@ fn padding_of(number: u8) -> Padding
     }
 }
 
-// The number of a padding.
+// The number of a padding: 0 is zeros, 1 is spaces and 2 is none.
 fn padding_number(padding: Padding) -> u8
     ensures { result ≡ spec.padding_number padding }
 {
@@ -47,7 +48,7 @@ fn padding_number(padding: Padding) -> u8
     }
 }
 
-// The digits with this number. An unknown number is one or more.
+// How many digits a fraction has, by their number: 1 to 9 is exactly that many, and any other number is one or more.
 fn digits_of(number: u8) -> SubsecondDigits
     ensures { result ≡ spec.digits_of number }
 {
@@ -65,7 +66,7 @@ fn digits_of(number: u8) -> SubsecondDigits
     }
 }
 
-// The number of these digits.
+// The number for the digits of a fraction: 1 to 9 for exactly that many, and 0 for one or more.
 fn digits_number(digits: SubsecondDigits) -> u8
     ensures { result ≡ spec.digits_number digits }
 {
@@ -83,7 +84,7 @@ fn digits_number(digits: SubsecondDigits) -> u8
     }
 }
 
-// The treatment of trailing bytes with this number. An unknown number prohibits them.
+// The treatment of trailing bytes with this number: 1 discards them, and any other number prohibits them.
 fn trailing_of(number: u8) -> TrailingInput
     ensures { result ≡ spec.trailing_of number }
 {
@@ -93,7 +94,7 @@ fn trailing_of(number: u8) -> TrailingInput
     }
 }
 
-// The number of this treatment.
+// The number of a treatment of trailing bytes: 0 prohibits them, and 1 discards them.
 fn trailing_number(trailing: TrailingInput) -> u8
     ensures { result ≡ spec.trailing_number trailing }
 {
@@ -103,7 +104,7 @@ fn trailing_number(trailing: TrailingInput) -> u8
     }
 }
 
-// The step that skips this many bytes. Skipping none is the literal of byte 0, as is any unknown kind.
+// The step that skips this many bytes. For 0 it is the literal of byte 0, as for an unknown kind.
 fn skipping(count: u16) -> Step
     ensures { result ≡ spec.skipping (ignored count) }
 {
@@ -113,7 +114,7 @@ fn skipping(count: u16) -> Step
     }
 }
 
-// The stored step of this kind, with a choice and a flag.
+// The stored step with this kind, choice and flag, and 0 in its other fields.
 fn chosen(kind: u8, choice: u8, flag: bool) -> StoredStep
     ensures { result ≡ spec.chosen kind choice flag }
 {
@@ -126,9 +127,10 @@ fn chosen(kind: u8, choice: u8, flag: bool) -> StoredStep
     }
 }
 
-// Each macro converts the components of one form: `step` from the stored step, and `stored` to it.
+// Each of the next seven macros is for the components with certain modifiers: `step` makes a component from the numbers
+// of a stored step, and `stored` makes the stored step of a component.
 
-// A padding.
+// Components with a padding only.
 macro_rules! padded {
     (step $name:ident, $stored:ident, $padding:ident, $flag:ident) => {
         Step::Component(Component::$name(modifier::$name {
@@ -140,7 +142,7 @@ macro_rules! padded {
     };
 }
 
-// A padding and a sign.
+// Components with a padding, and whether a sign is mandatory.
 macro_rules! signed {
     (step $name:ident, $stored:ident, $padding:ident, $flag:ident) => {
         Step::Component(Component::$name(modifier::$name {
@@ -157,7 +159,7 @@ macro_rules! signed {
     };
 }
 
-// One modifier of yes or no: a mandatory sign, case sensitivity, or days that count from 1.
+// Components with one modifier of yes or no: a mandatory sign, case sensitivity, or days that count from 1.
 macro_rules! flagged {
     (step $name:ident, $stored:ident, $padding:ident, $flag:ident, $field:ident) => {
         Step::Component(Component::$name(modifier::$name { $field: $flag }))
@@ -167,7 +169,7 @@ macro_rules! flagged {
     };
 }
 
-// `AM` or `PM`.
+// The half of the day: whether `AM` and `PM` are in capitals, and whether case counts.
 macro_rules! halved {
     (step $name:ident, $stored:ident, $padding:ident, $flag:ident) => {
         Step::Component(Component::$name(modifier::$name {
@@ -184,7 +186,7 @@ macro_rules! halved {
     };
 }
 
-// The digits of a fraction.
+// The fraction of a second, with how many digits it has.
 macro_rules! fractional {
     (step $name:ident, $stored:ident, $padding:ident, $flag:ident) => {
         Step::Component(Component::$name(modifier::$name {
@@ -196,7 +198,7 @@ macro_rules! fractional {
     };
 }
 
-// How many bytes are skipped.
+// Skipped bytes, with how many they are.
 macro_rules! skipped {
     (step $name:ident, $stored:ident, $padding:ident, $flag:ident) => {
         skipping($stored.count)
@@ -209,7 +211,7 @@ macro_rules! skipped {
     };
 }
 
-// The treatment of trailing bytes.
+// The end of the text, with the treatment of trailing bytes.
 macro_rules! ended {
     (step $name:ident, $stored:ident, $padding:ident, $flag:ident) => {
         Step::Component(Component::$name(modifier::$name {
@@ -221,7 +223,8 @@ macro_rules! ended {
     };
 }
 
-// The number, the name and the form of each component.
+// Calls the macro `$of_each` with the given names, and with the number of the kind, the name and the macro of each
+// component.
 macro_rules! components {
     ($of_each:ident $($given:ident)+) => {
         $of_each! { $($given)+;
@@ -266,7 +269,7 @@ macro_rules! components {
     };
 }
 
-// Converts a stored step by its kind.
+// Makes the step that a stored step encodes, by the number of its kind.
 macro_rules! step_of_each {
     ($stored:ident $padding:ident $flag:ident; $($kind:literal $name:ident $form:ident $(($field:ident))?),+) => {
         match $stored.kind {
@@ -281,7 +284,7 @@ macro_rules! step_of_each {
     };
 }
 
-// Converts a component by its variant.
+// Makes the stored step of a component, by its variant.
 macro_rules! stored_of_each {
     ($component:ident; $($kind:literal $name:ident $form:ident $(($field:ident))?),+) => {
         match $component {
@@ -290,7 +293,7 @@ macro_rules! stored_of_each {
     };
 }
 
-/// The step that these numbers encode.
+/// The step that a stored step encodes. An unknown kind, or skipping 0 bytes, is the literal of byte 0.
 #[inline]
 #[tactic(auto, unfolding(crate::specs::Described::step_of))]
 pub fn step_of(stored: StoredStep) -> Step
@@ -325,7 +328,7 @@ fn stored_group(group: Group, len: usize) -> StoredStep
     }
 }
 
-/// The stored step that [`step_of`] converts back to this step.
+/// A stored step that [`step_of`] converts back to this step.
 #[tactic(auto, unfolding(crate::specs::Described::step_of))]
 pub fn stored_step(step: Step) -> StoredStep
     ensures { spec.step_of result ≡ step }

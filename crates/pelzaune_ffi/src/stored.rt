@@ -30,13 +30,13 @@ use time_values::{Date, OffsetDateTime, PlainDateTime, Time};
 #[repr(C)]
 #[derive(Clone, Copy)]
 pub struct StoredDescription {
-    /// The number of its steps. A number above the array's length counts as that length.
+    /// How many of `steps` are in use, from the first. A number above the array's length counts as that length.
     pub count: usize,
     /// The steps, in the order of the description.
     pub steps: [StoredStep; MOST_STEPS],
 }
 
-// The stored steps, converted for the walk over a description.
+// The steps that the stored steps encode, in their order.
 fn steps_of(stored: &[StoredStep]) -> ArrayVec<Step, MOST_STEPS>
     requires { length stored.now ≤ MOST_STEPS }
     ensures { result.items ≡ map Described.step_of stored.now }
@@ -48,7 +48,7 @@ fn steps_of(stored: &[StoredStep]) -> ArrayVec<Step, MOST_STEPS>
     steps
 }
 
-// Stores the steps. `false`: there are more than fit, and nothing is stored.
+// Stores the steps and returns `true`. `false`: there are more than `MOST_STEPS`, and nothing is stored.
 fn store_steps(steps: &[Step], stored: &mut StoredDescription) -> bool
     ensures yes { result ≡ true → Described.steps_of stored.new ≡ steps.now }
     ensures no { result ≡ false → (stored.new ≡ stored.old) × (MOST_STEPS < length steps.now) }
@@ -63,7 +63,8 @@ fn store_steps(steps: &[Step], stored: &mut StoredDescription) -> bool
     true
 }
 
-// Parses steps one after another. Returns the steps from the first that has no fast path here, and the unread bytes.
+// Parses a prefix of the input into the record, step by step, up to the first step that `fast::read_step` doesn't
+// parse. Returns the steps from that one on, which are none if all were parsed, and the unread bytes.
 #[inline(always)]
 fn read_front<'s, 'a>(
     steps: &'s [StoredStep],
@@ -86,7 +87,7 @@ fn read_front<'s, 'a>(
     (left, rest)
 }
 
-// The steps in use.
+// The stored steps in use: the first `count`, or all if there are fewer.
 #[inline(always)]
 fn steps_in_use(stored: &StoredDescription) -> &[StoredStep]
     ensures steps { map Described.step_of result.now ≡ Described.steps_of stored.now }
@@ -95,7 +96,7 @@ fn steps_in_use(stored: &StoredDescription) -> &[StoredStep]
     &stored.steps[..stored.count.min(MOST_STEPS)]
 }
 
-/// The stored description, prepared for many texts.
+/// The description that is stored, prepared for parsing many texts.
 pub fn prepare(stored: &StoredDescription) -> Prepared<MOST_STEPS>
     ensures { result ≡ Described.steps_of stored.now }
 {
@@ -105,8 +106,8 @@ pub fn prepare(stored: &StoredDescription) -> Prepared<MOST_STEPS>
     }
 }
 
-// Parses by the remaining steps with the walk over a description. Not inlined, so that only this call takes the stack
-// for the converted steps.
+// Parses a prefix of the input into the record by the remaining steps, and returns the unread rest. An error leaves the
+// record unchanged. Not inlined, so that only this call takes the stack for the converted steps.
 #[inline(never)]
 fn read_left<'a>(
     left: &[StoredStep],
@@ -141,7 +142,8 @@ fn read_stored<'a>(
     }
 }
 
-// The value of the whole input, which is parsed into a record that starts with the defaults.
+// The value of the whole input, which is parsed into a record that starts with the defaults, or empty for `None`. An
+// error: the input doesn't match, bytes remain, or the record doesn't resolve to a `V`.
 #[inline(always)]
 fn over_record<V: TryFrom<Parsed, Error = TryFromParsed> + Drop>(
     stored: &StoredDescription,
@@ -230,9 +232,9 @@ impl Parsable for StoredDescription {
     ghost exact_path = { λ _. tt };
 }
 
-/// Parses a description in the syntax with this number and stores it in `out`. Returns 0, or the status of its first
-/// fault and stores that fault's index, if it has one. A description of more than [`MOST_STEPS`] steps has the status
-/// [`TOO_LONG`].
+/// Parses a description in the syntax with this number and stores it in `out`. Returns 0; or the status of its first
+/// fault, stores that fault's byte index in `index`, and leaves `out` unchanged. With the status 0, [`TOO_LONG`] for
+/// more than [`MOST_STEPS`] steps, or [`UNKNOWN_SYNTAX`] for an unknown syntax, `index` is unchanged.
 #[inline(always)]
 pub fn describe(syntax: u32, text: &[u8], out: &mut StoredDescription, index: &mut usize) -> u32
     ensures { StoresDescription (Described.syntax_of syntax) text.now result out.old out.new index.old index.new }

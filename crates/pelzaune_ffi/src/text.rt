@@ -2,7 +2,7 @@
 ghost use Rattle.std.specs.Prelude.{◌≡◌, ◌≤◌, length};
 ghost use Rattle.pelzaune_ffi.specs.Status as Status;
 
-// The name of the component with this number, or an empty text.
+// The name of the component with this number, 1 to 23; an empty text for any other number.
 fn component_name(number: u32) -> &'static str
     ensures name { result.now ≡ Status.component_name number }
     ensures bound { length result.now ≤ 16 }
@@ -35,7 +35,9 @@ fn component_name(number: u32) -> &'static str
     }
 }
 
-/// The text of a status, in three pieces. The middle one is the component's name.
+/// The text of a status, in three pieces that are to be joined. The status is its kind plus 256 times the number of the
+/// component that the text names (0 for none). All pieces are empty for the kind 0 or an unknown kind, above 18. A text
+/// that names a component has an empty name for a number outside 1 to 23.
 pub fn pieces_of(status: u32) -> [&'static str; 3]
     ensures text { Status.text_of result ≡ Status.status_text status }
     ensures bound { length (Status.status_text status) ≤ 128 }
@@ -76,7 +78,7 @@ pub fn pieces_of(status: u32) -> [&'static str; 3]
     }
 }
 
-/// Writes bytes over the start of the buffer, truncated to the buffer's length.
+/// Writes bytes over the start of the buffer, truncated to the buffer's length. The rest of the buffer is unchanged.
 pub fn lay_bytes(bytes: &[u8], buffer: &mut [u8])
     ensures { buffer.new ≡ Status.laid_over bytes.now buffer.old }
 {
@@ -84,7 +86,8 @@ pub fn lay_bytes(bytes: &[u8], buffer: &mut [u8])
     buffer[..count].copy_from_slice(&bytes[..count]);
 }
 
-/// Writes the pieces one after another over the start of the buffer, truncated to the buffer's length.
+/// Writes the pieces one after another over the start of the buffer, truncated to the buffer's length. The rest of the
+/// buffer is unchanged.
 pub fn lay(pieces: &[&str], buffer: &mut [u8])
     ensures { buffer.new ≡ Status.laid_over (Status.text_of pieces.now) buffer.old }
 {

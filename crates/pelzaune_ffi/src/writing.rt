@@ -14,7 +14,7 @@ use time_formatting::{FractionDigits, Text, Unwritable, text_2822, text_3339, te
 use time_values::error::ComponentRange;
 use time_values::{Date, Month, OffsetDateTime, PlainDateTime, Time, UtcOffset};
 
-// The month with this number.
+// The month with this number, or the error of a number outside 1 to 12.
 fn month_of(number: u8) -> Result<Month, ComponentRange>
     ensures { Constructs (month_refusal number) (λ m. month_number m ≡ number) result }
 {
@@ -27,7 +27,7 @@ fn month_of(number: u8) -> Result<Month, ComponentRange>
     }
 }
 
-// The date with these parts, or the error of the first that is out of range.
+// The date with these parts, or the error of the first that is out of range: the month, the year or the day.
 fn date_of(parts: &MomentParts) -> Result<Date, ComponentRange>
     ensures { Constructs (date_refusal parts.now) (λ d. IsDateOf parts.now d) result }
 {
@@ -35,7 +35,8 @@ fn date_of(parts: &MomentParts) -> Result<Date, ComponentRange>
     Date::from_calendar_date(parts.year, month, parts.day)
 }
 
-// The date and time with these parts, or the error of the first that is out of range.
+// The date and time with these parts, or the error of the first that is out of range: that of the date, the hour, the
+// minute, the second or the nanosecond.
 fn local_of(parts: &MomentParts) -> Result<PlainDateTime, ComponentRange>
     ensures { Constructs (local_refusal parts.now) (λ p. IsLocalOf parts.now p) result }
 {
@@ -44,7 +45,8 @@ fn local_of(parts: &MomentParts) -> Result<PlainDateTime, ComponentRange>
     Ok(PlainDateTime::new(date, time))
 }
 
-// The moment with these parts, or the error of the first that is out of range.
+// The moment with these parts, or the error of the first that is out of range: that of the date and time, or else of
+// the offset.
 fn moment_of(parts: &MomentParts) -> Result<OffsetDateTime, ComponentRange>
     ensures { Constructs (moment_refusal parts.now) (λ v. HasMoment v parts.now) result }
 {
@@ -53,7 +55,8 @@ fn moment_of(parts: &MomentParts) -> Result<OffsetDateTime, ComponentRange>
     Ok(local.assume_offset(offset))
 }
 
-// The text of a moment in a format.
+// The text of a moment in a format, or the part that the format can't write. RFC 3339 has the digits of a fraction up
+// to the last that isn't 0, RFC 2822 none, ISO 8601 all nine.
 fn text_of(format: Format, value: OffsetDateTime) -> Result<Text, Unwritable>
     ensures { WritesTextWith (reason_of format value) (IsTextOf format value) result }
 {
@@ -64,7 +67,8 @@ fn text_of(format: Format, value: OffsetDateTime) -> Result<Text, Unwritable>
     }
 }
 
-// The status of a moment that has no text in a format.
+// The status of a moment that has no text in a format: 18 plus 256 times the number of the component that can't be
+// written.
 fn unwritable_status(why: Unwritable) -> u32
     ensures { result ≡ Formats.unwritable_status why }
 {
@@ -75,7 +79,9 @@ fn unwritable_status(why: Unwritable) -> u32
     }
 }
 
-// Writes the text of a moment, or returns the status of the part that its format can't write.
+// Writes the text of a moment over the start of the buffer, truncated to the buffer's length, stores the length of the
+// whole text in `count` and returns 0. Or returns the status of the part that the format can't write, and leaves both
+// unchanged.
 fn write_value(format: Format, value: OffsetDateTime, buffer: &mut [u8], count: &mut usize) -> u32
     ensures { StoresTextOf format (reason_of format value) value result buffer.old buffer.new count.old count.new }
 {
@@ -89,7 +95,8 @@ fn write_value(format: Format, value: OffsetDateTime, buffer: &mut [u8], count: 
     }
 }
 
-// Writes the text of the moment with these parts, or returns the status of the first that is out of range.
+// As `write_value`, for the moment with these parts. If a part is out of range, returns the status of the first such
+// part, and leaves `buffer` and `count` unchanged.
 fn write_moment(format: Format, parts: &MomentParts, buffer: &mut [u8], count: &mut usize) -> u32
     ensures { StoresMomentText format (moment_refusal parts.now) parts.now result
         buffer.old buffer.new count.old count.new }
@@ -101,10 +108,10 @@ fn write_moment(format: Format, parts: &MomentParts, buffer: &mut [u8], count: &
 }
 
 /// Writes the text of a moment, in the format with this number, over the start of the buffer, truncated to the buffer's
-/// length. Stores the length of the whole text in `count`.
+/// length. The rest of the buffer is unchanged. Stores the length of the whole text in `count`.
 ///
-/// Returns 0, or the status of the error and leaves both unchanged: a part is out of range, the format can't write the
-/// moment, or no format has this number.
+/// Returns 0, or the status of the error and leaves `buffer` and `count` unchanged: that of a part that is out of range
+/// or that the format can't write, or [`UNKNOWN_FORMAT`] for an unknown number.
 #[inline(always)]
 pub fn format_moment(format: u32, moment: &MomentParts, buffer: &mut [u8], count: &mut usize) -> u32
     ensures { StoresText (Formats.format_of format) moment.now result buffer.old buffer.new count.old count.new }

@@ -12,7 +12,7 @@ use Rattle.programs_answers.specs.declared.formats.Format.TheVariants as format
 use Rattle.programs_answers.specs.declared.formats.Target.{Target}
 use Rattle.programs_answers.specs.declared.formats.Target.TheVariants as target
 
--- The format with this name, if there is one.
+-- The format with this name, its variant's name in lower case; none for any other name.
 abbrev pub format_named : List ℕ → Option Format
 format_named name =
     if bytes_eq name (codes "rfc3339") then Some format.Rfc3339 else
@@ -23,7 +23,7 @@ format_named name =
     if bytes_eq name (codes "unix") then Some format.Unix else
     if bytes_eq name (codes "local") then Some format.Local else None
 
--- The target with this name, if there is one.
+-- The target with this name, its variant's name in lower case; none for any other name.
 abbrev pub target_named : List ℕ → Option Target
 target_named name =
     if bytes_eq name (codes "date") then Some target.Date else
@@ -43,13 +43,15 @@ part = component false
 abbrev pub year : Tree
 year = part (kind.CalendarYearFullStandardRange (record { padding = padding.Zero; sign_is_mandatory = false }))
 
+-- A minute of two digits.
 abbrev pub minute : Tree
 minute = part (kind.Minute (record { padding = padding.Zero }))
 
+-- A second of two digits.
 abbrev pub second : Tree
 second = part (kind.Second (record { padding = padding.Zero }))
 
--- `2021-03-04`.
+-- The parts of a date, as `2021-03-04`: the year as in `year`, and month and day with two digits each.
 abbrev pub date_parts : List Tree
 date_parts =
     year
@@ -59,7 +61,7 @@ date_parts =
     ∷ part (kind.Day (record { padding = padding.Zero }))
     ∷ []
 
--- `03:04:05`.
+-- The parts of a time on a clock of 24 hours, as `03:04:05`, each with two digits.
 abbrev pub time_parts : List Tree
 time_parts =
     part (kind.Hour24 (record { padding = padding.Zero }))
@@ -69,7 +71,7 @@ time_parts =
     ∷ second
     ∷ []
 
--- `-00:30`.
+-- The parts of an offset's hour and minute with two digits each and a mandatory sign, as `-00:30`.
 abbrev pub offset_parts : List Tree
 offset_parts =
     part (kind.OffsetHour (record { padding = padding.Zero; sign_is_mandatory = true }))
@@ -77,23 +79,24 @@ offset_parts =
     ∷ part (kind.OffsetMinute (record { padding = padding.Zero }))
     ∷ []
 
--- `2021-01-02 03:04:05 -00:30`.
+-- The parts of a date, time and offset, as `2021-01-02 03:04:05 -00:30`.
 abbrev pub date_time_parts : List Tree
 date_time_parts = date_parts ++ literal (codes " ") ∷ time_parts ++ literal (codes " ") ∷ offset_parts
 
--- A year and its day, as `2020-366`.
+-- The parts of a year and a day of the year with three digits, as `2020-366`.
 abbrev pub ordinal_parts : List Tree
 ordinal_parts = year ∷ literal (codes "-") ∷ part (kind.Ordinal (record { padding = padding.Zero })) ∷ []
 
--- `.25`.
+-- The parts of a second's fraction, as `.25`: a dot and one or more digits.
 abbrev pub fraction_parts : List Tree
 fraction_parts = literal (codes ".") ∷ part (kind.Subsecond (record { digits = OneOrMore })) ∷ []
 
--- `:09`, with an optional fraction.
+-- A colon and a second of two digits, as `:09`, and then the given fraction, made optional.
 abbrev pub second_parts : Tree → List Tree
 second_parts fraction = literal (codes ":") ∷ second ∷ optional fraction ∷ []
 
--- `1:05 PM`, with optional seconds before the space.
+-- The parts of a time, as `1:05 PM`, with the given seconds, made optional, before the space. The hour has one or two
+-- digits, and the case of `PM` doesn't matter.
 abbrev pub clock_parts : Tree → List Tree
 clock_parts seconds =
     part (kind.Hour12 (record { padding = padding.None }))
@@ -104,29 +107,29 @@ clock_parts seconds =
     ∷ part (kind.Period (record { is_uppercase = true; case_sensitive = false }))
     ∷ []
 
--- A date.
+-- A date, as `2021-03-04`.
 abbrev pub ymd : Tree
 ymd = sequence (trees date_parts)
 
--- A time on a clock of 12 hours.
+-- A time on a clock of 12 hours, as `1:05:09.25 PM`; the second and its fraction are optional.
 abbrev pub clock : Tree
 clock = sequence (trees (clock_parts (sequence (trees (second_parts (sequence (trees fraction_parts)))))))
 
--- Seconds since 1970-01-01T00:00:00Z, in a description of version 3.
+-- Whole seconds since 1970-01-01T00:00:00Z with an optional sign, in a description of version 3.
 abbrev pub unix : Tree
 unix = component true (kind.UnixTimestampSecond (record { sign_is_mandatory = false }))
 
--- A date, time and offset, or a year and its day.
+-- A date, time and offset, as `2021-01-02 03:04:05 -00:30`, or else a year and a day of the year, as `2020-366`.
 abbrev pub local : Tree
 local = first_of (trees (sequence (trees date_time_parts) ∷ sequence (trees ordinal_parts) ∷ []))
 
--- The steps of prepared descriptions.
+-- The steps of the prepared descriptions of the formats `Ymd`, `Clock` and `Local`.
 pub record Descriptions : Type 0 where
   pub ymd : List Step
   pub clock : List Step
   pub local : List Step
 
--- The steps have the trees of the formats.
+-- The steps of each description have the tree of its format; that of `Local` is the only item of a sequence.
 abbrev pub AreOfFormats : Descriptions → Type 0
 AreOfFormats d =
     (steps_shape d.ymd ≡ ymd) × (steps_shape d.clock ≡ clock) × (steps_shape d.local ≡ sequence (trees (local ∷ [])))

@@ -38,21 +38,21 @@ use Rattle.programs_answers.specs.declared.serving.Stop.TheVariants.{Unread, Mem
 
 -- ---- Numbers as text
 
--- A minus, or nothing.
+-- A minus for `true`, or nothing.
 abbrev pub minus_if : Bool → List ℕ
 minus_if is_negative = if is_negative then codes "-" else []
 
--- Four digits, or all digits of a number that has more.
+-- The decimal digits of a number, padded with zeros to four if it has fewer.
 abbrev pub four_digits : ℕ → List ℕ
 four_digits n = if nat_lt n 10000 then fixed 4 n else decimal n
 
--- A year, with at least four digits.
+-- A year in at least four digits, after a minus if it is negative.
 abbrev pub year_text : ℤ → List ℕ
 year_text y = minus_if (int_lt y (pos 0)) ++ four_digits (unsigned_abs y)
 
 -- ---- Values and errors as text
 
--- `YYYY-MM-DD`
+-- `YYYY-MM-DD`, with the year as in `year_text`.
 abbrev pub date_text : Date → List ℕ
 date_text d =
     year_text (Dates.year d)
@@ -71,13 +71,13 @@ time_text t =
 abbrev pub is_negative : ℤ → Bool
 is_negative z = int_lt z (pos 0)
 
--- The byte `-` if a part is negative, else `+`.
+-- The byte `-` if the hours, minutes or seconds of the offset are negative, else `+`.
 abbrev pub sign_of : UtcOffset → ℕ
 sign_of o =
     if is_negative (Offsets.hours o) || is_negative (Offsets.minutes o) || is_negative (Offsets.seconds o)
     then 45 else 43
 
--- `+HH:MM:SS`
+-- `+HH:MM:SS`, or with `-` if the hours, minutes or seconds are negative.
 abbrev pub offset_text : UtcOffset → List ℕ
 offset_text o =
     sign_of o ∷ fixed 2 (unsigned_abs (Offsets.hours o))
@@ -88,6 +88,7 @@ offset_text o =
 abbrev pub date_time_text : Date → Time → List ℕ
 date_time_text d t = date_text d ++ codes " " ++ time_text t
 
+-- Date, space, time.
 abbrev pub plain_text : PlainDateTime → List ℕ
 plain_text p = date_time_text (plain_date p) (plain_time p)
 
@@ -99,32 +100,35 @@ utc_text u = date_time_text (utc_date u) (utc_time u) ++ codes " +00:00:00"
 abbrev pub offset_date_time_text : OffsetDateTime → List ℕ
 offset_date_time_text v = date_time_text (offset_date v) (offset_time v) ++ codes " " ++ offset_text (offset_of v)
 
--- Nanoseconds since 1970-01-01T00:00:00Z.
+-- Nanoseconds since 1970-01-01T00:00:00Z in decimal digits, after a minus if negative.
 abbrev pub timestamp_text : Timestamp → List ℕ
 timestamp_text t = signed_decimal (nanoseconds t)
 
--- The result of a parse, printed.
+-- The text of a result: for a value that of `value_text`, and for an error `error: ` and its text.
 abbrev pub printed : {V : Type 0} → (V → List ℕ) → Result V Refusal → List ℕ
 printed value_text (Ok v) = value_text v
 printed value_text (Err e) = codes "error: " ++ refusal_text e
 
 -- ---- The answers to the lines of an input
 
--- The answer is a printed outcome that has the property P.
+-- The answer is the printed text of an outcome that has the property P. `value_text` is the text of a value.
 abbrev pub PrintsOutcome : {V : Type 0} → (Result V Refusal → Type 0) → (V → List ℕ) → List ℕ → Type 0
 PrintsOutcome {V} P value_text answer = (outcome : Result V Refusal) × P outcome × (answer ≡ printed value_text outcome)
 
--- The answer is the printed outcome of the text, which the format parses over an empty record.
+-- The answer is the printed outcome of the whole text, parsed over an empty record by a format with these readings and
+-- errors. `resolves` relates the parsed record to the value or its error, and `value_text` is the text of a value.
 abbrev pub IsPrinted : {V : Type 0} → Resolving V → (V → List ℕ) → Reading → Refusing → List ℕ → List ℕ → Type 0
 IsPrinted resolves value_text reads refuses text =
     PrintsOutcome (IsOutcome resolves reads refuses text empty) value_text
 
--- The answer is the printed outcome of a moment, which a format may parse on a direct path.
+-- The answer is the printed outcome of the whole text as a moment, parsed without defaults: on the format's direct path
+-- if it has one, else over an empty record.
 abbrev pub IsPrintedMoment : Path → Reading → Refusing → List ℕ → List ℕ → Type 0
 IsPrintedMoment path reads refuses text =
     PrintsOutcome (IsMomentOutcome greatest_year path reads refuses text None) offset_date_time_text
 
--- The answer is the printed outcome of the text for the target. `staged` is a moment, always parsed over a record.
+-- The answer is the printed outcome of the whole text for the target, by a format with this path, these readings and
+-- these errors. Only `DateTime` depends on the path. `Staged` is a moment, always parsed over an empty record.
 abbrev pub IsAnswerFor : Target → Path → Reading → Refusing → List ℕ → List ℕ → Type 0
 IsAnswerFor target.Date path = IsPrinted (IsDated greatest_year) date_text
 IsAnswerFor target.Time path = IsPrinted IsTimed time_text
@@ -135,12 +139,12 @@ IsAnswerFor target.DateTime path = IsPrintedMoment path
 IsAnswerFor target.Staged path = IsPrinted (IsMoment greatest_year) offset_date_time_text
 IsAnswerFor target.Timestamp path = IsPrinted (IsTimestamp greatest_year) timestamp_text
 
--- The answer by the format that a description has.
+-- The answer for the target is the printed outcome of the text, which the description with that tree parses.
 abbrev pub IsDescribed : Tree → Target → List ℕ → List ℕ → Type 0
 IsDescribed tree target = IsAnswerFor target over_record (Description.Reads greatest_year tree)
     (Description.Refuses greatest_year tree)
 
--- The answer by a format with a name.
+-- The answer for the target is the printed outcome of the text, which the format parses.
 abbrev pub IsParsed : Format → Target → List ℕ → List ℕ → Type 0
 IsParsed format.Rfc3339 target =
     IsAnswerFor target (direct (RefusesRfc3339 greatest_year)) (Rfc3339.Reads greatest_year)
@@ -155,44 +159,53 @@ IsParsed format.Clock target = IsDescribed clock target
 IsParsed format.Unix target = IsDescribed unix target
 IsParsed format.Local target = IsDescribed local target
 
--- The answers to the lines, each followed by LF. P relates a line to its answer.
+-- The text is the answers to the lines in order, each followed by LF, and empty without lines. P relates a line to its
+-- answer.
 abbrev pub AreAnswers : (List ℕ → List ℕ → Type 0) → List (List ℕ) → List ℕ → Type 0
 AreAnswers P [] text = text ≡ []
 AreAnswers P (line ∷ lines) text =
     (answer : List ℕ) × (others : List ℕ)
     × P line answer × AreAnswers P lines others × (text ≡ answer ++ 10 ∷ others)
 
--- The writer's contents are followed by a text that has the property P.
+-- A text that has the property P is appended to the writer's contents. If the contents before are unknown, this states
+-- only that such a text exists, and nothing of the contents after.
 abbrev pub Writes : (List ℕ → Type 0) → Option (List ℕ) → Option (List ℕ) → Type 0
 Writes P old new = (text : List ℕ) × P text × Appends old new text
 
--- The writer's contents are followed by the answers to the lines of the input.
+-- The answers to the lines of the input, each followed by LF, are appended to the writer's contents, if they are known.
+-- P relates a line to its answer. An empty input has no lines.
 abbrev pub WritesAnswers : (List ℕ → List ℕ → Type 0) → Option (List ℕ) → Option (List ℕ) → List ℕ → Type 0
 WritesAnswers P old new input = Writes (AreAnswers P (line_texts input)) old new
 
 -- ---- Why a call returned early
 
--- The count of failed reads rose, or 4294967296 reads returned at least a byte each.
+-- The count of failed reads rose from `faults` to `faults'`, or the count of bytes read rose from `given` to `given'`
+-- by 4294967296 or more, as after as many reads of at least a byte each. The counts stop at 2^64 - 1, and one that is
+-- there afterwards counts as risen.
 abbrev pub IsUnread : ℕ → ℕ → ℕ → ℕ → Type 0
 IsUnread faults faults' given given' = Rises faults faults' ⊎ (count_more given (2 ^ 32) ≤ given')
 
--- If a read stopped the call, `IsUnread` holds. Otherwise the count of failed reads is unchanged.
+-- If a read stopped the call, the count of failed reads rose, or that of bytes read rose by 4294967296 or more, as in
+-- `IsUnread`. After any other stop the count of failed reads is unchanged.
 abbrev pub IsReadCounted : Stop → ℕ → ℕ → ℕ → ℕ → Type 0
 IsReadCounted Unread faults faults' given given' = IsUnread faults faults' given given'
 IsReadCounted Memory faults faults' given given' = faults' ≡ faults
 IsReadCounted Unwritten faults faults' given given' = faults' ≡ faults
 
--- As `IsReadCounted` after an early return. The count of failed reads is unchanged after `Ok`.
+-- If a read stopped the call, the count of failed reads rose, or that of bytes read rose by 4294967296 or more, as in
+-- `IsUnread`. After any other early return and after `Ok` the count of failed reads is unchanged.
 abbrev pub HasReadCause : {V : Type 0} → Result V Stop → ℕ → ℕ → ℕ → ℕ → Type 0
 HasReadCause result faults faults' given given' =
     MatchResult result (λ _. faults' ≡ faults) (λ stop. IsReadCounted stop faults faults' given given')
 
--- The count of failed writes rose if a write stopped the call, and is unchanged if anything else did.
+-- The count of failed writes rose from `before` to `now` if a write stopped the call, and is unchanged if anything else
+-- did.
 abbrev pub IsWriteCounted : Stop → ℕ → ℕ → Type 0
 IsWriteCounted Unread before now = now ≡ before
 IsWriteCounted Memory before now = now ≡ before
 IsWriteCounted Unwritten before now = Rises before now
 
--- As `IsWriteCounted` after an early return. The count of failed writes is unchanged after `Ok`.
+-- The count of failed writes rose if a write stopped the call, and is unchanged after any other early return and after
+-- `Ok`.
 abbrev pub HasWriteCause : {V : Type 0} → Result V Stop → ℕ → ℕ → Type 0
 HasWriteCause result before now = MatchResult result (λ _. now ≡ before) (λ stop. IsWriteCounted stop before now)

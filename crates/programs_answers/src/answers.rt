@@ -15,7 +15,7 @@ use time_parsing::Parsable;
 use time_record::Parsed;
 use time_values::error::Parse;
 
-// Writes the error of a component that couldn't be parsed.
+// Writes `error: the 'NAME' component could not be parsed` with this name, without LF.
 #[inline(always)]
 fn write_missing<W: Sink>(name: &str, out: &mut W) -> Result<(), Unwritten>
     ensures bytes { OnOk result (Appends (W.contents out.old) (W.contents out.new)
@@ -28,7 +28,7 @@ fn write_missing<W: Sink>(name: &str, out: &mut W) -> Result<(), Unwritten>
     out.write_all(b"' component could not be parsed")
 }
 
-// Writes the error of a parse.
+// Writes `error: ` and the text of the parse error, without LF.
 #[cold]
 #[inline(never)]
 fn write_error<W: Sink>(error: Parse, out: &mut W) -> Result<(), Unwritten>
@@ -45,7 +45,8 @@ fn write_error<W: Sink>(error: Parse, out: &mut W) -> Result<(), Unwritten>
     write!(out, "error: {error}")
 }
 
-/// Writes a value, or `error: ` and the error's text.
+/// Writes the text of the value, or `error: ` and the error's text, without LF. `Err` if a write failed, after which a
+/// part may have been written.
 #[inline(always)]
 pub fn write_outcome<V: Layout, W: Sink>(
     outcome: Result<V, Parse>,
@@ -62,7 +63,9 @@ pub fn write_outcome<V: Layout, W: Sink>(
     value.write_to(out)
 }
 
-/// Parses the text by the format for the target, and writes the value, or `error: ` and the error's text.
+/// Parses the whole text by the format for the target, and writes the value, or `error: ` and the error's text, without
+/// LF. `Staged` is parsed with an empty record as defaults, and any other target without defaults. `Err` if a write
+/// failed, after which a part may have been written.
 #[inline(always)]
 pub fn write_value<F: Parsable, W: Sink>(
     format: &F,

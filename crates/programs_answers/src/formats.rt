@@ -11,19 +11,20 @@ use time_readers::{
 /// The formats that a line may name.
 #[derive(Clone, Copy, Debug)]
 pub enum Format {
-    /// RFC 3339, section 5.6.
+    /// A date, time and offset of RFC 3339, section 5.6, as `1985-04-12T23:20:50.52Z`.
     Rfc3339,
-    /// Mail dates, RFC 2822, section 3.3.
+    /// A date, time and offset of a mail, RFC 2822, section 3.3, as `Sat, 02 Jan 2021 03:04:05 +0000`.
     Rfc2822,
-    /// ISO 8601.
+    /// A date of ISO 8601, which a time may follow; or else a time; or else an offset. An offset may follow a time, as
+    /// in `2021-01-02T03:04:05,25-00:30`.
     Iso8601,
-    /// A date, as `2021-03-04`.
+    /// A date, as `2021-03-04`, with a year of four digits and an optional sign before it.
     Ymd,
     /// A time on a clock of 12 hours, as `1:05:09.25 PM`; the second and its fraction are optional.
     Clock,
-    /// Seconds since 1970-01-01T00:00:00Z.
+    /// Whole seconds since 1970-01-01T00:00:00Z, with an optional sign.
     Unix,
-    /// A date, time and offset, as `2021-01-02 03:04:05 -00:30`, or a year and its day, as `2020-366`.
+    /// A date, time and offset, as `2021-01-02 03:04:05 -00:30`, or a year and a day of the year, as `2020-366`.
     Local,
 }
 
@@ -36,26 +37,26 @@ pub enum Target {
     Time,
     /// An offset from UTC.
     Offset,
-    /// A date and time.
+    /// A date and time without an offset.
     Plain,
     /// A date and time in UTC.
     Utc,
     /// A date, time and offset.
     DateTime,
-    /// A date, time and offset, always parsed over a record.
+    /// A date, time and offset, parsed over a given empty record, and so never on a direct path.
     Staged,
-    /// An instant.
+    /// An instant, printed as nanoseconds since 1970-01-01T00:00:00Z.
     Timestamp,
 }
 
-// The value of the first of these names that equals the bytes, if one does.
+// `Some` of the value after the first of these names that equals the bytes, or `None` if no name does.
 macro_rules! value_named {
     ($bytes:expr, $($name:literal => $value:expr),+) => {
         $(if $bytes == $name.as_slice() { Some($value) } else)+ { None }
     };
 }
 
-/// The format with this name, if there is one.
+/// The format with this name, as `rfc3339`: its variant's name in lower case. `None` for any other name.
 pub fn find_format(name: &[u8]) -> Option<Format>
     ensures { result ≡ formats.format_named name.now }
 {
@@ -71,7 +72,7 @@ pub fn find_format(name: &[u8]) -> Option<Format>
     )
 }
 
-/// The target with this name, if there is one.
+/// The target with this name, as `datetime`: its variant's name in lower case. `None` for any other name.
 pub fn find_target(name: &[u8]) -> Option<Target>
     ensures { result ≡ formats.target_named name.now }
 {
@@ -88,35 +89,37 @@ pub fn find_target(name: &[u8]) -> Option<Target>
     )
 }
 
-// A component of a description.
+// The item of a component of a description: its kind, and the fields of its modifier.
 macro_rules! item {
     ($name:ident, $($field:ident: $value:expr),*) => {
         BorrowedFormatItem::Component(Component::$name(modifier::$name { $($field: $value),* }))
     };
 }
 
-/// An item that parses these items one after another.
+/// An item that parses these items one after another. Without items it parses the empty text.
 pub fn compound<'a>(items: &'a [BorrowedFormatItem<'a>]) -> BorrowedFormatItem<'a>
     ensures { borrowed_shape result ≡ sequence (trees (map borrowed_shape items.now)) }
 {
     BorrowedFormatItem::Compound(items)
 }
 
-/// An item that parses by the first of these items that accepts the text.
+/// An item that parses by the first of these items that succeeds where it is tried. Without items it parses the empty
+/// text.
 pub fn first<'a>(items: &'a [BorrowedFormatItem<'a>]) -> BorrowedFormatItem<'a>
     ensures { borrowed_shape result ≡ first_of (trees (map borrowed_shape items.now)) }
 {
     BorrowedFormatItem::First(items)
 }
 
-// A year of four digits.
+// A year of four digits, with an optional sign.
 fn year() -> BorrowedFormatItem<'static>
     ensures { borrowed_shape result ≡ formats.year }
 {
     item!(CalendarYearFullStandardRange, padding: Padding::Zero, sign_is_mandatory: false)
 }
 
-/// `2021-03-04`.
+/// The items of a date such as `2021-03-04`: a year of four digits with an optional sign, and a month and a day of two
+/// digits.
 pub fn date_items() -> [BorrowedFormatItem<'static>; 5]
     ensures { map borrowed_shape result ≡ formats.date_parts }
 {
@@ -129,7 +132,8 @@ pub fn date_items() -> [BorrowedFormatItem<'static>; 5]
     ]
 }
 
-/// `2021-01-02 03:04:05 -00:30` in fifteen items, and then `2020-366` in three.
+/// The fifteen items of a date, time and offset such as `2021-01-02 03:04:05 -00:30`, and then the three items of a
+/// year and a day of the year such as `2020-366`.
 pub fn local_items() -> [BorrowedFormatItem<'static>; 18]
     ensures date_time { map borrowed_shape (take 15 result) ≡ formats.date_time_parts }
     ensures ordinal { map borrowed_shape (drop 15 result) ≡ formats.ordinal_parts }
@@ -157,7 +161,7 @@ pub fn local_items() -> [BorrowedFormatItem<'static>; 18]
     ]
 }
 
-/// `.25`.
+/// The items of a dot and the one or more digits of a fraction, as `.25`.
 pub fn fraction_items() -> [BorrowedFormatItem<'static>; 2]
     ensures { map borrowed_shape result ≡ formats.fraction_parts }
 {
@@ -167,7 +171,7 @@ pub fn fraction_items() -> [BorrowedFormatItem<'static>; 2]
     ]
 }
 
-/// `:09`, with an optional fraction.
+/// The items of a colon and a second of two digits, as `:09`, and then `fraction`, which is made optional.
 pub fn second_items<'a>(fraction: &'a BorrowedFormatItem<'a>) -> [BorrowedFormatItem<'a>; 3]
     ensures { map borrowed_shape result ≡ formats.second_parts (borrowed_shape fraction.now) }
 {
@@ -178,7 +182,8 @@ pub fn second_items<'a>(fraction: &'a BorrowedFormatItem<'a>) -> [BorrowedFormat
     ]
 }
 
-/// `1:05 PM`, with optional seconds before the space.
+/// The items of a time such as `1:05 PM`, with `seconds`, which is made optional, before the space. The hour needs no
+/// padding, and `AM` or `PM` may be in any case.
 pub fn clock_items<'a>(seconds: &'a BorrowedFormatItem<'a>) -> [BorrowedFormatItem<'a>; 6]
     ensures { map borrowed_shape result ≡ formats.clock_parts (borrowed_shape seconds.now) }
 {
@@ -192,7 +197,7 @@ pub fn clock_items<'a>(seconds: &'a BorrowedFormatItem<'a>) -> [BorrowedFormatIt
     ]
 }
 
-/// Seconds since 1970-01-01T00:00:00Z.
+/// A description of version 3: the whole seconds since 1970-01-01T00:00:00Z in decimal digits, with an optional sign.
 pub fn unix() -> FormatDescriptionV3<'static>
     ensures { v3_shape result.inner ≡ formats.unix }
 {

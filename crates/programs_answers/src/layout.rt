@@ -12,7 +12,7 @@ use byte_streams::{Sink, Unwritten};
 use time_values::digits::{four, nine, pair};
 use time_values::{Date, OffsetDateTime, PlainDateTime, Time, Timestamp, UtcDateTime, UtcOffset};
 
-// `YYYY-MM-DD`.
+// `YYYY-MM-DD`, of these numbers in decimal digits.
 #[inline]
 fn date_bytes(year: u32, month: u8, day: u8) -> [u8; 10]
     requires year_in { year < 10000 }
@@ -26,7 +26,7 @@ fn date_bytes(year: u32, month: u8, day: u8) -> [u8; 10]
     [y1, y2, y3, y4, b'-', m1, m2, b'-', d1, d2]
 }
 
-// `HH:MM:SS.nnnnnnnnn`.
+// `HH:MM:SS.nnnnnnnnn`, of these numbers in decimal digits.
 #[inline]
 fn time_bytes(hour: u8, minute: u8, second: u8, nanosecond: u32) -> [u8; 18]
     requires hour_in { hour < 100 }
@@ -45,7 +45,7 @@ fn time_bytes(hour: u8, minute: u8, second: u8, nanosecond: u32) -> [u8; 18]
     ]
 }
 
-// `HH:MM:SS`, after the given sign.
+// The given sign byte, and then `HH:MM:SS`.
 #[inline]
 fn offset_bytes(sign: u8, hours: u8, minutes: u8, seconds: u8) -> [u8; 9]
     requires hours_in { hours < 100 }
@@ -59,7 +59,7 @@ fn offset_bytes(sign: u8, hours: u8, minutes: u8, seconds: u8) -> [u8; 9]
     [sign, h1, h2, b':', m1, m2, b':', s1, s2]
 }
 
-// `YYYY-MM-DD`, with the last four digits of the year.
+// `YYYY-MM-DD`, with only the last four digits of the year, and without its sign.
 #[inline(always)]
 fn lay_date(date: Date) -> [u8; 10]
     ensures { year_front (Dates.year date) ++ result ≡ date_text date }
@@ -79,7 +79,7 @@ fn lay_time(time: Time) -> [u8; 18]
     time_bytes(time.hour(), time.minute(), time.second(), time.nanosecond())
 }
 
-// `+HH:MM:SS`, or with `-` if a part is negative.
+// `+HH:MM:SS`, or with `-` if the hours, minutes or seconds are negative.
 #[inline(always)]
 fn lay_offset(offset: UtcOffset) -> [u8; 9]
     ensures { result ≡ offset_text offset }
@@ -98,7 +98,7 @@ fn lay_offset(offset: UtcOffset) -> [u8; 9]
     )
 }
 
-// Date and time with a space between them, with the last four digits of the year.
+// Date and time with a space between them, with only the last four digits of the year, and without its sign.
 #[inline(always)]
 fn lay_date_time(date: Date, time: Time) -> [u8; 29]
     ensures { year_front (Dates.year date) ++ result ≡ date_time_text date time }
@@ -109,7 +109,8 @@ fn lay_date_time(date: Date, time: Time) -> [u8; 29]
     text
 }
 
-// Date, time and offset with spaces between them, with the last four digits of the year.
+// Local date, local time and offset with spaces between them, with only the last four digits of the year, and without
+// its sign.
 #[inline(always)]
 fn lay_moment(moment: OffsetDateTime) -> [u8; 39]
     ensures { year_front (Dates.year (offset_date moment)) ++ result ≡ offset_date_time_text moment }
@@ -120,7 +121,7 @@ fn lay_moment(moment: OffsetDateTime) -> [u8; 39]
     text
 }
 
-// Writes a minus before a negative year.
+// Writes a minus if the date's year is negative, and else nothing.
 fn write_sign<W: Sink>(date: Date, out: &mut W) -> Result<(), Unwritten>
     ensures bytes { OnOk result (Appends (W.contents out.old) (W.contents out.new) (minus_if (is_negative (Dates.year date)))) }
     ensures cause { HasCause result (W.faults out.old) (W.faults out.new) }
@@ -133,7 +134,7 @@ fn write_sign<W: Sink>(date: Date, out: &mut W) -> Result<(), Unwritten>
     }
 }
 
-// Writes the digits of a year before its last four.
+// Writes the decimal digits of a year before its last four, or nothing if the year is below 10000.
 fn write_leading_digits<W: Sink>(year: u32, out: &mut W) -> Result<(), Unwritten>
     ensures bytes { OnOk result (Appends (W.contents out.old) (W.contents out.new) (leading_digits year)) }
     ensures cause { HasCause result (W.faults out.old) (W.faults out.new) }
@@ -146,7 +147,7 @@ fn write_leading_digits<W: Sink>(year: u32, out: &mut W) -> Result<(), Unwritten
     out.write_all(buffer.format(year / 10_000).as_bytes())
 }
 
-// Writes the text before the last four digits of a date's year: nothing for most years.
+// Writes the text before the last four digits of a date's year, a minus and further digits: nothing for 0 to 9999.
 #[inline(always)]
 fn write_year_front<W: Sink>(date: Date, out: &mut W) -> Result<(), Unwritten>
     ensures bytes { OnOk result (Appends (W.contents out.old) (W.contents out.new) (year_front (Dates.year date))) }
@@ -160,19 +161,19 @@ fn write_year_front<W: Sink>(date: Date, out: &mut W) -> Result<(), Unwritten>
     write_leading_digits(date.year().unsigned_abs(), out)
 }
 
-/// A value that is written as text.
+/// A value that is written as text, in one form for each type.
 pub trait Layout {
-    // The text of the value.
+    // The text that is written for a value.
     ghost text: { Self → List ℕ };
 
-    /// Writes the value's text.
+    /// Writes the value's text, without LF. `Err` if a write failed, after which a part may have been written.
     fn write_to<W: Sink>(self, out: &mut W) -> Result<(), Unwritten>
         ensures bytes { OnOk result (Appends (W.contents out.old) (W.contents out.new) (text self)) }
         ensures cause { HasCause result (W.faults out.old) (W.faults out.new) }
         ensures through { W.through out.new ≡ W.through out.old };
 }
 
-/// `YYYY-MM-DD`, after a minus if the year is negative, and with all digits of a year past 9999.
+/// `YYYY-MM-DD`, after a minus if the year is negative, and with all digits of a year that has more than four.
 impl Layout for Date {
     ghost text = { date_text };
 
@@ -193,7 +194,7 @@ impl Layout for Time {
     }
 }
 
-/// `+HH:MM:SS`, or with `-` if a part is negative.
+/// `+HH:MM:SS`, or with `-` if the hours, minutes or seconds are negative.
 impl Layout for UtcOffset {
     ghost text = { offset_text };
 
@@ -203,7 +204,8 @@ impl Layout for UtcOffset {
     }
 }
 
-// Writes date and time with a space between them.
+// Writes date and time with a space between them. The year has all its digits, at least four, after a minus if it is
+// negative.
 #[inline(always)]
 fn write_date_time<W: Sink>(date: Date, time: Time, out: &mut W) -> Result<(), Unwritten>
     ensures bytes { OnOk result (Appends (W.contents out.old) (W.contents out.new) (date_time_text date time)) }
@@ -214,7 +216,7 @@ fn write_date_time<W: Sink>(date: Date, time: Time, out: &mut W) -> Result<(), U
     out.write_all(&lay_date_time(date, time))
 }
 
-/// Date and time.
+/// Date, space and time, as `2021-01-02 03:04:05.000000000`.
 impl Layout for PlainDateTime {
     ghost text = { plain_text };
 
@@ -224,7 +226,7 @@ impl Layout for PlainDateTime {
     }
 }
 
-/// Date, time and ` +00:00:00`.
+/// Date, space, time and ` +00:00:00`, as `2021-01-02 03:04:05.000000000 +00:00:00`.
 impl Layout for UtcDateTime {
     ghost text = { utc_text };
 
@@ -235,7 +237,7 @@ impl Layout for UtcDateTime {
     }
 }
 
-/// Date, time, space and offset.
+/// Local date, space, local time, space and offset, as `2021-01-02 03:04:05.000000000 -00:30:00`.
 impl Layout for OffsetDateTime {
     ghost text = { offset_date_time_text };
 
@@ -246,7 +248,7 @@ impl Layout for OffsetDateTime {
     }
 }
 
-/// Nanoseconds since 1970-01-01T00:00:00Z.
+/// Nanoseconds since 1970-01-01T00:00:00Z in decimal digits, with a minus first if the instant is earlier.
 impl Layout for Timestamp {
     ghost text = { timestamp_text };
 

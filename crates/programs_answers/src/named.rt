@@ -17,7 +17,7 @@ use time_components::BorrowedFormatItem;
 use time_parsing::{Iso8601, Rfc2822, Rfc3339};
 use time_preparing::{Prepared, Unprepared};
 
-/// The formats that a line may name, with their descriptions prepared for many texts.
+/// The descriptions of the formats `Ymd`, `Clock` and `Local`, prepared for many texts. Other formats need none.
 #[derive(Drop)]
 pub struct Named {
     ymd: Prepared<5>,
@@ -38,7 +38,7 @@ impl Model for Named {
         × (steps_shape named.local ≡ sequence (trees (formats.local ∷ []))) };
 }
 
-// A date.
+// The prepared description of a date, as `2021-03-04`.
 fn ymd() -> Prepared<5>
     ensures { steps_shape result ≡ formats.ymd }
 {
@@ -48,7 +48,8 @@ fn ymd() -> Prepared<5>
     }
 }
 
-// A time on a clock of 12 hours.
+// The prepared description of a time on a clock of 12 hours, as `1:05:09.25 PM`; the second and its fraction are
+// optional.
 fn clock() -> Prepared<11>
     ensures { steps_shape result ≡ formats.clock }
 {
@@ -62,14 +63,15 @@ fn clock() -> Prepared<11>
     }
 }
 
-// A description that parses by the first of these lists that accepts the text.
+// The prepared description of a choice: it parses by the first of these items that succeeds. `Err` is the error of
+// `Prepared::from_items`, as `TooLong` for more than 21 steps.
 fn choice(lists: &[BorrowedFormatItem<'_>]) -> Result<Prepared<21>, Unprepared>
     ensures { Prepares 21 (trees (first_of (trees (map borrowed_shape lists.now)) ∷ [])) result }
 {
     Prepared::from_items(&[first(lists)])
 }
 
-// A date, time and offset, or a year and its day.
+// The prepared description of a date, time and offset, or of a year and a day of the year.
 fn local() -> Prepared<21>
     ensures { steps_shape result ≡ sequence (trees (formats.local ∷ [])) }
 {
@@ -82,7 +84,7 @@ fn local() -> Prepared<21>
 }
 
 impl Named {
-    /// Prepares the formats, and allocates nothing.
+    /// Prepares the descriptions of the formats `Ymd`, `Clock` and `Local`, and allocates nothing.
     pub fn new() -> Named
         ensures { formats.AreOfFormats result }
     {
@@ -93,7 +95,8 @@ impl Named {
         }
     }
 
-    // Parses the text as a date, time and offset, or as a year and its day, and writes the outcome.
+    // Parses the whole text by the format `Local` for the target, as a date, time and offset, or as a year and a day of
+    // the year, and writes the value, or `error: ` and the error's text, without LF.
     #[inline(always)]
     fn write_local<W: Sink>(
         &self,
@@ -109,8 +112,8 @@ impl Named {
         write_value(&self.local, target, text, out)
     }
 
-    /// Parses the text by a format with a name for the target, and writes the value, or `error: ` and the error's
-    /// text.
+    /// Parses the whole text by the format for the target, and writes the value, or `error: ` and the error's text,
+    /// without LF, as [`write_value`] does. `Err` if a write failed, after which a part may have been written.
     #[inline(always)]
     pub fn write_parsed<W: Sink>(
         &self,

@@ -13,7 +13,7 @@ use std::alloc::Allocator;
 pub enum Stop {
     /// A read failed, or the input didn't end within the reads that [`serve`] makes.
     Unread,
-    /// There is no memory for the input.
+    /// Memory for the input ran out.
     Memory,
     /// A write failed.
     Unwritten,
@@ -33,19 +33,20 @@ impl Stop {
     }
 }
 
-/// Writes the answers to lines.
+/// Writes the answers to lines, one line a call.
 pub trait LineHandler {
-    // Whether a text is the answer to a line.
+    // For a line and a text, both without LF: the text is the answer to the line.
     ghost is_answer: { Self → List ℕ → List ℕ → Type 0 };
 
-    /// Writes the answer to a line.
+    /// Writes the answer to the line. Neither has an LF. `Err` if a write failed, after which a part may have been
+    /// written.
     fn write_answer<W: Sink>(&self, line: &[u8], out: &mut W) -> Result<(), Unwritten>
         ensures bytes { OnOk result (Writes (is_answer self.now line.now) (W.contents out.old) (W.contents out.new)) }
         ensures cause { HasCause result (W.faults out.old) (W.faults out.new) }
         ensures through { W.through out.new ≡ W.through out.old };
 }
 
-// Writes the answer to a line, and LF.
+// Writes the answer to a line, and LF, to the buffer or to its sink.
 #[inline(always)]
 fn add_line<A: LineHandler, W: Sink>(
     handler: &A,
@@ -61,7 +62,7 @@ fn add_line<A: LineHandler, W: Sink>(
     out.write_all(b"\n")
 }
 
-// Answers all lines. The last answers may still be buffered.
+// Writes the answers to all lines of the input, each followed by LF. The last answers may still be buffered.
 #[inline(always)]
 fn answer_lines<A: LineHandler, W: Sink>(
     handler: &A,
@@ -83,10 +84,11 @@ fn answer_lines<A: LineHandler, W: Sink>(
     Ok(())
 }
 
-/// Writes the answer to each line of the input, and allocates nothing. Earlier contents of the buffer are dropped.
+/// Writes the answer to each line of the input and an LF after it, and allocates nothing. Earlier contents of the
+/// buffer are dropped.
 ///
-/// Each line ends with LF, which is optional after the last one. `Err` is the error of a write, after which it is
-/// unspecified how much was written.
+/// Each line ends with LF, which is optional after the last one. A handler's line has no LF. After `Ok` all answers are
+/// in the sink, which isn't flushed. `Err` if a write failed, after which it is unspecified how much was written.
 #[inline(always)]
 #[tactic(auto, using(crate::proofs::OutputLemmas::Writes_flushed))]
 pub fn run<A: LineHandler, W: Sink>(
@@ -104,10 +106,11 @@ pub fn run<A: LineHandler, W: Sink>(
     out.flush_buffer()
 }
 
-// After this many reads the input counts as endless.
+// After this many reads that don't reach the end, the input counts as endless: 2^32, each of at most 64 KiB.
 const MOST_READS: u64 = 4294967296;
 
-// Reads the rest of the source. A failed read isn't retried.
+// All bytes of the source from here to its end. `Unread` after a failed read, which isn't retried, or if `MOST_READS`
+// reads don't reach the end; `Memory` if memory runs out. The error is never `Unwritten`.
 fn read_all<R: Source, G: Allocator>(alloc: G, input: &mut R) -> Result<Vec<u8, G>, Stop>
     ensures all { IfOk result (λ text. IfSome (R.remaining input.old) (λ bytes. text.items ≡ bytes)) }
     ensures unwritten { IfErr result (λ stop. stop ≢ Stop.Unwritten) }
@@ -127,11 +130,12 @@ fn read_all<R: Source, G: Allocator>(alloc: G, input: &mut R) -> Result<Vec<u8, 
     Err(Stop::Unread)
 }
 
-/// Reads the input to its end, with at most 4294967296 reads, and writes the answer to each of its
-/// lines.
+/// Reads the input to its end, with at most 4294967296 reads, and writes the answer to each of its lines and an LF
+/// after it, as [`run`] does.
 ///
-/// A failed read isn't retried, not even an interrupted one. After [`Stop::Unread`] or
-/// [`Stop::Memory`] nothing was written.
+/// A failed read isn't retried, not even an interrupted one. The sink isn't flushed. After [`Stop::Unread`] or
+/// [`Stop::Memory`] nothing was written, and `out` is unchanged. After [`Stop::Unwritten`] it is unspecified how much
+/// was.
 #[inline(always)]
 pub fn serve<A: LineHandler, R: Source, W: Sink, G: Allocator>(
     handler: &A,

@@ -11,20 +11,21 @@ use std::rt::Files;
 use std::time::Clock;
 use std::{fs, io};
 
-// The permission bits of a mode.
+// The permission bits of a mode, with set-user-ID, set-group-ID and sticky.
 const MODE: u32 = 0o7777;
 
-/// A folder of the file system.
+/// A folder of the file system, in which one file is replaced.
 #[derive(Drop)]
 pub(crate) struct DiskFolder<'a, R> {
     rt: &'a R,
     progress: &'a Progress<'a, R>,
+    // The folder's absolute path, without symbolic links.
     path: PathBuf,
-    // The path of the file, as given.
+    // The path of the file as the command line has it.
     shown: &'a str,
 }
 
-// Why a file of that kind can't be replaced; `None` if it can.
+// Why a file can't be replaced; `None` for a regular file with a single name, which can.
 fn refusal_of(metadata: &Metadata) -> Option<&'static str> {
     let kind = metadata.file_type();
     if kind.is_file() {
@@ -41,12 +42,9 @@ fn refusal_of(metadata: &Metadata) -> Option<&'static str> {
     })
 }
 
-// The state of a file when its metadata was read, or an error if it can't be replaced.
-fn original_of(metadata: &Metadata) -> io::Result<Original> {
-    if let Some(why) = refusal_of(metadata) {
-        return Err(io::Error::new(ErrorKind::InvalidInput, why));
-    }
-    Ok(Original {
+// The state of a file when its metadata was read.
+fn state_of(metadata: &Metadata) -> Original {
+    Original {
         number: metadata.ino(),
         device: metadata.dev(),
         length: metadata.len(),
@@ -54,10 +52,19 @@ fn original_of(metadata: &Metadata) -> io::Result<Original> {
         mode: metadata.mode() & MODE,
         owner: metadata.uid(),
         group: metadata.gid(),
-    })
+    }
 }
 
-/// The folder that contains the file of a path, and the file's name there. A symbolic link is followed.
+// The state of a file, or the error `InvalidInput` if it isn't a regular file with a single name.
+fn original_of(metadata: &Metadata) -> io::Result<Original> {
+    match refusal_of(metadata) {
+        Some(why) => Err(io::Error::new(ErrorKind::InvalidInput, why)),
+        None => Ok(state_of(metadata)),
+    }
+}
+
+/// The folder that contains the file of a path, and the file's name there. Symbolic links are followed. An error if
+/// there is no such file, or the path is that of the root folder.
 pub(crate) fn find<'a, R: Files + AllocGlobal>(
     rt: &'a R,
     progress: &'a Progress<'a, R>,
@@ -79,12 +86,12 @@ pub(crate) fn find<'a, R: Files + AllocGlobal>(
 }
 
 impl<'a, R: Files + Clock + Eprint + AllocGlobal> DiskFolder<'a, R> {
-    // The path of a name in the folder.
+    // The path of a name in the folder. The error is that memory is short.
     fn path_of(&self, name: &str) -> io::Result<PathBuf> {
         Ok(self.path.join(self.rt.alloc(), name)?)
     }
 
-    // The meter of a file of that size, if progress is reported.
+    // The meter of a file of that size in bytes, 0 if unknown; `None` if progress isn't reported, or by `begin`.
     fn meter(&self, size: u64) -> Option<Meter> {
         if !self.progress.is_enabled() {
             return None;
@@ -94,7 +101,7 @@ impl<'a, R: Files + Clock + Eprint + AllocGlobal> DiskFolder<'a, R> {
             .begin(self.rt.alloc(), self.shown.as_bytes(), size)
     }
 
-    // Sets the owner and the group of a file to those of the original, if that is permitted.
+    // Sets the group and owner of a file to those of the original, if they differ. Failures to set them are ignored.
     fn keep_owner(&self, name: &str, original: &Original) -> io::Result<()> {
         let path = self.path_of(name)?;
         let made = fs::symlink_metadata(self.rt, path.as_path())?;
@@ -133,10 +140,10 @@ impl<'a, R: Files + Clock + Eprint + AllocGlobal> Folder for DiskFolder<'a, R> {
         ))
     }
 
+    // Allows a second name, which the file has after `link`.
     fn is_at(&self, name: &str, original: &Original) -> io::Result<bool> {
         let path = self.path_of(name)?;
-        let seen = original_of(&fs::symlink_metadata(self.rt, path.as_path())?)?;
-        Ok(seen == *original)
+        Ok(state_of(&fs::symlink_metadata(self.rt, path.as_path())?) == *original)
     }
 
     fn create(&mut self, name: &str) -> io::Result<Self::New> {

@@ -10,7 +10,7 @@ use std::alloc::Global;
 use std::io;
 use std::io::{BufWriter, ErrorKind};
 
-// The name of a file's backup; `None` if none is requested.
+// The name of a file's backup, by `backup_name`; `None` if the suffix is empty. The error is that memory is short.
 fn backup_of(alloc: Global, name: &str, suffix: &str) -> io::Result<Option<String>> {
     if suffix.is_empty() {
         return Ok(None);
@@ -18,7 +18,7 @@ fn backup_of(alloc: Global, name: &str, suffix: &str) -> io::Result<Option<Strin
     Ok(Some(backup_name(alloc, name, suffix)?))
 }
 
-// A file of that name in its folder.
+// The file of that name in its folder, with the name of its backup, if any, and its name in reports.
 fn target_of<'a>(name: &'a str, backup: Option<&'a str>, shown: &'a [u8]) -> Target<'a> {
     Target {
         name,
@@ -27,7 +27,8 @@ fn target_of<'a>(name: &'a str, backup: Option<&'a str>, shown: &'a [u8]) -> Tar
     }
 }
 
-// Replaces a file, or returns why it can't be replaced.
+// Replaces the file of the path `shown`; a path that isn't UTF-8 is an error. Returns the log, the counts of the file's
+// lines, and what was done, or why the file wasn't replaced.
 fn try_to_replace<'a, L: Sink + Drop>(
     rt: &'a HostRuntime,
     request: &Request<'_>,
@@ -61,8 +62,9 @@ fn try_to_replace<'a, L: Sink + Drop>(
     replace(request, target, &mut folder, rt.alloc(), log, block)
 }
 
-// Replaces a file, and logs why if that fails. Returns a stop only for a rejected line at which processing stops, or a
-// failed write to the log: after any other failure the next file is replaced.
+// Replaces a file, and logs why if that fails. Returns the log, the counts of the file's lines, and a stop only for a
+// rejected line at which processing stops, or a failed write to the log. Any other failure counts the file as unread,
+// and the next file may be replaced.
 fn replace_next<'a, L: Sink + Drop>(
     rt: &'a HostRuntime,
     request: &Request<'_>,
@@ -86,14 +88,15 @@ fn replace_next<'a, L: Sink + Drop>(
     (log, tally, stop)
 }
 
-// Adds a file's counts to the total.
+// Adds the counts on which the exit status depends to the total: of rewritten and rejected lines, and of unread files.
 fn add(total: &mut Tally, file: &Tally) {
     total.rewritten = total.rewritten.saturating_add(file.rewritten);
     total.refused = total.refused.saturating_add(file.refused);
     total.unread = total.unread.saturating_add(file.unread);
 }
 
-/// Replaces the files, one after the other, and returns the exit status.
+/// Replaces the files, one after the other, until one returns a stop, and returns the exit status. The error is that
+/// memory is short.
 pub(crate) fn replace_all(
     rt: &HostRuntime,
     request: &Request<'_>,

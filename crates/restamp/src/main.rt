@@ -27,7 +27,7 @@ use std::{env, io};
 use time_values::UtcDateTime;
 use words::words_of;
 
-// The names of the files, or that of standard input if none is given.
+// The names of the files; `-`, which is standard input, if none is given. The error is that memory is short.
 fn names_of<'m>(
     rt: &HostRuntime,
     matches: &'m ArgMatches<'_>,
@@ -44,7 +44,7 @@ fn names_of<'m>(
     Ok(names)
 }
 
-// Prints the error of an option.
+// Prints on standard error the error of an option. Returns the exit status, 2.
 fn report(rt: &HostRuntime, fault: Fault<'_>) -> io::Result<u8> {
     match fault.place() {
         Some((option, value)) => {
@@ -56,7 +56,7 @@ fn report(rt: &HostRuntime, fault: Fault<'_>) -> io::Result<u8> {
     Ok(2)
 }
 
-// Prints why the output wasn't written, unless its reader has closed the pipe.
+// Prints on standard error why the output wasn't written; nothing for `None`, and if its reader has closed the pipe.
 fn report_unwritten(rt: &HostRuntime, failure: Option<ErrorKind>) -> io::Result<()> {
     match failure {
         Some(ErrorKind::BrokenPipe) => Ok(()),
@@ -93,7 +93,7 @@ fn answer(
     Ok(status(&tally, stop, request.strict))
 }
 
-// Prints the completions of a shell.
+// Prints the completions of a shell. Returns the exit status: 0, or 2 for an unknown shell, which is reported.
 fn complete(rt: &HostRuntime, shell: &str) -> io::Result<u8> {
     match completions_of(shell) {
         Some(text) => {
@@ -109,13 +109,13 @@ fn complete(rt: &HostRuntime, shell: &str) -> io::Result<u8> {
     }
 }
 
-// The clock's moment; `None` if there is no date for it.
+// The clock's moment; `None` if the clock can't be read, or there is no date for it.
 fn now_of(rt: &HostRuntime) -> Option<UtcDateTime> {
     let time = SystemTime::now(rt).ok()?;
     UtcDateTime::try_from(time).ok()
 }
 
-// Whether reports go to a terminal that isn't dumb.
+// Whether standard error is a terminal that isn't dumb: `TERM` isn't `dumb`.
 fn has_terminal(rt: &HostRuntime) -> bool {
     let is_dumb = match env::var(rt, "TERM") {
         Ok(name) => name.as_str() == "dumb",
@@ -124,13 +124,14 @@ fn has_terminal(rt: &HostRuntime) -> bool {
     rt.stderr().is_terminal() && !is_dumb
 }
 
-// Whether reports go to a terminal that shows colours.
+// Whether standard error is a terminal that isn't dumb, and `NO_COLOR` isn't set to a UTF-8 text, not even the empty
+// one.
 fn shows_colors(rt: &HostRuntime) -> bool {
     has_terminal(rt) && env::var(rt, "NO_COLOR").is_err()
 }
 
-// How progress is reported. If standard output is a terminal too, each report is a line of its own, so that none
-// overwrites the end of another line.
+// How progress is reported: not at all without `--progress`. Each report is a line of its own if standard error is no
+// terminal or a dumb one, or if standard output is a terminal too: no report then overwrites the end of another line.
 fn reporter_of(rt: &HostRuntime, matches: &ArgMatches<'_>) -> Reporter {
     if !matches.get_flag("progress") {
         Reporter::Nothing
@@ -141,7 +142,7 @@ fn reporter_of(rt: &HostRuntime, matches: &ArgMatches<'_>) -> Reporter {
     }
 }
 
-// Prints that --in-place doesn't take standard input. Returns the exit status, 2.
+// Prints on standard error that --in-place rejects standard input. Returns the exit status, 2.
 fn report_input(rt: &HostRuntime) -> io::Result<u8> {
     eprintln!(rt;
         "error: --in-place takes files, and not standard input\n\nFor more information, try '--help'."
@@ -149,7 +150,8 @@ fn report_input(rt: &HostRuntime) -> io::Result<u8> {
     Ok(2)
 }
 
-// Replaces the files, or prints an error if one of them is standard input.
+// Replaces the files, and returns the exit status. Prints an error instead if one of them is standard input, also if no
+// file is given, or if an option rejects its value.
 #[inline(never)]
 fn follow_in_place(rt: &HostRuntime, matches: &ArgMatches<'_>) -> io::Result<u8> {
     let names = names_of(rt, matches)?;
@@ -164,7 +166,7 @@ fn follow_in_place(rt: &HostRuntime, matches: &ArgMatches<'_>) -> io::Result<u8>
     }
 }
 
-// Processes the files, or standard input.
+// Processes the files, or standard input without any; or prints why the options are rejected. Returns the exit status.
 #[inline(never)]
 fn follow_lines(rt: &HostRuntime, matches: &ArgMatches<'_>) -> io::Result<u8> {
     let names = names_of(rt, matches)?;
@@ -174,8 +176,8 @@ fn follow_lines(rt: &HostRuntime, matches: &ArgMatches<'_>) -> io::Result<u8> {
     }
 }
 
-// Does what the options request. Each way of rewriting is a function with its own frame, since that holds the bytes
-// that it reads.
+// Does what the options request, and returns the exit status. Processing and replacing files are functions with their
+// own frames, since a frame has the bytes that are read.
 fn follow(rt: &HostRuntime, matches: &ArgMatches<'_>) -> io::Result<u8> {
     if let Some(shell) = matches.get_str("completions") {
         return complete(rt, shell);
@@ -187,7 +189,7 @@ fn follow(rt: &HostRuntime, matches: &ArgMatches<'_>) -> io::Result<u8> {
     }
 }
 
-// Does what the command line requests, and returns the exit status.
+// Does what the command line requests, and returns the exit status: 2 for a rejected command line, which is reported.
 fn run(rt: &HostRuntime) -> io::Result<u8> {
     let Some(words) = words_of(rt)? else {
         return Ok(2);
@@ -202,8 +204,8 @@ fn run(rt: &HostRuntime) -> io::Result<u8> {
     }
 }
 
-// Prints the error that ended the program, unless the reader of its output has closed the pipe. Nothing is printed if
-// standard error is what failed.
+// Prints on standard error the error that ended the program, unless the reader of its output has closed the pipe. A
+// failed write to standard error is ignored.
 fn report_failed(rt: &HostRuntime, error: io::Error) {
     if error.kind() != ErrorKind::BrokenPipe {
         eprintln!(rt; "restamp: {error}").unwrap_or(());

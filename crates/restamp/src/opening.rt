@@ -17,11 +17,11 @@ pub(crate) struct Disk<'a, R> {
     rt: &'a R,
     opener: Opener<'a, R>,
     progress: &'a Progress<'a, R>,
-    // How many of the closed files had been cut off.
+    // How many of the closed inputs had been cut off: a read failed, or the reads returned at least 2^64 - 1 bytes.
     cut_off: u64,
 }
 
-/// An input.
+/// An input: a file or standard input.
 #[derive(Drop)]
 pub(crate) enum Origin<F: Drop, I: Drop> {
     /// A file.
@@ -48,7 +48,7 @@ impl<F: Source + Drop, I: Source + Drop> Source for Origin<F, I> {
 }
 
 impl<F: Drop, I: Drop> Origin<Counted<F>, Counted<I>> {
-    // The count of inputs that were cut off, with this one added if it was.
+    // `count`, a number of inputs that were cut off, plus one if this input was; at most 2^64 - 1.
     fn count_cut_off(&self, count: u64) -> u64
         ensures cut_off { IsCutOff 0 (faults_of self.now) (given_of self.now) → Rises count result }
         ensures whole { ¬ IsCutOff 0 (faults_of self.now) (given_of self.now) → result ≡ count }
@@ -61,7 +61,7 @@ impl<F: Drop, I: Drop> Origin<Counted<F>, Counted<I>> {
     }
 }
 
-/// A source that reports its progress.
+/// A source that reports its progress; without a meter it reports nothing.
 #[derive(Drop)]
 pub(crate) struct Metered<'a, R, S: Drop> {
     source: S,
@@ -70,6 +70,7 @@ pub(crate) struct Metered<'a, R, S: Drop> {
 }
 
 impl<'a, R, S: Drop> Metered<'a, R, S> {
+    /// The source, which reports its progress by the meter; for `None` it reports nothing.
     pub(crate) fn new(
         source: S,
         meter: Option<Meter>,
@@ -106,7 +107,7 @@ impl<R: Clock + Eprint, S: Source + Drop> Source for Metered<'_, R, S> {
     }
 }
 
-// The size of a file, if it is known and not 0.
+// The size of a file in bytes; `None` if it is unknown or 0.
 fn size_of(metadata: io::Result<Metadata>) -> Option<u64> {
     match metadata.ok()?.len() {
         0 => None,
@@ -115,6 +116,7 @@ fn size_of(metadata: io::Result<Metadata>) -> Option<u64> {
 }
 
 impl<'a, R: Files + Input + Clock + Eprint + AllocGlobal> Disk<'a, R> {
+    /// The files of the system, of which none has been opened.
     pub(crate) fn new(rt: &'a R, progress: &'a Progress<'a, R>) -> Disk<'a, R> {
         Disk {
             rt,
@@ -124,7 +126,7 @@ impl<'a, R: Files + Input + Clock + Eprint + AllocGlobal> Disk<'a, R> {
         }
     }
 
-    // The source, which reports its progress if that is requested. `size` is its size, if known.
+    // The source, which reports its progress if that is enabled and `begin` returns a meter of that name and size.
     fn metered<S: Drop>(&self, name: &[u8], source: S, size: Option<u64>) -> Metered<'a, R, S>
         ensures { result.source ≡ source }
     {

@@ -6,7 +6,7 @@ use std::io;
 use std::io::Write;
 use std::time::Clock;
 
-/// A writer that first erases the progress line of the terminal.
+/// A writer that erases the progress line of the terminal before each write, but not before a flush.
 #[derive(Drop)]
 pub(crate) struct Erasing<'a, R, W: Drop> {
     out: W,
@@ -14,6 +14,7 @@ pub(crate) struct Erasing<'a, R, W: Drop> {
 }
 
 impl<'a, R, W: Drop> Erasing<'a, R, W> {
+    /// A writer to `out` that erases the progress line before each write.
     pub(crate) fn new(out: W, progress: &'a Progress<'a, R>) -> Erasing<'a, R, W>
         ensures { result.out ≡ out }
     {

@@ -19,7 +19,7 @@ const MEBIBYTE: u64 = 1048576;
 /// The most bytes of a name in a line of the terminal, which has 80 columns.
 const MOST: usize = 40;
 
-/// How progress is reported.
+/// How progress is reported on standard error.
 #[derive(Clone, Copy)]
 pub(crate) enum Reporter {
     /// It isn't reported.
@@ -30,7 +30,7 @@ pub(crate) enum Reporter {
     OneLine,
 }
 
-// A text, or the end of a longer one, at most 40 bytes.
+// A text of at most 40 bytes; of a longer one, the longest end of at most 40 bytes that starts with a whole character.
 fn end_of(text: &str) -> &str
     ensures end { spec.IsEnd text.now result.now }
     ensures bound { length result.now ≤ 40 }
@@ -38,8 +38,8 @@ fn end_of(text: &str) -> &str
     &text[text.ceil_char_boundary(text.len().saturating_sub(MOST))..]
 }
 
-// A name with its control bytes as `\x` and two digits; `None` if memory is short or the name isn't UTF-8. There is
-// no second way of reading.
+// A name with each ASCII control byte as `\x` and two hexadecimal digits; `None` if memory is short or the name isn't
+// UTF-8. This is not a fast path.
 fn displayed_name(alloc: Global, name: &[u8]) -> Option<String>
     ensures { IfSome result (λ shown. string_bytes shown ≡ displayed_name name.now) }
 {
@@ -49,7 +49,8 @@ fn displayed_name(alloc: Global, name: &[u8]) -> Option<String>
     String::from_utf8(shown).ok()
 }
 
-// The name of a file in reports; `None` if memory is short or the name isn't UTF-8: no second way of reading.
+// The displayed name of a file in progress reports, for `OneLine` only its end of at most 40 bytes; `None` if memory is
+// short or the name isn't UTF-8: not a fast path.
 fn reported_name(alloc: Global, reporter: Reporter, name: &[u8]) -> Option<String>
     ensures { IfSome result (λ reported. spec.IsReported reporter name.now (string_bytes reported)) }
 {
@@ -65,14 +66,18 @@ fn reported_name(alloc: Global, reporter: Reporter, name: &[u8]) -> Option<Strin
 pub(crate) struct Meter {
     // The file's name in reports.
     name: String,
+    // The file's size in bytes, if known.
     size: Option<u64>,
+    // How many bytes were read.
     read: u64,
+    // How many of them the last report had; 0 before the first report.
     reported: u64,
+    // When the last report was made, or before the first report, when the meter was made.
     since: Instant,
 }
 
 impl Meter {
-    /// Counts bytes that were read.
+    /// Adds `n` to the count of bytes that were read, which stops at 2^64 - 1.
     pub(crate) fn count(&mut self, n: usize)
         ensures read { self.new.read ≡ min (self.old.read + n) (2 ^ 64 - 1) }
         ensures reported { self.new.reported ≡ self.old.reported }
@@ -88,14 +93,14 @@ impl Meter {
         MEBIBYTE <= self.read.saturating_sub(self.reported)
     }
 
-    // Whether half a second has passed since the last report.
+    // Whether at least half a second has passed from the last report to `now`.
     fn is_old(&self, now: Instant) -> bool
         ensures { IsTrue result ↔ 500000000 ≤ instant_nanos now - instant_nanos self.now.since }
     {
         Duration::from_millis(INTERVAL) <= now.duration_since(self.since)
     }
 
-    // Records a report at that time.
+    // Records that all bytes read so far were reported at `now`.
     fn renew(&mut self, now: Instant)
         ensures read { self.new.read ≡ self.old.read }
         ensures reported { self.new.reported ≡ self.old.read }
@@ -133,6 +138,7 @@ pub(crate) struct Progress<'a, R> {
 }
 
 impl<'a, R: Clock + Eprint> Progress<'a, R> {
+    /// Reports by `reporter`. No progress line is on the terminal yet.
     pub(crate) fn new(rt: &'a R, reporter: Reporter) -> Progress<'a, R> {
         Progress {
             rt,
@@ -146,8 +152,8 @@ impl<'a, R: Clock + Eprint> Progress<'a, R> {
         !matches!(self.reporter, Reporter::Nothing)
     }
 
-    /// The meter of a file before its first read; `None` if memory is short, the name isn't UTF-8, or there is no
-    /// clock. The file is then read without reports: this is no second way of reading.
+    /// The meter of a file of that size in bytes, if known, before its first read; `None` if memory is short, the name
+    /// isn't UTF-8, or there is no clock. The file is then read without reports: this is not a fast path.
     pub(crate) fn begin(&self, alloc: Global, name: &[u8], size: Option<u64>) -> Option<Meter>
         ensures { IfSome result (λ meter. spec.IsReported self.now.reporter name.now (string_bytes meter.name)) }
     {
@@ -160,7 +166,8 @@ impl<'a, R: Clock + Eprint> Progress<'a, R> {
         })
     }
 
-    /// Reports how far a file was read, if since the last report at least 1 MiB was read and half a second has passed.
+    /// Reports how far a file was read, if since the last report (or the first read) at least 1 MiB was read and half a
+    /// second has passed. Reports nothing if there is no clock.
     #[inline(never)]
     pub(crate) fn report(&self, meter: &mut Meter) {
         if !meter.has_more() {
@@ -175,7 +182,7 @@ impl<'a, R: Clock + Eprint> Progress<'a, R> {
         }
     }
 
-    // Writes a report.
+    // Writes a report: nothing, a line, or over the progress line of the terminal. A failed write is ignored.
     fn write(&self, meter: &Meter) {
         let _ = match self.reporter {
             Reporter::Nothing => Ok(()),

@@ -10,10 +10,11 @@ use std::env::{Env, FillError};
 use std::io::{ErrorKind, Write};
 use std::{env, io};
 
-// The sizes of the buffer for a word: the second is tried if the first is too small. Linux allows no longer word.
+// The buffer's sizes in bytes for a word: the second is tried if the first is too small. Linux allows no longer word.
 static ROOM: [usize; 2] = [4096, 131072];
 
-// The bytes of the word of that number; `None` after the last word, if memory is short, or for a longer word.
+// The bytes of the word of that number, from 0; `None` after the last word, if memory is short, or for a word that
+// doesn't fit the buffer.
 fn bytes_of(rt: &HostRuntime, number: usize) -> Option<Vec<u8>> {
     let mut bytes = Vec::new(rt.alloc());
     for room in &ROOM {
@@ -30,7 +31,7 @@ fn bytes_of(rt: &HostRuntime, number: usize) -> Option<Vec<u8>> {
     None
 }
 
-// Writes that the word of that number isn't UTF-8.
+// Writes the line that the word of that number isn't UTF-8, with the word escaped by `write_escaped`.
 fn write_unread<L: Sink>(number: usize, word: &[u8], log: &mut L) -> Result<(), Unwritten>
     ensures written { OnOk result (Appends (L.contents log.old) (L.contents log.new) (unread_text number word.now)) }
     ensures cause { HasCause result (L.faults log.old) (L.faults log.new) }
@@ -40,7 +41,7 @@ fn write_unread<L: Sink>(number: usize, word: &[u8], log: &mut L) -> Result<(), 
     log.write_all(b"'\n")
 }
 
-// Reports the first word that isn't UTF-8, or nothing if that word can't be read again.
+// Reports on standard error the first word that isn't UTF-8, or nothing if a word up to it can't be read again.
 fn report_unread(rt: &HostRuntime) -> io::Result<()> {
     for number in 0..usize::MAX {
         let Some(word) = bytes_of(rt, number) else {
@@ -58,7 +59,7 @@ fn report_unread(rt: &HostRuntime) -> io::Result<()> {
     Ok(())
 }
 
-/// The words, the name of the program first; `None` if one isn't UTF-8, which is then reported.
+/// The words, the name of the program first; `None` if one isn't UTF-8, which is then reported on standard error.
 pub(crate) fn words_of(rt: &HostRuntime) -> io::Result<Option<Vec<String>>> {
     match env::args(rt) {
         Ok(words) => Ok(Some(words.collect(rt.alloc())?)),

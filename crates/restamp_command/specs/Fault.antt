@@ -11,23 +11,25 @@ use Rattle.restamp_command.specs.declared.fault.Fault.TheVariants as fault
 use Rattle.restamp_command.specs.declared.fault.TimeArgError as declared_none
 use Rattle.restamp_command.specs.declared.fault.TimeArgError.TheVariants as none
 
--- why a text is no moment: a reason; a moment without a date; or a clock out of range
+-- why a text is no moment: a reason; a word's moment without a date in UTC; or a word with the clock out of range
 pub data TimeArgError : Type 0 where
   unread : Reason → TimeArgError
   out_of_range : TimeArgError
   no_clock : TimeArgError
 
+-- the error without the addresses of its texts
 abbrev pub erased_time_error : declared_none.TimeArgError → TimeArgError
 erased_time_error (none.Unread reason) = unread (seen reason)
 erased_time_error none.OutOfRange = out_of_range
 erased_time_error none.NoClock = no_clock
 
+-- the text of why a text is no moment
 abbrev pub none_text : TimeArgError → List ℕ
 none_text (unread reason) = reason_text reason
 none_text out_of_range = codes "it is before the year -999999 or after 999999"
 none_text no_clock = codes "the clock shows no time from 1970 to 999999"
 
--- the errors, each with the rejected value, and why
+-- the errors of options, each but `memory` with the rejected value, and some with why
 pub data Fault : Type 0 where
   memory : Fault
   field : List ℕ → Fault
@@ -81,7 +83,7 @@ erased_fault (fault.Since value why) = since value.now (erased_time_error why)
 erased_fault (fault.Until value why) = until value.now (erased_time_error why)
 erased_fault (fault.InPlace value) = in_place value.now
 
--- the option, and the rejected value
+-- the option, as help prints it, and the rejected value; `None` if memory is short
 abbrev pub place_of : Fault → Option (List ℕ × List ℕ)
 place_of memory = None
 place_of (field value) = Some (codes "--field <N>", value)
@@ -108,7 +110,8 @@ place_of (since value why) = Some (codes "--since <TIME>", value)
 place_of (until value why) = Some (codes "--until <TIME>", value)
 place_of (in_place value) = Some (codes "--in-place[=<SUFFIX>]", value)
 
--- the text of an error; no text is specified for a word that a description doesn't have
+-- the text of an error; `None`, which means that none is specified, if a description has an unknown word, or if a
+-- zone's file can't be read or is malformed
 abbrev pub why_text : Fault → Option (List ℕ)
 why_text memory = Some (codes "out of memory")
 why_text (field value) = Some (codes "it is not a number from 1 to 18446744073709551615")
@@ -117,7 +120,7 @@ why_text (from value why) = naming.fault_text why
 why_text (zones value why) = fault_text why
 why_text (incomplete_format value missing_field) = Some (missing_field_text missing_field)
 why_text (to value why) = naming.fault_text why
-why_text (unnamed value) = Some (codes "--zone gives it no name and no offset of whole minutes")
+why_text (unnamed value) = Some (codes "it needs --utc, or a --zone name or offset below 24:00")
 why_text (year value) = Some (codes "it is not a year from -999999 to 999999")
 why_text (offset value) = Some (codes "it is no offset such as +05:30")
 why_text (local value why) = fault_text why

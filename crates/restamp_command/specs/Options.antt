@@ -6,43 +6,44 @@ use Rattle.clap.specs.Matches.{first_value, matched_of, one_text, raw_values}
 use Rattle.clap.specs.declared.parser.matches.Found.{Found}
 use Rattle.restamp_command.specs.declared.options.Options.{Options}
 
--- A flag is true if it was given, otherwise false.
+-- A flag is true if the command line has it, otherwise false.
 abbrev pub IsFlag : Found → List ℕ → Bool → Type 0
 IsFlag f id flag =
     (one_text f id ≡ Some (codes "true") → flag ≡ true) × (one_text f id ≡ Some (codes "false") → flag ≡ false)
     × (one_text f id ≡ None → flag ≡ false)
 
--- the text behind a reference, if there is one
+-- the text behind a reference; `None` without one
 abbrev pub text_behind : Option (Bor (List ℕ)) → Option (List ℕ)
 text_behind = option_map (λ t. t.now)
 
--- the first text of an option, empty without one
+-- the first value of an option, given or by default; the empty text without one
 abbrev pub text_given : Found → List ℕ → List ℕ
 text_given f id = unwrap_or (first_value f id) []
 
--- all values of an option
+-- all values of an option, given or by default, in order; empty without one
 abbrev pub values_of : Found → List ℕ → List (List ℕ)
 values_of f id = unwrap_or (option_map raw_values (matched_of f id)) []
 
--- the two texts of `--between`
+-- the two texts of `--between`; `None` unless there are exactly two
 abbrev pub pair_of : List (List ℕ) → Option (List ℕ × List ℕ)
 pair_of (first ∷ second ∷ []) = Some (first, second)
 pair_of texts = None
 
--- the first format of `--from`, RFC 3339 by default
+-- the first of the values of `--from`; `rfc3339` if there is none
 abbrev pub first_format : List (List ℕ) → List ℕ
 first_format [] = codes "rfc3339"
 first_format (name ∷ names) = name
 
--- the texts behind a reference to texts
+-- the texts behind a reference to texts; `None` without one
 abbrev pub texts_behind : Option (Bor (List (Bor (List ℕ)))) → Option (List (List ℕ))
 texts_behind = option_map (λ texts. map (λ t. t.now) texts.now)
 
--- the names of the other formats
+-- the names of all formats of `--from` but the first; empty if there are fewer than two
 abbrev pub other_names : Options → List (List ℕ)
 other_names o = drop 1 (unwrap_or (texts_behind o.formats) [])
 
--- The options have the values of the command line.
+-- The options have the values that `clap` matched: each field that of the option of its name, but `local` that of
+-- `--in`, `from` the first of `--from`, and `formats` all of them.
 pub record AreGiven (f : Found) (o : Options) : Type 0 where
   pub front : IsFlag f (codes "front") o.front
   pub anywhere : IsFlag f (codes "anywhere") o.anywhere

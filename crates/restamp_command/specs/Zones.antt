@@ -21,23 +21,24 @@ use Rattle.restamp_command.specs.declared.zone.Local.TheVariants as local
 use Rattle.restamp_command.specs.declared.zone.Zone.{Zone}
 use Rattle.restamp_command.specs.declared.zone.Zone.TheVariants as kind
 
--- The possible results for a zone's name. No contract describes the system's files.
+-- The possible results for a zone's name: `UTC` is found, and the error is `NotAName` exactly for a text that can't be
+-- a name, `local` apart. Any other result is possible, since no contract describes the system's files.
 abbrev pub IsZoneResult : List ℕ → Result NamedZone ZoneFault → Type 0
 IsZoneResult name result =
     (name ≡ codes "UTC" → result ≡ Ok Utc)
     × (name ≢ codes "local" → ((result ≡ Err NotAName) ↔ ((name ≢ codes "UTC") × (¬ IsZoneName name))))
 
--- A zone is the one that was found by that name.
+-- The zone is a named one, and a possible result for that name.
 abbrev pub IsNamedBy : List ℕ → Zone → Type 0
 IsNamedBy name (kind.Named named) = IsZoneResult name (Ok named)
 IsNamedBy name zone = ⊥
 
--- A zone is that of UTC.
+-- The zone is the fixed offset UTC.
 abbrev pub IsUtcZone : Zone → Type 0
 IsUtcZone (kind.Fixed offset) = IsUtc offset
 IsUtcZone zone = ⊥
 
--- The zone of a text: `keep`, `utc`, an offset, or a name.
+-- The zone of a text: `keep`, `utc`, an offset such as `+05:30`, or the name of a zone.
 abbrev pub IsZone : List ℕ → Zone → Type 0
 IsZone text zone =
     MatchBool (bytes_eq text (codes "keep")) (zone ≡ kind.Keep)
@@ -45,53 +46,55 @@ IsZone text zone =
     ((offset : Option UtcOffset) × IsOffsetText text offset
     × MatchOption offset (IsNamedBy text zone) (λ o. zone ≡ kind.Fixed o)))
 
--- A text is not `keep`, `utc` or an offset, and no zone has that name.
+-- The text is not `keep`, `utc` or an offset, and that error is a possible result for it as a zone's name.
 abbrev pub IsNoZone : List ℕ → ZoneFault → Type 0
 IsNoZone text why =
     (bytes_eq text (codes "keep") ≡ false) × (bytes_eq text (codes "utc") ≡ false)
     × IsOffsetText text None × IsZoneResult text (Err why)
 
--- the zone in a suffix, by its name or its offset
+-- the zone in a suffix, by its offset or its name; `None` for `Keep`, and for a named zone without a name
 abbrev pub suffix_zone : Zone → Option Suffix.Zone
 suffix_zone kind.Keep = None
 suffix_zone (kind.Fixed offset) = Some (Suffix.at_offset offset)
 suffix_zone (kind.Named named) = option_map Suffix.named (name_of named)
 
--- The suffix of a zone, if it has one.
+-- The zone has that suffix: in brackets its name, if RFC 9557 allows it, or its offset of whole minutes below 24 hours.
 abbrev pub IsSuffixOf : Zone → List ℕ → Type 0
 IsSuffixOf zone bytes =
     (z : Suffix.Zone) × (text : List ℕ) × (suffix_zone zone ≡ Some z) × Suffix.IsZoneText text z
     × (bytes ≡ Suffix.bracketed false text)
 
+-- The zone has no suffix: it is `Keep`, a named zone without a name that RFC 9557 allows, or an offset that isn't of
+-- whole minutes or is of 24 hours or more.
 abbrev pub HasNoSuffix : Zone → Type 0
 HasNoSuffix zone = (bytes : List ℕ) → IsSuffixOf zone bytes → ⊥
 
--- the clock of a named zone
+-- the clock converts moments to that named zone
 abbrev pub IsClockIn : NamedZone → Clock → Type 0
 IsClockIn named (on.Zone zone) = IsZoneOf named zone
 IsClockIn named clock = ⊥
 
--- the clock of a zone
+-- the clock converts moments to that zone; for `Keep` it leaves them at their own offset
 abbrev pub IsClockOf : Zone → Clock → Type 0
 IsClockOf kind.Keep clock = clock ≡ on.Own
 IsClockOf (kind.Fixed offset) clock = clock ≡ on.Fixed offset
 IsClockOf (kind.Named named) clock = IsClockIn named clock
 
--- the zone for local times, by a named zone
+-- the zone for local times is that named zone, with that choice for ambiguous local times
 abbrev pub AreClocksIn : NamedZone → Fold → Option Clocks → Type 0
 AreClocksIn named fold None = ⊥
 AreClocksIn named fold (Some clocks) = IsZoneOf named clocks.zone × (clocks.fold ≡ fold)
 
--- the defaults for an omitted offset
+-- the defaults have that offset and no zone for local times, or that zone and no offset
 abbrev pub IsOfLocal : Local → Defaults → Type 0
 IsOfLocal (local.Offset offset) d = (d.offset ≡ Some offset) × (d.clocks ≡ None)
 IsOfLocal (local.Zone named name fold) d = (d.offset ≡ None) × AreClocksIn named fold d.clocks
 
--- The defaults of the given values.
+-- The defaults have the given year, the given offset or zone for local times, and the given latest moment.
 abbrev pub AreDefaultsOf : OwnedDefaults → Defaults → Type 0
 AreDefaultsOf given d = (d.year ≡ given.year) × IsOfLocal given.local d × (d.latest ≡ given.latest)
 
--- the name of the zone of local times
+-- the name of the zone of local times in reports; `its zone` for an offset
 abbrev pub zone_name : Local → List ℕ
 zone_name (local.Offset offset) = codes "its zone"
 zone_name (local.Zone named name fold) = name.now

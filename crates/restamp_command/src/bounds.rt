@@ -31,20 +31,20 @@ pub(crate) enum Unit {
     Hour,
     /// `d`, 24 hours.
     Day,
-    /// `w`.
+    /// `w`, 7 days.
     Week,
 }
 
 /// What a word names, relative to the clock.
 #[derive(Clone, Copy)]
 pub(crate) enum Word {
-    /// The clock's moment plus a number of units.
+    /// The clock's moment plus a number of units, which may be negative.
     Later(i64, Unit),
-    /// The start of the clock's day, or of the day that many days before.
+    /// The start of the day that is that many days before the clock's day; 0 is the clock's day.
     Day(u8),
 }
 
-// The unit of a letter.
+// The unit of the letter `s`, `m`, `h`, `d` or `w`; `None` for any other byte.
 fn find_unit(letter: u8) -> Option<Unit>
     ensures { result ≡ words.unit_of letter }
 {
@@ -58,7 +58,8 @@ fn find_unit(letter: u8) -> Option<Unit>
     }
 }
 
-// A number with a sign, as a number of units to add.
+// Parses `+` or `-` and a decimal number that fit `i64` as a number of units to add to the clock's moment; `None` for
+// any other text.
 fn find_units(number: &str, unit: Unit) -> Option<Word>
     ensures { words.AreUnits number.now unit result }
 {
@@ -69,7 +70,8 @@ fn find_units(number: &str, unit: Unit) -> Option<Word>
     Some(Word::Later(number, unit))
 }
 
-// The meaning of `now` followed by this text.
+// Parses what follows `now`: no text is 0 seconds; a sign, a number that with its sign fits `i64`, and the letter of a
+// `Unit`, as `-90m`, are that many units. `None` for any other text.
 fn find_shift(text: &str) -> Option<Word>
     ensures { words.IsShift text.now result }
 {
@@ -80,7 +82,7 @@ fn find_shift(text: &str) -> Option<Word>
     find_units(text.get(..text.len() - 1)?, unit)
 }
 
-// The meaning of a word by the clock, if it has one.
+// The meaning of `today`, `yesterday`, `now`, or `now` with a shift such as `now-90m`; `None` for any other text.
 fn find_word(text: &str) -> Option<Word>
     ensures { words.IsWord text.now result }
 {
@@ -91,7 +93,7 @@ fn find_word(text: &str) -> Option<Word>
     }
 }
 
-// The seconds of a number of units.
+// The seconds of a number of units, which may be negative.
 fn seconds_of(number: i64, unit: Unit) -> i128
     ensures value { result ≡ number *ℤ pos (words.seconds_of unit) }
     ensures range { IsBetween (neg_ℤ (pos 6_000_000_000_000_000_000_000_000)) (pos 6_000_000_000_000_000_000_000_000) result }
@@ -106,7 +108,7 @@ fn seconds_of(number: i64, unit: Unit) -> i128
     }
 }
 
-// The nanoseconds of a moment since 1970.
+// The nanoseconds from 1970-01-01T00:00:00Z to the moment; negative for an earlier moment.
 fn since_1970(moment: UtcDateTime) -> i128
     ensures value { result ≡ utc_instant greatest_year moment }
     ensures range { IsNear result }
@@ -114,7 +116,7 @@ fn since_1970(moment: UtcDateTime) -> i128
     moment.unix_timestamp_nanos()
 }
 
-// The instant plus a number of seconds.
+// The nanoseconds `now` since 1970 plus a number of seconds, in nanoseconds since 1970.
 fn later(now: i128, seconds: i128) -> i128
     requires now { IsNear now }
     requires seconds { IsBetween (neg_ℤ (pos 6_000_000_000_000_000_000_000_000)) (pos 6_000_000_000_000_000_000_000_000) seconds }
@@ -124,7 +126,7 @@ fn later(now: i128, seconds: i128) -> i128
     now + seconds * NANOS_PER_SECOND
 }
 
-// The nanoseconds of an offset.
+// The nanoseconds by which local time at an offset is ahead of UTC; negative if it is behind.
 fn ahead_of(offset: UtcOffset) -> i128
     ensures value { result ≡ offset_seconds offset *ℤ pos 1_000_000_000 }
     ensures range { IsBetween (neg_ℤ (pos 93_599_000_000_000)) (pos 93_599_000_000_000) result }
@@ -132,7 +134,7 @@ fn ahead_of(offset: UtcOffset) -> i128
     offset.whole_seconds() as i128 * NANOS_PER_SECOND
 }
 
-// The day of a local time that is given in nanoseconds since 1970-01-01T00:00:00.
+// The day, from 1970-01-01 (day 0, negative before), of a local time in nanoseconds since 1970-01-01T00:00:00.
 fn day_of(shown: i128) -> i128
     requires { IsBetween (neg_ℤ (pos 33_000_000_000_000_000_000_000)) (pos 33_000_000_000_000_000_000_000) shown }
     ensures value { result ≡ int_div_euclid shown (pos nanos_per_day) }
@@ -141,7 +143,7 @@ fn day_of(shown: i128) -> i128
     shown.div_euclid(NANOS_PER_DAY)
 }
 
-// The local time of midnight, `back` days before a day.
+// The local time of midnight, `back` days before a day, in nanoseconds since 1970-01-01T00:00:00.
 fn midnight(day: i128, back: u8) -> i128
     requires { IsBetween (neg_ℤ (pos 500_000_000)) (pos 500_000_000) day }
     ensures value { result ≡ (day -ℤ pos back) *ℤ pos nanos_per_day }
@@ -150,7 +152,8 @@ fn midnight(day: i128, back: u8) -> i128
     (day - back as i128) * NANOS_PER_DAY
 }
 
-// The local time of midnight at that offset, `back` days before the clock's day.
+// The local time of midnight, `back` days before the clock's day at that offset, in nanoseconds since
+// 1970-01-01T00:00:00.
 fn midnight_at(now: UtcDateTime, offset: UtcOffset, back: u8) -> i128
     ensures value { result ≡ (words.local_day (utc_instant greatest_year now) offset -ℤ pos back) *ℤ pos nanos_per_day }
     ensures range { IsBetween (neg_ℤ (pos 50_000_000_000_000_000_000_000)) (pos 50_000_000_000_000_000_000_000) result }
@@ -169,7 +172,7 @@ fn nanos_of(word: Word, now: UtcDateTime, offset: UtcOffset) -> i128
     }
 }
 
-// The moment of that many nanoseconds since 1970, in UTC.
+// The moment of that many nanoseconds since 1970, in UTC; `OutOfRange` if its year isn't from -999999 to 999999.
 fn moment_at(nanos: i128) -> Result<OffsetDateTime, TimeArgError>
     ensures { words.IsMomentAt nanos (words.erased_moment result) }
 {
@@ -179,7 +182,8 @@ fn moment_at(nanos: i128) -> Result<OffsetDateTime, TimeArgError>
     }
 }
 
-// The earliest moment with the local time of a moment in the zone.
+// The earliest moment that has, in the zone, the local date and time that `moment` has at its own offset. The error is
+// `Unread`: `Nonexistent` if there is none, `OutsideZoneRange` if that date and time is outside the range of zones.
 fn earliest_with_local(
     moment: OffsetDateTime,
     clocks: &Clocks<'_>,
@@ -197,14 +201,15 @@ fn earliest_with_local(
     }
 }
 
-// The moment in local time of the zone.
+// The moment at the offset that the zone has then; `None` if it is outside the range of time zones.
 fn converted_in(moment: OffsetDateTime, clocks: &Clocks<'_>) -> Option<OffsetDateTime>
     ensures { IsConverted (on.Zone clocks.now.zone) moment result }
 {
     checked_to_zone(moment, &clocks.zone)
 }
 
-// The start of the day in the zone, `back` days before the clock's day.
+// The start of the day in the zone, `back` days before the clock's day there: the earliest moment whose local time is
+// midnight. An error if there is none, or if the clock or that midnight is out of range.
 fn start_of_day_in(
     clocks: &Clocks<'_>,
     now: UtcDateTime,
@@ -226,7 +231,8 @@ fn day_offset(offset: Option<UtcOffset>) -> UtcOffset
     offset.unwrap_or(UtcOffset::UTC)
 }
 
-// The moment of a word by the clock, with days that start at that offset.
+// The moment of a word by the clock, with days that start at that offset, or at UTC without one; the error `OutOfRange`
+// if it has no date in UTC.
 fn named_at(
     word: Word,
     now: UtcDateTime,
@@ -237,7 +243,8 @@ fn named_at(
     moment_at(nanos_of(word, now, day_offset(offset)))
 }
 
-// The moment of a word by the clock and the defaults.
+// The moment of a word by the clock. Days start in the default zone, or else at the default offset, or else in UTC. An
+// error if the moment is out of range, or the day has no start in the zone.
 fn moment_from(
     word: Word,
     now: UtcDateTime,
@@ -254,7 +261,8 @@ fn moment_from(
     }
 }
 
-// The moment of a text as a word, or an error: that reason if it is no word, or a clock out of range.
+// The moment of a text as a word, or an error: `Unread` with `reason` if it is no word, `NoClock` if `now` is `None`,
+// or one of `moment_from`.
 fn find_named(
     now: Option<UtcDateTime>,
     text: &str,
@@ -267,8 +275,9 @@ fn find_named(
     moment_from(word, now.ok_or(TimeArgError::NoClock)?, defaults)
 }
 
-/// Parses a text as a moment by RFC 3339, then by the other formats, then as a word relative to the clock, which is at
-/// `now`. If none of them matches, the error is that of RFC 3339.
+/// Parses a whole text as a moment by RFC 3339, then by `first` and each of `others`, then as a word relative to the
+/// clock, which is at `now`. If none of them matches, the error is that of RFC 3339. A word is an error if the clock is
+/// out of range (`now` is `None`), or if its moment is, or doesn't exist in the default zone.
 pub fn find_moment(
     now: Option<UtcDateTime>,
     first: &Reading,

@@ -3,7 +3,7 @@ use crate::table::{EXAMPLES, Kind, OTHERS, Row, SECTIONS};
 use clap::{Arg, ArgAction, ArgGroup, Command};
 use std::alloc::{AllocError, Global};
 
-// The option of a row. Its value may start with a hyphen.
+// The option that a row describes. The error is that memory is short.
 fn option<'a>(alloc: Global, row: &Row) -> Result<Arg<'a>, AllocError> {
     let option = Arg::new(alloc, row.name)
         .long(row.name)
@@ -27,12 +27,12 @@ fn option<'a>(alloc: Global, row: &Row) -> Result<Arg<'a>, AllocError> {
     })
 }
 
-// The option with a value of that name.
+// Gives the option a value, of that name in help, which may start with a hyphen.
 fn with_value<'a>(option: Arg<'a>, name: &'static str) -> Arg<'a> {
     option.value_name(name).allow_hyphen_values(true)
 }
 
-// The option with an optional value of that name after `=`.
+// Gives the option an optional value, of that name in help, after `=`; without one the value is the empty text.
 fn with_attached<'a>(option: Arg<'a>, name: &'static str) -> Arg<'a> {
     option
         .value_name(name)
@@ -41,7 +41,7 @@ fn with_attached<'a>(option: Arg<'a>, name: &'static str) -> Arg<'a> {
         .default_missing_value("")
 }
 
-// The arguments that aren't options.
+// The arguments that aren't options: any number of files.
 fn files<'a>(alloc: Global) -> Arg<'a> {
     Arg::new(alloc, "FILE")
         .num_args(0..)
@@ -49,7 +49,7 @@ fn files<'a>(alloc: Global) -> Arg<'a> {
         .help("Files, in turn; none, or -, is standard input")
 }
 
-// The group of options for a line's timestamp, at most one of them.
+// The group of options for the place of a line's timestamp. At most one of them may be given.
 fn one_place<'a>(alloc: Global) -> Result<ArgGroup<'a>, AllocError> {
     ArgGroup::new(alloc, "place")
         .arg("front")?
@@ -59,7 +59,7 @@ fn one_place<'a>(alloc: Global) -> Result<ArgGroup<'a>, AllocError> {
         .arg("after")
 }
 
-// Adds the options of a table.
+// Adds an option for each row of a table. The error is that memory is short.
 fn add<'a>(
     alloc: Global,
     mut command: Command<'a>,
@@ -71,7 +71,7 @@ fn add<'a>(
     Ok(command)
 }
 
-// Adds the options of each section.
+// Adds the options of each section, under its heading in help. The error is that memory is short.
 fn add_sections(alloc: Global, mut command: Command<'_>) -> Result<Command<'_>, AllocError> {
     for (heading, rows) in &SECTIONS {
         command = add(alloc, command.next_help_heading(heading), rows)?;
@@ -79,7 +79,8 @@ fn add_sections(alloc: Global, mut command: Command<'_>) -> Result<Command<'_>, 
     Ok(command)
 }
 
-/// The command line of `restamp`. It rejects unknown options, and options that exclude each other.
+/// The command line of `restamp`. It rejects unknown options, options that exclude each other, and options without
+/// those that they require. The error is that memory is short.
 pub fn make_command<'a>(alloc: Global) -> Result<Command<'a>, AllocError> {
     let command = Command::new(alloc, "restamp")
         .bin_name("restamp")?

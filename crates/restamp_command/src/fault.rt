@@ -10,11 +10,12 @@ use time_zones::ZoneFault;
 /// Why a text is no moment.
 #[derive(Clone, Copy, Debug)]
 pub enum TimeArgError {
-    /// No format matches it; the error of RFC 3339.
+    /// It is no word and no format matches it: the error of RFC 3339. Or it is a word for a day that has no start in
+    /// the default zone: nonexistent, or outside the range of time zones.
     Unread(Reason),
-    /// The word's moment has no date: it is before the year -999999 or after 999999.
+    /// It is a word, and its moment has no date in UTC: it is before the year -999999 or after 999999.
     OutOfRange,
-    /// It is a word, and the clock is outside the years 1970 to 999999.
+    /// It is a word, and the clock's moment isn't given: it is outside the years 1970 to 999999, or can't be read.
     NoClock,
 }
 
@@ -30,61 +31,62 @@ impl fmt::Display for TimeArgError {
     }
 }
 
-/// Why the options are no request: an option rejects its value.
+/// Why the options are no request: an option rejects its value, or memory is short. Each variant but `Memory` has that
+/// value, and some have the cause after it.
 #[derive(Drop)]
 pub enum Fault<'a> {
     /// Out of memory.
     Memory,
     /// `--field` expects a number from 1 to 18446744073709551615.
     Field(&'a str),
-    /// `--delimiter` expects one byte.
+    /// `--delimiter` expects one byte, or `\t` for TAB.
     Delimiter(&'a str),
-    /// `--from` expects a format's name, or a description.
+    /// `--from` expects the name of a format, or a valid description.
     From(&'a str, FormatFault<'a>),
     /// `--from rfc9557` needs the zones of the system, which can't be read.
     Zones(&'a str, ZoneFault),
-    /// `--from` expects a format that isn't missing a part of a moment.
+    /// `--from` expects a format with texts that are moments, but all its texts omit this part.
     IncompleteFormat(&'a str, MissingField),
-    /// `--to` expects the name of an output format, or a description.
+    /// `--to` expects the name of an output format, or a valid description.
     To(&'a str, FormatFault<'a>),
-    /// `--to rfc9557` needs a zone with a name or an offset, by `--zone`.
+    /// `--to rfc9557` needs `--utc`, or a `--zone` of whole minutes below 24 hours or with a name that RFC 9557 allows.
     Unnamed(&'a str),
     /// `--year` expects a year from -999999 to 999999.
     Year(&'a str),
-    /// `--offset` expects an offset.
+    /// `--offset` expects an offset such as `+05:30`.
     Offset(&'a str),
-    /// `--in` expects the name of a zone.
+    /// `--in` expects the name of a zone, which can be loaded.
     In(&'a str, ZoneFault),
     /// `--fold` expects `earlier`, `later` or `refuse`.
     Fold(&'a str),
-    /// `--year` is of no use: each text of each format has a part of a year.
+    /// `--year` is of no use: each text of each format has a part of a year, or a count from 1970.
     UnusedYear(&'a str),
-    /// `--latest` is of no use: each text of each format has a part of a year.
+    /// `--latest` is of no use: each text of each format has a part of a year, or a count from 1970.
     UnusedLatest(&'a str),
-    /// `--offset` is of no use: each text of each format has the hour of an offset.
+    /// `--offset` is of no use: each text of each format has an offset, or a count from 1970.
     UnusedOffset(&'a str),
-    /// `--in` is of no use: each text of each format has the hour of an offset.
+    /// `--in` is of no use: each text of each format has an offset, or a count from 1970.
     UnusedIn(&'a str),
-    /// `--zone` expects `keep`, `utc`, an offset or the name of a zone.
+    /// `--zone` expects `keep`, `utc`, an offset or the name of a zone, which can be loaded.
     Zone(&'a str, ZoneFault),
-    /// `--digits` expects 0 to 9, or `auto`.
+    /// `--digits` expects one digit from 0 to 9, or `auto`.
     Digits(&'a str),
     /// `--errors` expects a number from 0 to 18446744073709551615.
     Errors(&'a str),
-    /// `--latest` expects a time, or a word for one.
+    /// `--latest` expects a time by RFC 3339 or a format of `--from`, or a word for one.
     Latest(&'a str, TimeArgError),
     /// `--color` expects `auto`, `always` or `never`.
     Color(&'a str),
-    /// `--since` expects a time, or a word for one.
+    /// `--since` expects a time by RFC 3339 or a format of `--from`, or a word for one.
     Since(&'a str, TimeArgError),
-    /// `--until` expects a time, or a word for one.
+    /// `--until` expects a time by RFC 3339 or a format of `--from`, or a word for one.
     Until(&'a str, TimeArgError),
     /// `--in-place` expects a suffix without a slash.
     InPlace(&'a str),
 }
 
 impl<'a> Fault<'a> {
-    /// The option, as help prints it, and the rejected value; `None` if the error has neither.
+    /// The option, as help prints it, and the rejected value; `None` for `Memory`.
     pub fn place(&self) -> Option<(&'static str, &'a str)>
         ensures { option_map (λ place. (place.0.now, place.1.now)) result ≡ spec.place_of (spec.erased_fault self.now) }
     {
@@ -128,7 +130,7 @@ impl fmt::Display for Fault<'_> {
             Fault::Zones(_, why) | Fault::In(_, why) | Fault::Zone(_, why) => write!(f, "{why}"),
             Fault::IncompleteFormat(_, missing_field) => write!(f, "{missing_field}"),
             Fault::Unnamed(_) => {
-                write!(f, "--zone gives it no name and no offset of whole minutes")
+                write!(f, "it needs --utc, or a --zone name or offset below 24:00")
             }
             Fault::Year(_) => write!(f, "it is not a year from -999999 to 999999"),
             Fault::Offset(_) => write!(f, "it is no offset such as +05:30"),

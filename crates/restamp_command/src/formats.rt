@@ -10,21 +10,23 @@ use restamp_formats::{Reading, find_reading};
 use std::rt::{Env, Files};
 use time_zones::find_zones;
 
-/// Whether there is a default year.
+/// Whether there is a default year: `--year` or `--latest` is given.
 pub(crate) fn has_default_year(options: &Options<'_, '_>) -> bool
     ensures { result ≡ spec.has_default_year options.now }
 {
     options.year.is_some() || options.latest.is_some()
 }
 
-/// Whether the name is that of RFC 9557, whose timestamps have a suffix with their zone.
+/// Whether the name is `rfc9557`: the format whose timestamps may have a suffix with their zone.
 pub(crate) fn is_zoned(name: &str) -> bool
     ensures { result ≡ spec.is_zoned name.now }
 {
     name == "rfc9557"
 }
 
-// The format of that name, or an error if it has a missing part. RFC 9557 uses the zones of the system.
+// The format that the text names or describes. An error if there is none, if all its texts omit a part of a moment that
+// no default supplies, or if the zones of the system, which RFC 9557 uses, can't be read. `has_year` is whether there
+// is a default year.
 fn find_format<'a, R: Env + Files + AllocGlobal + Clone + Drop>(
     rt: &R,
     name: &'a str,
@@ -44,7 +46,7 @@ fn find_format<'a, R: Env + Files + AllocGlobal + Clone + Drop>(
     }
 }
 
-/// The names of the other formats.
+/// The names of all formats of `--from` but the first; empty if there are fewer than two.
 pub(crate) fn other_names<'m, 'a>(options: &Options<'m, 'a>) -> &'m [&'a str]
     ensures { map (λ name. name.now) result.now ≡ options_.other_names options.now }
 {
@@ -54,7 +56,7 @@ pub(crate) fn other_names<'m, 'a>(options: &Options<'m, 'a>) -> &'m [&'a str]
     }
 }
 
-/// The first format.
+/// The format of the first `--from`, or RFC 3339 without that option. The errors are those of `find_format`.
 pub(crate) fn find_first<'a, R: Env + Files + AllocGlobal + Clone + Drop>(
     rt: &R,
     options: &Options<'_, 'a>,
@@ -65,7 +67,8 @@ pub(crate) fn find_first<'a, R: Env + Files + AllocGlobal + Clone + Drop>(
     find_format(rt, options.from, has_default_year(options))
 }
 
-/// Adds the formats of those names, with or without a default year.
+/// Appends the formats of those names to `formats`. `has_year` is whether there is a default year. It stops at the
+/// first error, of `find_format` or that memory is short; the formats before it stay appended.
 pub(crate) fn add_formats<'a, R: Env + Files + AllocGlobal + Clone + Drop>(
     rt: &R,
     names: &[&'a str],

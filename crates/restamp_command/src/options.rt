@@ -6,7 +6,8 @@ ghost use Rattle.restamp_command.specs.Options as spec;
 
 use clap::ArgMatches;
 
-/// The values of the command line before they are interpreted: flags, and the texts of the other options.
+/// The values of the command line before they are interpreted: whether each flag is given, and the texts of the other
+/// options. `None`: the option isn't given, and has no default value.
 #[derive(Clone, Copy)]
 pub struct Options<'m, 'a> {
     /// `--front`.
@@ -15,19 +16,19 @@ pub struct Options<'m, 'a> {
     pub anywhere: bool,
     /// `--field`.
     pub field: Option<&'a str>,
-    /// `--delimiter`.
+    /// `--delimiter`; `,` by default.
     pub delimiter: &'a str,
     /// `--blanks`.
     pub blanks: bool,
     /// `--csv`.
     pub csv: bool,
-    /// `--between`.
+    /// `--between`: the text before the timestamp, and the text after it.
     pub between: Option<(&'a str, &'a str)>,
     /// `--after`.
     pub after: Option<&'a str>,
-    /// The first `--from`.
+    /// The first `--from`; `rfc3339` by default.
     pub from: &'a str,
-    /// Each `--from`.
+    /// Each `--from`, in order, including the first; only `rfc3339` by default.
     pub formats: Option<&'m [&'a str]>,
     /// `--year`.
     pub year: Option<&'a str>,
@@ -39,13 +40,13 @@ pub struct Options<'m, 'a> {
     pub local: Option<&'a str>,
     /// `--fold`.
     pub fold: Option<&'a str>,
-    /// `--to`.
+    /// `--to`; `rfc3339` by default.
     pub to: &'a str,
-    /// `--zone`.
+    /// `--zone`; `keep` by default.
     pub zone: &'a str,
     /// `--utc`.
     pub utc: bool,
-    /// `--digits`.
+    /// `--digits`; `auto` by default.
     pub digits: &'a str,
     /// `--only`.
     pub only: bool,
@@ -57,26 +58,26 @@ pub struct Options<'m, 'a> {
     pub drop_refused: bool,
     /// `--quiet`.
     pub quiet: bool,
-    /// `--errors`.
+    /// `--errors`; `10` by default.
     pub errors: &'a str,
-    /// `--color`.
+    /// `--color`; `auto` by default.
     pub color: &'a str,
     /// `--strict`.
     pub strict: bool,
     /// `--keep-going`.
     pub keep_going: bool,
-    /// `--in-place`; empty without a suffix.
+    /// The suffix of `--in-place`; the empty text if the option has none.
     pub in_place: Option<&'a str>,
 }
 
-// The text of an option that has a default.
+// The value of an option that has a default; the empty text if there is no value.
 fn text_of<'a>(matches: &ArgMatches<'a>, id: &str) -> &'a str
     ensures { result.now ≡ unwrap_or (first_value (found_of matches.now) id.now) [] }
 {
     matches.get_str(id).unwrap_or("")
 }
 
-// The two texts of `--between`.
+// The two texts of `--between`; `None` unless there are exactly two.
 fn between_of<'a>(matches: &ArgMatches<'a>) -> Option<(&'a str, &'a str)>
     ensures { option_map (λ p. (p.0.now, p.1.now)) result
         ≡ spec.pair_of (spec.values_of (found_of matches.now) (codes "between")) }
@@ -87,7 +88,7 @@ fn between_of<'a>(matches: &ArgMatches<'a>) -> Option<(&'a str, &'a str)>
     }
 }
 
-// The first format of `--from`; RFC 3339 by default.
+// The first value of `--from`; `rfc3339` if there is none.
 fn first_format<'a>(matches: &ArgMatches<'a>) -> &'a str
     ensures { result.now ≡ spec.first_format (spec.values_of (found_of matches.now) (codes "from")) }
 {
@@ -98,7 +99,7 @@ fn first_format<'a>(matches: &ArgMatches<'a>) -> &'a str
 }
 
 impl<'m, 'a> Options<'m, 'a> {
-    /// The values that [`make_command`](crate::make_command) matched.
+    /// The values of the options in the matches of the command of [`make_command`](crate::make_command).
     pub fn of(matches: &'m ArgMatches<'a>) -> Options<'m, 'a>
         ensures { spec.AreGiven (found_of matches.now) result }
     {

@@ -12,7 +12,7 @@ use byte_streams::{Sink, Unwritten};
 use std::ascii::EscapeDefault;
 use time_locating::Expected;
 
-// Writes the rest of an escaped byte.
+// Writes the remaining bytes of an escaped byte, at most 4.
 fn write_left<L: Sink>(mut left: EscapeDefault, log: &mut L) -> Result<(), Unwritten>
     requires { escape_byte_end left ≤ 4 }
     ensures written { OnOk result (Appends (L.contents log.old) (L.contents log.new) (escape_byte_rest left)) }
@@ -25,7 +25,7 @@ fn write_left<L: Sink>(mut left: EscapeDefault, log: &mut L) -> Result<(), Unwri
     write_left(left, log)
 }
 
-// Writes the bytes, and escapes those that don't print.
+// Writes the bytes, each escaped by `escape_ascii`: quotes, backslashes and all but printable ASCII with a backslash.
 fn write_escaped<L: Sink>(bytes: &[u8], log: &mut L) -> Result<(), Unwritten>
     ensures written { OnOk result (Appends (L.contents log.old) (L.contents log.new) (flat_map escape_ascii bytes.now)) }
     ensures cause { HasCause result (L.faults log.old) (L.faults log.new) }
@@ -37,7 +37,8 @@ fn write_escaped<L: Sink>(bytes: &[u8], log: &mut L) -> Result<(), Unwritten>
     write_escaped(rest, log)
 }
 
-// Writes what was expected.
+// Writes what was expected: a literal in single quotes, escaped by `escape_ascii`; the name of a component; or `the
+// end`.
 fn write_expectation<L: Sink>(expected: Expected<'_>, log: &mut L) -> Result<(), Unwritten>
     ensures written { OnOk result (Appends (L.contents log.old) (L.contents log.new) (spec.expectation_text (wants expected.entry))) }
     ensures cause { HasCause result (L.faults log.old) (L.faults log.new) }
@@ -53,7 +54,7 @@ fn write_expectation<L: Sink>(expected: Expected<'_>, log: &mut L) -> Result<(),
     }
 }
 
-/// Writes what was expected at an error, after its reason; nothing for `None`.
+/// Writes `: expected ` and what was expected at an error; nothing for `None`.
 pub fn write_expected<L: Sink>(expected: Option<Expected<'_>>, log: &mut L) -> Result<(), Unwritten>
     ensures written { OnOk result (Appends (L.contents log.old) (L.contents log.new)
         (spec.expected_text (option_map wants expected.entry))) }
@@ -66,15 +67,15 @@ pub fn write_expected<L: Sink>(expected: Option<Expected<'_>>, log: &mut L) -> R
     write_expectation(expected, log)
 }
 
-/// How many bytes of a line are printed.
+/// How many bytes of a line are printed at most.
 const PRINTED: usize = 60;
 
-/// How many of them may come before the error's column.
+/// How many printed bytes of a line may come before the error's column.
 const BEFORE: usize = 40;
 
 const BLANKS: [u8; BEFORE] = [b' '; BEFORE];
 
-// A byte, or a dot for one that doesn't print.
+// The byte if it is printable ASCII or a space, otherwise `.`.
 fn printable_byte(byte: u8) -> u8
     ensures { result ≡ spec.printable_byte byte }
 {
@@ -85,7 +86,7 @@ fn printable_byte(byte: u8) -> u8
     }
 }
 
-// Writes the bytes, with dots for those that don't print.
+// Writes the bytes, with a dot for each that isn't printable ASCII or a space.
 fn write_printable<L: Sink>(bytes: &[u8], log: &mut L) -> Result<(), Unwritten>
     ensures written { OnOk result (Appends (L.contents log.old) (L.contents log.new) (map spec.printable_byte bytes.now)) }
     ensures cause { HasCause result (L.faults log.old) (L.faults log.new) }
@@ -105,7 +106,7 @@ fn write_blanks<L: Sink>(n: usize, log: &mut L) -> Result<(), Unwritten>
     log.write_all(&BLANKS[..n.min(BEFORE)])
 }
 
-// The bytes of a line around a column: at most 60, with at most 40 before it.
+// At most 60 bytes of a line, from 40 bytes before the column or from the line's start. Columns count from 1.
 fn bytes_around(line: &[u8], column: usize) -> &[u8]
     ensures { result.now ≡ take 60 (drop (column - 41) line.now) }
 {
@@ -114,7 +115,8 @@ fn bytes_around(line: &[u8], column: usize) -> &[u8]
     &rest[..PRINTED.min(rest.len())]
 }
 
-/// Writes an LF, the bytes of a line around a column, from 1, another LF, and a red caret under that column.
+/// Writes an LF, at most 60 bytes of a line around a column, which counts from 1, another LF, and a red caret under
+/// that column. Bytes that aren't printable ASCII are written as dots. No LF follows the caret.
 pub fn write_pointer<L: Sink>(line: &[u8], column: usize, log: &mut L) -> Result<(), Unwritten>
     ensures written { OnOk result (Appends (L.contents log.old) (L.contents log.new) (spec.pointer line.now column)) }
     ensures cause { HasCause result (L.faults log.old) (L.faults log.new) }

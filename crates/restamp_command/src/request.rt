@@ -1,4 +1,4 @@
-//! The request of the options.
+//! What the options request, with all values parsed.
 ghost use Rattle.std.specs.Prelude.{◌≡◌, MatchResult, Some};
 ghost use Rattle.restamp_command.specs.Options.{text_behind};
 ghost use Rattle.restamp_command.specs.Fault.{erased_fault};
@@ -22,12 +22,12 @@ use std::rt::{Env, Files};
 use time_values::{OffsetDateTime, UtcDateTime, UtcOffset};
 use time_zones::find_zone;
 
-/// The request of the options.
+/// What the options request, with all values parsed and all formats and zones loaded.
 #[derive(Drop)]
 pub struct Request<'a> {
     /// The place of a line's timestamp; `None` means the first byte from which on a format matches.
     pub place: Option<Place<'a>>,
-    /// The format that is tried first.
+    /// The format that is tried first. If no format matches at `place`, its error is the reason.
     pub first: Reading,
     /// The formats that are tried next, in turn.
     pub others: Vec<Reading>,
@@ -35,9 +35,9 @@ pub struct Request<'a> {
     pub given: OwnedDefaults<'a>,
     /// How a moment is written.
     pub style: Style,
-    /// Drops lines with an earlier moment.
+    /// Drops lines with an earlier moment; `None` drops none.
     pub since: Option<OffsetDateTime>,
-    /// Drops lines with this moment or a later one.
+    /// Drops lines with this moment or a later one; `None` drops none.
     pub until: Option<OffsetDateTime>,
     /// Which lines are written.
     pub output: Output,
@@ -45,15 +45,17 @@ pub struct Request<'a> {
     pub reports: Reports,
     /// Whether to stop at the first rejected line.
     pub stops: bool,
-    /// Prints rejected lines below their reasons, in colours.
+    /// Prints rejected lines below their reasons, in colours, with a caret under the column of the error.
     pub shows_lines: bool,
-    /// Whether a rejected line is a failure, and a line without a timestamp is rejected.
+    /// Whether a rejected line makes the exit status 2, and a line without a timestamp is rejected.
     pub strict: bool,
-    /// The suffix of the backups of files that are replaced; empty without backups.
+    /// The suffix of backups' names, in which `*` means the file's name; empty without backups. `None`: no file is
+    /// replaced.
     pub in_place: Option<&'a str>,
 }
 
-// How a line is split into fields.
+// How a line is split into fields, by `--blanks`, `--csv` and `--delimiter`. An error if the delimiter isn't one byte
+// or `\t`, unless `--blanks` is given.
 fn find_fields<'a>(options: &Options<'_, 'a>) -> Result<Fields, Fault<'a>>
     ensures { MatchResult result (λ fields. spec.fields_of options.now ≡ Some fields)
         (λ fault. spec.IsFault options.now (erased_fault fault)) }
@@ -69,7 +71,7 @@ fn find_fields<'a>(options: &Options<'_, 'a>) -> Result<Fields, Fault<'a>>
     }
 }
 
-// The place of the field of that number.
+// The place of the field of that number, counted from 1. An error if the text is no such number, or by `find_fields`.
 fn find_field<'a>(options: &Options<'_, 'a>, number: &'a str) -> Result<Place<'a>, Fault<'a>>
     ensures { MatchResult result (λ place. spec.IsFieldPlace options.now (Some number.now) (spec.erased_place (Some place)))
         (λ fault. text_behind options.now.field ≡ Some number.now → spec.IsFault options.now (erased_fault fault)) }
@@ -79,7 +81,7 @@ fn find_field<'a>(options: &Options<'_, 'a>, number: &'a str) -> Result<Place<'a
     Ok(Place::Field(fields, index))
 }
 
-// The place of a line's timestamp.
+// The place of a line's timestamp: the whole line without an option, `None` for `--anywhere`. An error by `find_field`.
 fn find_place<'a>(options: &Options<'_, 'a>) -> Result<Option<Place<'a>>, Fault<'a>>
     ensures { MatchResult result (λ place. spec.IsPlace options.now (spec.erased_place place))
         (λ fault. spec.IsFault options.now (erased_fault fault)) }
@@ -102,7 +104,7 @@ fn find_place<'a>(options: &Options<'_, 'a>) -> Result<Option<Place<'a>>, Fault<
     Ok(Some(find_field(options, number)?))
 }
 
-// The default year, if there is one.
+// The default year: the value of `--year`, or `None` without it. An error if that isn't from -999999 to 999999.
 fn find_given_year<'a>(options: &Options<'_, 'a>) -> Result<Option<i32>, Fault<'a>>
     ensures { MatchResult result (λ year. spec.IsYearGiven (text_behind options.now.year) year)
         (λ fault. spec.IsFault options.now (erased_fault fault)) }
@@ -113,7 +115,7 @@ fn find_given_year<'a>(options: &Options<'_, 'a>) -> Result<Option<i32>, Fault<'
     Ok(Some(find_year(text).ok_or(Fault::Year(text))?))
 }
 
-// The default offset, UTC unless given.
+// The default offset: the value of `--offset`, or UTC without it. An error if that is no offset such as `+05:30`.
 fn find_given_offset<'a>(options: &Options<'_, 'a>) -> Result<UtcOffset, Fault<'a>>
     ensures { MatchResult result (λ offset. spec.IsOffsetGiven (text_behind options.now.offset) offset)
         (λ fault. spec.IsFault options.now (erased_fault fault)) }
@@ -124,7 +126,8 @@ fn find_given_offset<'a>(options: &Options<'_, 'a>) -> Result<UtcOffset, Fault<'
     find_offset(text).ok_or(Fault::Offset(text))
 }
 
-// The moment that an ambiguous local time means; none by default.
+// What an ambiguous local time means, by `--fold`; without it, an ambiguous local time is rejected. An error if the
+// value isn't `refuse`, `earlier` or `later`.
 fn find_given_fold<'a>(options: &Options<'_, 'a>) -> Result<Fold, Fault<'a>>
     ensures { MatchResult result (λ fold. spec.IsFoldGiven (text_behind options.now.fold) fold)
         (λ fault. spec.IsFault options.now (erased_fault fault)) }
@@ -135,7 +138,7 @@ fn find_given_fold<'a>(options: &Options<'_, 'a>) -> Result<Fold, Fault<'a>>
     find_fold(text).ok_or(Fault::Fold(text))
 }
 
-// The name of a zone in reports.
+// The name of a zone in reports: `the local zone` for `local`, otherwise the name itself.
 fn reported_zone_name(name: &str) -> &str
     ensures { result.now ≡ spec.reported_zone_name name.now }
 {
@@ -146,7 +149,8 @@ fn reported_zone_name(name: &str) -> &str
     }
 }
 
-// The default for an omitted offset: a named zone, or else an offset.
+// The default for an omitted offset: the zone of `--in`, or without it the offset of `find_given_offset`. An error if
+// an option rejects its value, or the zone can't be loaded.
 fn find_local<'a, R: Env + Files + AllocGlobal>(
     rt: &R,
     options: &Options<'_, 'a>,
@@ -164,7 +168,8 @@ fn find_local<'a, R: Env + Files + AllocGlobal>(
     }
 }
 
-// The defaults for an omitted year and an omitted offset.
+// The defaults for an omitted year and an omitted offset, without a latest moment. An error if an option rejects its
+// value.
 fn find_parts<'a, R: Env + Files + AllocGlobal>(
     rt: &R,
     options: &Options<'_, 'a>,
@@ -181,7 +186,8 @@ fn find_parts<'a, R: Env + Files + AllocGlobal>(
     })
 }
 
-// The moment of a bound's text, if there is one, by the clock at `now`.
+// The moment of the text of `--since`, `--until` or `--latest`, by the formats and the clock at `now`; `None` without a
+// text. The error is the text, and why it is no moment.
 fn find_bound<'a>(
     now: Option<UtcDateTime>,
     first: &Reading,
@@ -198,7 +204,8 @@ fn find_bound<'a>(
     Ok(Some(moment))
 }
 
-// The defaults for what a timestamp omits, by the formats of the options and the clock at `now`.
+// The defaults for what a timestamp omits: those of `find_parts`, and the moment of `--latest`, parsed with them by the
+// formats or the clock at `now`. An error if an option rejects its value.
 #[tactic(auto, using(crate::proofs::FormatLemmas::fault_at))]
 fn find_given<'a, R: Env + Files + AllocGlobal>(
     rt: &R,
@@ -219,7 +226,8 @@ fn find_given<'a, R: Env + Files + AllocGlobal>(
     Ok(OwnedDefaults { latest, ..parts })
 }
 
-// Which lines are written.
+// Which lines are written: only the times for `--only`, only rewritten lines for `--drop-refused`, otherwise all but
+// those out of the bounds.
 fn output_of(options: &Options<'_, '_>) -> Output
     ensures { result ≡ spec.output_of options.now }
 {
@@ -232,14 +240,15 @@ fn output_of(options: &Options<'_, '_>) -> Output
     }
 }
 
-// Whether to stop at the first rejected line.
+// Whether to stop at the first rejected line: `--strict` without `--keep-going`.
 fn stops(options: &Options<'_, '_>) -> bool
     ensures { result ≡ spec.stops options.now }
 {
     options.strict && !options.keep_going
 }
 
-// Which rejected lines are reported.
+// Which rejected lines are reported: none for `--quiet`, otherwise the first ones of each file, as many as `--errors`.
+// An error if that is no number, even with `--quiet`.
 fn find_reports<'a>(options: &Options<'_, 'a>) -> Result<Reports, Fault<'a>>
     ensures { MatchResult result (λ reports. spec.AreReports options.now reports)
         (λ fault. spec.IsFault options.now (erased_fault fault)) }
@@ -251,7 +260,8 @@ fn find_reports<'a>(options: &Options<'_, 'a>) -> Result<Reports, Fault<'a>>
     Ok(Reports::First(errors))
 }
 
-// The suffix of the backups of files that are replaced.
+// The suffix of the backups of files that are replaced, empty without backups; `None` without `--in-place`. An error if
+// it has a slash.
 fn find_in_place<'a>(options: &Options<'_, 'a>) -> Result<Option<&'a str>, Fault<'a>>
     ensures { MatchResult result (λ suffix. spec.IsSuffix options.now (text_behind suffix))
         (λ fault. spec.IsFault options.now (erased_fault fault)) }
@@ -265,7 +275,7 @@ fn find_in_place<'a>(options: &Options<'_, 'a>) -> Result<Option<&'a str>, Fault
     Ok(Some(suffix))
 }
 
-// Whether reports have colours.
+// Whether reports have colours, by `--color`. An error if its value isn't `auto`, `always` or `never`.
 fn find_colors<'a>(options: &Options<'_, 'a>, is_terminal: bool) -> Result<bool, Fault<'a>>
     ensures { MatchResult result (λ shows. spec.AreColors options.now is_terminal shows)
         (λ fault. spec.IsFault options.now (erased_fault fault)) }
@@ -273,7 +283,7 @@ fn find_colors<'a>(options: &Options<'_, 'a>, is_terminal: bool) -> Result<bool,
     find_shows(options.color, is_terminal).ok_or(Fault::Color(options.color))
 }
 
-// The bounds of the moments of lines that are kept, by the defaults.
+// The moments of `--since` and `--until`, each `None` without the option. An error if the text of one is no moment.
 fn find_bounds<'a>(
     options: &Options<'_, 'a>,
     now: Option<UtcDateTime>,
@@ -299,13 +309,12 @@ fn find_bounds<'a>(
 }
 
 impl<'a> Request<'a> {
-    /// The request of the options. If `--color` is `auto`, reports have colours if they go to a terminal. It loads a
+    /// The request of the options. If `--color` is `auto`, reports have colours if `is_terminal` is true. It loads a
     /// named zone from its file, and all zones of the system for the format `rfc9557`. `now` is the clock's time, or
-    /// `None` if it is out of range, which matters only if a bound is a word.
+    /// `None` if it is out of range, which matters only if a time in the options is a word such as `today`.
     ///
-    /// # Errors
-    ///
-    /// An option rejects its value, or memory is short.
+    /// It is an error if an option rejects its value, is a default that no format can use, or needs zones that can't be
+    /// loaded, or if memory is short.
     #[tactic(auto, using(crate::proofs::FormatLemmas::fault_at))]
     pub fn new<R: Env + Files + AllocGlobal + Clone + Drop>(
         rt: &R,
@@ -347,7 +356,7 @@ impl<'a> Request<'a> {
         })
     }
 
-    /// The settings for the lines of files.
+    /// The settings for the lines of files. Their `strict` is `self.stops`.
     pub fn settings(&self) -> Settings<'_>
         ensures { spec.AreSettingsOf self.now result }
     {
@@ -359,7 +368,7 @@ impl<'a> Request<'a> {
         }
     }
 
-    /// What is done with each line.
+    /// The job, which decides what is done with each line. It requires a timestamp if `self.strict` is true.
     pub fn job(&self) -> Job<'_>
         ensures { spec.IsJobOf self.now result }
     {

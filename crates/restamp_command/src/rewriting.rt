@@ -28,7 +28,7 @@ use time_values::text::Text;
 pub struct Restamping<'a> {
     /// What is done with each line.
     pub job: Job<'a>,
-    /// The name of the zone of local times, for reports.
+    /// The name of the zone of local times in reports.
     pub zone: &'a str,
     /// Prints a rejected line below its reason, with a caret under the column of the error, in colours.
     pub shows_lines: bool,
@@ -67,8 +67,9 @@ impl Rewriting for Restamping<'_> {
 }
 
 impl Restamping<'_> {
-    // Writes the column of the error in a rejected front, the reason or the missing part, and what was expected there.
-    // Not inlined, so that reports need no stack while lines are rewritten.
+    // Writes the column of the error, from 1, then `: `, the reason or the missing part, and what was expected there;
+    // if `shows_lines` is true, in red after the `: `, and below it the line with a caret. No LF ends it. `front` is
+    // the start of the rejected line. Not inlined, so that reports need no stack while lines are rewritten.
     #[inline(never)]
     fn write_location<L: Sink>(
         &self,
@@ -134,8 +135,8 @@ pub fn serve<W: Sink, L: Sink, O: Opening>(
     stream.serve_files(&rewriting, request.settings(), names, opening, block)
 }
 
-/// Replaces a file by its processed lines, unless none of its timestamps is rewritten. Returns the log and the counts
-/// of the file's lines by their actions.
+/// Replaces a file by its processed lines, unless none of its timestamps is rewritten. Returns the log, the counts of
+/// the file's lines by their actions, and whether the file was replaced, or why not, such as a stop at a rejected line.
 ///
 /// A crash at any moment leaves the whole new file under the file's name, or what a crash before the call might have
 /// left there.

@@ -20,7 +20,7 @@ use time_zones::write_suffix;
 pub struct Style {
     /// The format.
     pub writing: Writing,
-    /// How many digits the fraction of RFC 3339 has.
+    /// How many digits the fraction of RFC 3339 has. Other formats ignore it.
     pub digits: FractionDigits,
     /// The zone that moments are converted to.
     pub zone: Zone,
@@ -28,14 +28,14 @@ pub struct Style {
     pub suffix: Vec<u8>,
 }
 
-// The name of the output zone.
+// The name of the output zone: `utc` for `--utc`, otherwise the value of `--zone`.
 fn zone_of<'a>(options: &Options<'_, 'a>) -> &'a str
     ensures { result.now ≡ spec.zone_of options.now }
 {
     if options.utc { "utc" } else { options.zone }
 }
 
-// The output format of that name.
+// The output format that the text names or describes; RFC 3339 for `rfc9557`. An error if there is none.
 fn find_format<'a>(name: &'a str) -> Result<Writing, FormatFault<'a>>
     ensures { MatchResult result (λ writing. spec.IsWriting name.now writing)
         (λ fault. (spec.is_zoned name.now ≡ false) × IsWritingFault name.now (fault_of fault)) }
@@ -46,8 +46,8 @@ fn find_format<'a>(name: &'a str) -> Result<Writing, FormatFault<'a>>
     find_writing(name.as_bytes())
 }
 
-// The text after each timestamp: the zone in brackets for the format `rfc9557`, and otherwise nothing. It is an error if
-// the zone has neither a name nor an offset of whole minutes, or if memory is short.
+// The text after each timestamp: for `rfc9557` the zone in brackets, otherwise nothing. An error if memory is short, or
+// `rfc9557` has a zone without a name that RFC 9557 allows and without an offset of whole minutes below 24 hours.
 fn find_suffix<'a>(alloc: Global, name: &'a str, zone: &Zone) -> Result<Vec<u8>, Fault<'a>>
     ensures { MatchResult result (λ suffix. spec.IsSuffixBy name.now zone.now suffix.items)
         (λ fault. spec.IsSuffixFault name.now zone.now (erased_fault fault)) }
@@ -65,7 +65,8 @@ fn find_suffix<'a>(alloc: Global, name: &'a str, zone: &Zone) -> Result<Vec<u8>,
     }
 }
 
-/// How a moment is written.
+/// How a moment is written, by `--to`, `--zone` or `--utc`, and `--digits`. An error if an option rejects its value, if
+/// `rfc9557` has no text for the zone, or if memory is short.
 pub(crate) fn find_style<'a, R: Env + Files + AllocGlobal>(
     rt: &R,
     options: &Options<'_, 'a>,

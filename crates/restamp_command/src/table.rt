@@ -1,6 +1,6 @@
 //! The options, each a row of a table, and the end of the help.
 
-/// The end of the help.
+/// The text at the end of the help: examples, formats, times and the exit status.
 pub(crate) const EXAMPLES: &str = "Examples:
   tail -f app.log | restamp -l -z local
   tail -f access.log | restamp -b '[' ']' -f common -u
@@ -11,46 +11,47 @@ pub(crate) const EXAMPLES: &str = "Examples:
   restamp -i=.old -k 2 --csv -z utc orders.csv
 
 FORMAT is rfc3339, rfc9557, rfc2822, iso8601, unix, unix-ms, unix-us, unix-ns;
-or a description, as `[year]-[month]-[day]` or as strftime has it, `%Y-%m-%d`;
+or a description, as `[year]-[month]-[day]` or, of strftime, `%Y-%m-%d`;
 for --from also common (access logs) or syslog.
-TIME is of RFC 3339 or as --from has it; or now, now-90m, now+2d (also s, h, w),
+TIME is of RFC 3339 or a format of --from; now, now-90m, now+2d (also s, h, w),
 today or yesterday.
-The status is 0 where a time was rewritten, 1 where none was, and 2 after a
-wrong option, a file that was not read or not replaced, a failed write, or a
-line that is refused under --strict.";
+The status is 0 if a time was rewritten, 1 if none was, and 2 after an invalid
+option, a file that was not read or not replaced, a failed write, or a line that
+is rejected under --strict.";
 
 /// How many values an option has, and their name in help.
 #[derive(Clone, Copy)]
 pub(crate) enum Kind {
-    /// None: a flag.
+    /// No value: a flag.
     Flag,
-    /// One.
+    /// One value.
     Text(&'static str),
-    /// One for each time that the option is given.
+    /// One value each time that the option is given.
     Texts(&'static str),
-    /// Two.
+    /// Two values.
     Pair(&'static str),
-    /// One after `=`, or the empty text.
+    /// One value after `=`; the empty text without it.
     Attached(&'static str),
 }
 
 /// An option.
 #[derive(Clone, Copy)]
 pub(crate) struct Row {
+    /// The long form, without `--`.
     pub(crate) name: &'static str,
-    /// The short form.
+    /// The letter of the short form, without `-`.
     pub(crate) letter: Option<char>,
     pub(crate) kind: Kind,
     /// The default value.
     pub(crate) default: Option<&'static str>,
     pub(crate) help: &'static str,
-    /// The options that it requires.
+    /// The long forms of the options without which it is an error.
     pub(crate) needs: &'static [&'static str],
-    /// The options that it excludes.
+    /// The long forms of the options with which it is an error.
     pub(crate) excludes: &'static [&'static str],
 }
 
-// The defaults of a row.
+// The values that rows omit: a flag without a letter, which requires and excludes no option.
 const FLAG: Row = Row {
     name: "",
     letter: None,
@@ -61,17 +62,17 @@ const FLAG: Row = Row {
     excludes: &[],
 };
 
-// The place of a line's timestamp.
+// The options for the place of a line's timestamp.
 const PLACES: &[Row] = &[
     Row {
         name: "front",
         letter: Some('l'),
-        help: "The line begins with it",
+        help: "The line starts with the time",
         ..FLAG
     },
     Row {
         name: "anywhere",
-        help: "It stands at the first place where a format reads",
+        help: "The first text in the line that a format matches",
         ..FLAG
     },
     Row {
@@ -112,13 +113,13 @@ const PLACES: &[Row] = &[
     },
     Row {
         name: "csv",
-        help: "A field may stand in quotes",
+        help: "A field may be in quotes",
         needs: &["field"],
         ..FLAG
     },
 ];
 
-// How timestamps are parsed.
+// The options for how timestamps are parsed.
 const READING: &[Row] = &[
     Row {
         name: "from",
@@ -131,7 +132,7 @@ const READING: &[Row] = &[
     Row {
         name: "year",
         kind: Kind::Text("YEAR"),
-        help: "The year of times that have none",
+        help: "The year of times without one",
         ..FLAG
     },
     Row {
@@ -144,7 +145,7 @@ const READING: &[Row] = &[
     Row {
         name: "offset",
         kind: Kind::Text("OFFSET"),
-        help: "The offset of times that have none [default: +00:00]",
+        help: "The offset of times without one [default: +00:00]",
         ..FLAG
     },
     Row {
@@ -157,13 +158,13 @@ const READING: &[Row] = &[
     Row {
         name: "fold",
         kind: Kind::Text("WHICH"),
-        help: "Of two moments: earlier, later or refuse",
+        help: "For an ambiguous time: earlier, later or refuse",
         needs: &["in"],
         ..FLAG
     },
 ];
 
-// How moments are written.
+// The options for how moments are written.
 const WRITING: &[Row] = &[
     Row {
         name: "to",
@@ -184,7 +185,7 @@ const WRITING: &[Row] = &[
     Row {
         name: "utc",
         letter: Some('u'),
-        help: "The same as --zone utc",
+        help: "Same as --zone utc",
         excludes: &["zone"],
         ..FLAG
     },
@@ -203,7 +204,7 @@ const WRITING: &[Row] = &[
     },
 ];
 
-// Which lines are written.
+// The options for which lines are written.
 const LINES: &[Row] = &[
     Row {
         name: "since",
@@ -221,30 +222,30 @@ const LINES: &[Row] = &[
     },
     Row {
         name: "drop-refused",
-        help: "Drops lines with no time, or a refused one",
+        help: "Drops lines without a time or with a rejected one",
         ..FLAG
     },
 ];
 
-// What is done with rejected lines.
+// The options for what is done with rejected lines.
 const REPORTS: &[Row] = &[
     Row {
         name: "quiet",
         letter: Some('q'),
-        help: "Names no refused line",
+        help: "Reports no rejected line",
         ..FLAG
     },
     Row {
         name: "errors",
         kind: Kind::Text("N"),
         default: Some("10"),
-        help: "Names the first N of a file",
+        help: "Reports the first N of each file",
         ..FLAG
     },
     Row {
         name: "strict",
         letter: Some('x'),
-        help: "Stops at the first, also of lines with no time",
+        help: "Stops at the first, or at a line without a time",
         ..FLAG
     },
     Row {
@@ -257,24 +258,21 @@ const REPORTS: &[Row] = &[
         name: "color",
         kind: Kind::Text("WHEN"),
         default: Some("auto"),
-        help: "In colours: auto, always or never",
+        help: "Colours reports: auto, always or never",
         ..FLAG
     },
 ];
 
-/// The headings of help, and the options under each.
+/// The headings of the help in order, each with its options.
 pub(crate) static SECTIONS: [(&str, &[Row]); 5] = [
-    (
-        "Where the time stands (else the whole line is the time)",
-        PLACES,
-    ),
+    ("Where the time is (default: the whole line)", PLACES),
     ("How it is read", READING),
     ("How it is written", WRITING),
-    ("Which lines go out", LINES),
-    ("What becomes of refused lines", REPORTS),
+    ("Which lines are written", LINES),
+    ("Rejected lines", REPORTS),
 ];
 
-/// The options under no heading.
+/// The options that have no heading in the help.
 pub(crate) const OTHERS: &[Row] = &[
     Row {
         name: "in-place",

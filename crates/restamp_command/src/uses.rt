@@ -7,14 +7,15 @@ use crate::fault::Fault;
 use crate::options::Options;
 use restamp_formats::{Part, Reading};
 
-// Whether some text of one of the formats may omit that part.
+// Whether a default for that part can have an effect: one of the formats uses it, and a text of it may omit the part.
 fn one_can_default(first: &Reading, others: &[Reading], part: Part) -> bool
     ensures { result ≡ spec.one_can_default part first.now others.now }
 {
     first.can_default(part) || others.iter().any(|format| format.can_default(part))
 }
 
-/// The error of an option for a part that each text of the formats has.
+/// The error of the first of `--year`, `--latest`, `--offset` and `--in` that is given but can't have an effect, as the
+/// variants of [`Fault`] explain. `None` without such an option.
 pub(crate) fn find_unused<'a>(
     options: &Options<'_, 'a>,
     first: &Reading,

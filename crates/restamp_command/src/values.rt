@@ -9,21 +9,23 @@ use time_formatting::FractionDigits;
 use time_parsing::Parsable;
 use time_values::UtcOffset;
 
-/// Parses a decimal number from 0 to 18446744073709551615, which may have a `+`. Returns `None` for any other text.
+/// Parses a number from 0 to 18446744073709551615 in ASCII digits, which may start with zeros, after an optional `+`.
+/// Returns `None` for any other text.
 pub fn find_number(text: &str) -> Option<u64>
     ensures { spec.IsNumber text.now result }
 {
     text.parse::<u64>().ok()
 }
 
-/// Parses a decimal number from 1 to 18446744073709551615, which may have a `+`. Returns `None` for any other text.
+/// Parses a number from 1 to 18446744073709551615 in ASCII digits, which may start with zeros, after an optional `+`.
+/// Returns `None` for any other text.
 pub fn find_positive(text: &str) -> Option<usize>
     ensures { spec.IsPositive text.now result }
 {
     text.parse::<usize>().ok().filter(|number| *number != 0)
 }
 
-/// Parses a year from -999999 to 999999. Returns `None` for any other text.
+/// Parses a year from -999999 to 999999 in one or more ASCII digits, with or without a sign. `None` for any other text.
 pub fn find_year(text: &str) -> Option<i32>
     ensures { spec.IsYear text.now result }
 {
@@ -31,7 +33,8 @@ pub fn find_year(text: &str) -> Option<i32>
     year.filter(|year| year.unsigned_abs() <= 999_999)
 }
 
-/// The byte that ends a field; `\t` is TAB.
+/// The byte that ends a field: TAB for a backslash and `t`, or the byte of a text of one byte. `None` for any other
+/// text.
 pub fn find_delimiter(text: &str) -> Option<u8>
     ensures { result ≡ spec.delimiter_of text.now }
 {
@@ -44,7 +47,8 @@ pub fn find_delimiter(text: &str) -> Option<u8>
     }
 }
 
-/// How many digits of a fraction are written.
+/// How many digits of a fraction are written: `Auto` for `auto`, or exactly 0 to 9 for one ASCII digit. `None` for any
+/// other text.
 pub fn find_digits(text: &str) -> Option<FractionDigits>
     ensures { result ≡ spec.digits_of text.now }
 {
@@ -57,7 +61,8 @@ pub fn find_digits(text: &str) -> Option<FractionDigits>
     }
 }
 
-/// Whether to use colours: always, never, or if the output is a terminal.
+/// Whether to use colours: true for `always`, false for `never`, and `is_terminal` for `auto`. `None` for any other
+/// text.
 pub fn find_shows(text: &str, is_terminal: bool) -> Option<bool>
     ensures { result ≡ spec.shows_of text.now is_terminal }
 {
@@ -69,7 +74,8 @@ pub fn find_shows(text: &str, is_terminal: bool) -> Option<bool>
     }
 }
 
-/// The moment that an ambiguous local time means.
+/// What an ambiguous local time means: an error for `refuse`, its earlier moment for `earlier`, or the later one for
+/// `later`. `None` for any other text.
 pub fn find_fold(text: &str) -> Option<Fold>
     ensures { result ≡ spec.fold_of text.now }
 {
@@ -81,7 +87,7 @@ pub fn find_fold(text: &str) -> Option<Fold>
     }
 }
 
-// The items of an offset such as `+05:30`.
+// The items of the description of an offset such as `+05:30`.
 fn offset_items() -> [BorrowedFormatItem<'static>; 3]
     ensures { map borrowed_shape result ≡ spec.offset_parts }
 {
@@ -97,14 +103,15 @@ fn offset_items() -> [BorrowedFormatItem<'static>; 3]
     ]
 }
 
-// The items in sequence.
+// The description that is these items in sequence.
 fn compound<'a>(items: &'a [BorrowedFormatItem<'a>]) -> BorrowedFormatItem<'a>
     ensures { borrowed_shape result ≡ sequence (trees (map borrowed_shape items.now)) }
 {
     BorrowedFormatItem::Compound(items)
 }
 
-/// An offset such as `+05:30`.
+/// Parses an offset from -25:59 to +25:59: a sign, two digits of hours, a colon and two digits of minutes, at most 59.
+/// `None` for any other text.
 pub fn find_offset(text: &str) -> Option<UtcOffset>
     ensures { spec.IsOffsetText text.now result }
 {

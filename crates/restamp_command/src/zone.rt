@@ -12,7 +12,7 @@ use time_zones::{NamedZone, ZoneFault, ZoneText, find_zone};
 /// The zone that moments are converted to.
 #[derive(Drop)]
 pub enum Zone {
-    /// The offset is kept.
+    /// Each moment keeps its offset.
     Keep,
     /// One offset.
     Fixed(UtcOffset),
@@ -21,7 +21,8 @@ pub enum Zone {
 }
 
 impl Zone {
-    /// The text of the zone in a suffix of RFC 9557; `None` if each moment keeps its offset, or the zone has no name.
+    /// The zone in a suffix of RFC 9557, by its offset or its name; `None` for `Keep`, and for a named zone without a
+    /// name, such as one by a rule in `TZ`.
     pub(crate) fn text(&self) -> Option<ZoneText<'_>>
         ensures { option_map zone_of result ≡ spec.suffix_zone self.now }
     {
@@ -32,7 +33,7 @@ impl Zone {
         }
     }
 
-    /// The clock that moments are converted to.
+    /// The clock of `restamp_formats` that converts moments to this zone.
     pub fn clock(&self) -> Clock<'_>
         ensures { spec.IsClockOf self.now result }
     {
@@ -49,7 +50,7 @@ impl Zone {
 pub enum Local<'a> {
     /// An offset.
     Offset(UtcOffset),
-    /// A named zone, its name, and which moment an ambiguous local time means.
+    /// A named zone, its name in reports, and which moment an ambiguous local time means.
     Zone(NamedZone, &'a str, Fold),
 }
 
@@ -60,12 +61,12 @@ pub struct OwnedDefaults<'a> {
     pub year: Option<i32>,
     /// The offset, or the zone of local times.
     pub local: Local<'a>,
-    /// A timestamp without a year means the latest moment that isn't after this one, if `year` is `None`.
+    /// A timestamp without a year means its latest moment in ten years that isn't after this one, if `year` is `None`.
     pub latest: Option<OffsetDateTime>,
 }
 
 impl Local<'_> {
-    /// The name of the zone of local times; `its zone` without a name.
+    /// The name of the zone of local times in reports; `its zone` for an offset.
     pub fn zone_name(&self) -> &str
         ensures { result.now ≡ spec.zone_name self.now }
     {
@@ -77,7 +78,7 @@ impl Local<'_> {
 }
 
 impl OwnedDefaults<'_> {
-    /// The defaults for parsing.
+    /// These defaults as a value that borrows the zone: either `offset` or `clocks` is set, the other is `None`.
     pub fn defaults(&self) -> Defaults<'_>
         ensures { spec.AreDefaultsOf self.now result }
     {
@@ -100,8 +101,8 @@ impl OwnedDefaults<'_> {
     }
 }
 
-/// Parses the value of `--zone`: `keep`, `utc`, an offset, or the name of a zone, such as `local`. It loads a named
-/// zone from its file.
+/// Parses the value of `--zone`: `keep`, `utc`, an offset such as `+05:30`, or the name of a zone, such as `local`. It
+/// loads a named zone from its file, and returns an error if the text is no such name or the zone can't be loaded.
 pub(crate) fn parse_zone<R: Env + Files + AllocGlobal>(
     rt: &R,
     text: &str,

@@ -1,7 +1,6 @@
 -- A moment has exactly one text in a form.
 use Rattle.std.proofs.Common.{Option, Result, MatchOption, MatchBool, option_map, ◌≡◌, ℕ, ℤ, List, sym, ap, subst, refl, arith, ◌∙◌, None, Some, Ok, Err, ◌+◌, ◌≤◌, Bool, true, false, length, take, drop}
 use Rattle.std.proofs.lemmas.Int.{ints}
-use Rattle.std.specs.Fmt.{signed_decimal}
 use Rattle.time_values.specs.Instants.{clock_nanos}
 use Rattle.time_values.proofs.{InstantLemmas.instant_is, InstantLemmas.clock_nanos_range, InstantLemmas.same_moment, NumberLemmas.same_weekday}
 use Rattle.time_zones.specs.{Suffix.ParsesSuffix, Suffix.zone_tag_of, declared.suffix.Suffixed.Suffixed}
@@ -9,7 +8,7 @@ use Rattle.time_zones.proofs.{FolderLemmas.same_offset_by_seconds, FolderLemmas.
 use Rattle.time_formatting.specs.WellKnown.{mail_text}
 use Rattle.restamp_formats.specs.Common.{TimeZone, local_time_at, offset_date, offset_time, offset_of, offset_instant, IsInstant, IsWhole, greatest_year, Items, OffsetDateTime, UtcOffset, trailing, Checked, AgreesWith, IsLongest, IsSuffix, Tag, critical_key, Zones, WritesTextWith, IsMailText, FractionDigits, Unwritable, Clock, Form, Named, Writing, Match}
 use Rattle.restamp_formats.specs.Zoned.{IsConvertedTo, IsConvertedIn, IsConverted, conversion_error, IsChecked, IsLongestSuffix, IsSuffixed, Suffix, checked, extended, has_tail, has_local_offset}
-use Rattle.restamp_formats.specs.Form.{IsCounted, IsNamedText, IsWrittenBy, IsWritten, unit_of, written}
+use Rattle.restamp_formats.specs.Form.{IsCount, counted, IsNamedText, IsWrittenBy, IsWritten, unit_of, written}
 use Rattle.restamp_formats.specs.{Reason.Reason, Reason.unread, declared.form.Unit.Unit as Unit_}
 
 -- Two values that satisfy a property which only one value satisfies are equal, also if the property is one of two by an
@@ -90,20 +89,18 @@ one_mail_text v s t p q = p.2 ∙ ap (λ w. mail_text w v) (same_weekday p.0 q.0
 one_whole : (unit : Unit_) (n x y : ℤ) → IsWhole (unit_of unit) n x → IsWhole (unit_of unit) n y → x ≡ y
 one_whole unit n x y p q = grind (arith, ints)
 
-one_count : (unit : Unit_) (v : OffsetDateTime) (a b : Result Items Reason)
-    → IsCounted unit v a → IsCounted unit v b → a ≡ b
-one_count unit v (Ok s) (Ok t) p q =
-    ap Ok (same_items s t (p.1.2 ∙ ap signed_decimal (one_whole unit (offset_instant greatest_year v) p.1.0 q.1.0 p.1.1 q.1.1) ∙ sym q.1.2))
-one_count unit v (Ok s) (Err e) p q = absurd (q.1 p.0)
-one_count unit v (Err e) (Ok t) p q = absurd (p.1 q.0)
-one_count unit v (Err e) (Err f) p q = ap Err (p.0 ∙ sym q.0)
+one_count : (unit : Unit_) (v : OffsetDateTime) (a b : Option ℤ) → IsCount unit v a → IsCount unit v b → a ≡ b
+one_count unit v None None p q = refl
+one_count unit v None (Some y) p q = absurd (p q.0)
+one_count unit v (Some x) None p q = absurd (q p.0)
+one_count unit v (Some x) (Some y) p q = ap Some (one_whole unit (offset_instant greatest_year v) x y p.1 q.1)
 
 one_named : (named : Named) (digits : FractionDigits) (v : OffsetDateTime) (a b : Result Items Reason)
     → IsNamedText named digits v a → IsNamedText named digits v b → a ≡ b
 one_named Named.Rfc3339 digits v a b p q = p.2 ∙ ap written (one_such _ (λ t. t ≡ _) p.0 q.0 (λ s t. both_are) p.1 q.1) ∙ sym q.2
 one_named Named.Rfc2822 digits v a b p q = p.2 ∙ ap written (one_such _ (IsMailText v) p.0 q.0 (one_mail_text v) p.1 q.1) ∙ sym q.2
 one_named Named.Iso8601 digits v a b p q = p.2 ∙ ap written (one_such _ (λ t. t ≡ _) p.0 q.0 (λ s t. both_are) p.1 q.1) ∙ sym q.2
-one_named (Named.Count unit) digits v a b p q = one_count unit v a b p q
+one_named (Named.Count unit) digits v a b p q = p.2 ∙ ap counted (one_count unit v p.0 q.0 p.1 q.1) ∙ sym q.2
 
 one_by : (writing : Writing) (digits : FractionDigits) (v : OffsetDateTime) (a b : Result Items Reason)
     → IsWrittenBy writing digits v a → IsWrittenBy writing digits v b → a ≡ b

@@ -12,18 +12,18 @@ use Rattle.restamp_formats.specs.Reading.{IsCompleted, is_negative_fraction}
 
 -- ---- The text of a moment by a tree, and when it parses back.
 
--- a text, or no bytes if it can't be written
+-- a text, or the empty text for an error
 abbrev pub or_nothing : Result (List ℕ) Unformattable → List ℕ
 or_nothing (Ok text) = text
 or_nothing (Err why) = []
 
--- the pieces that a tree writes: literal bytes, and components
+-- a piece of what a tree writes: literal bytes, or a component
 pub data Piece : Type 0 where
   verbatim : List ℕ → Piece
   part : Component → Piece
 
 abbrev mutual
-  -- the pieces of trees in turn; of a choice, those of the first alternative
+  -- the pieces that a tree writes, in order: all optional items, and of a choice the first alternative
   pub pieces : Tree → List Piece
   pieces (literal text) = verbatim text ∷ []
   pieces (component whole c) = part c ∷ []
@@ -31,35 +31,38 @@ abbrev mutual
   pieces (optional t) = pieces t
   pieces (first_of ts) = first_pieces ts
 
+  -- the pieces of each of the trees, in order
   pub all_pieces : Trees → List Piece
   all_pieces none = []
   all_pieces (more t ts) = pieces t ++ all_pieces ts
 
+  -- the pieces of the first of the trees; none without trees
   pub first_pieces : Trees → List Piece
   first_pieces none = []
   first_pieces (more t ts) = pieces t
 
--- the text of the pieces, however long it is
+-- the text of the pieces for a moment, however long it is; a component without a text adds no bytes
 abbrev pub whole_text : OffsetDateTime → List Piece → List ℕ
 whole_text v [] = []
 whole_text v (verbatim text ∷ ps) = text ++ whole_text v ps
 whole_text v (part c ∷ ps) = or_nothing (component_text greatest_year v c) ++ whole_text v ps
 
--- Each component's text is followed by bytes that may follow it, so that it is parsed whole.
+-- Each component's text is followed by bytes, or by the end of the text, that may follow it, so that all of it is
+-- parsed.
 abbrev pub AllStop : OffsetDateTime → List Piece → Type 0
 AllStop v [] = Unit {0}
 AllStop v (verbatim text ∷ ps) = AllStop v ps
 AllStop v (part c ∷ ps) = Stops greatest_year v c (whole_text v ps) × AllStop v ps
 
--- the record with each component's value of the moment set in turn, or `None` if one is out of range
+-- the record with each component's value of the moment set in turn; `None` if a value is out of range
 abbrev pub put_values : OffsetDateTime → List Piece → Record → Option Record
 put_values v [] r = Some r
 put_values v (verbatim text ∷ ps) r = put_values v ps r
 put_values v (part c ∷ ps) r =
     option_and_then (put_values v ps) (put_value greatest_year c (value_of greatest_year v c) r)
 
--- The text of the moment by the tree determines it with the defaults: each component's text is parsed whole, and the
--- values of the components make a record that resolves to that moment with the defaults.
+-- The text of the moment by the tree determines the moment: each component's text is parsed whole, and the values of
+-- the components make a record that resolves to the moment, with the defaults.
 pub record DeterminesMoment (tree : Tree) (defaults : Defaults) (v : OffsetDateTime) : Type 0 where
   pub stops : AllStop v (pieces tree)
   pub after : Record
@@ -70,7 +73,8 @@ pub record DeterminesMoment (tree : Tree) (defaults : Defaults) (v : OffsetDateT
 abbrev pub no_defaults : Defaults
 no_defaults = record { year = None; offset = None; clocks = None; latest = None }
 
--- The format has that tree, and parses all of the moment from its text by the tree.
+-- The format is `Described`, `Complete` or `Counted` with that tree, and the text of the moment by the tree determines
+-- the moment, for `Complete` without defaults. For `Counted` that text has no fraction after a minus.
 abbrev pub ReadsTree : Reading → Defaults → Tree → OffsetDateTime → Type 0
 ReadsTree (Reading.Described d) defaults tree v = (steps_shape d ≡ tree) × DeterminesMoment tree defaults v
 ReadsTree (Reading.Complete d) defaults tree v = (steps_shape d ≡ tree) × DeterminesMoment tree no_defaults v
@@ -79,8 +83,8 @@ ReadsTree (Reading.Counted d) defaults tree v =
     × (is_negative_fraction (whole_text v (pieces tree)) ≡ false)
 ReadsTree format defaults tree v = ⊥
 
--- the record with the component's value of the moment, which is a number or a name of the date, the time or the offset;
--- `None` for any other component
+-- the record with the component's value of the moment set; unchanged for `end`; `None` for a century or the last two
+-- digits of a year, the year or week of ISO 8601, a week number, a count from 1970 and `ignore`
 abbrev pub with_value_of : OffsetDateTime → Component → Record → Option Record
 with_value_of v (Component.Day m) r = Some (record r { day = Some (Dates.day (offset_date v)) })
 with_value_of v (Component.MonthShort m) r = Some (record r { month = Some (Dates.month (offset_date v)) })
@@ -113,7 +117,7 @@ with_value_of v (Component.OffsetSecond m) r =
 with_value_of v (Component.End m) r = Some r
 with_value_of v _ r = None
 
--- the record with the values of pieces in turn
+-- the record with the values of pieces set in turn, as `with_value_of` does; `None` if it is `None` for one of them
 abbrev pub with_values_of : OffsetDateTime → List Piece → Record → Option Record
 with_values_of v [] r = Some r
 with_values_of v (verbatim text ∷ ps) r = with_values_of v ps r
@@ -125,7 +129,7 @@ HasDate r d =
     (full_year r ≡ Some (Dates.year d))
     × MatchOption r.ordinal ((r.month ≡ Some (Dates.month d)) × (r.day ≡ Some (Dates.day d))) (λ n. n ≡ Dates.ordinal d)
 
--- the numbers of a time
+-- the hour, minute, second and nanosecond of a time
 abbrev pub clock : Time → Clock
 clock t = record {
   hour = Times.hour t;
@@ -134,7 +138,8 @@ clock t = record {
   nanosecond = Times.nanosecond t;
 }
 
--- The record has the parts of the offset.
+-- The record has the hour of the offset, and its minute and second: an absent one counts as 0, as does a second without
+-- a minute.
 abbrev pub HasOffsetParts : Record → UtcOffset → Type 0
 HasOffsetParts r o =
     (r.offset_hour ≡ Some (Offsets.hours o))
@@ -147,7 +152,7 @@ pub record HasAll (r : Record) (v : OffsetDateTime) : Type 0 where
   pub offset : HasOffsetParts r (offset_of v)
   pub no_count : r.unix_timestamp_nanos ≡ None
 
--- The sign of an offset and the sizes of its parts determine it.
+-- The minutes and the seconds of the offset are their magnitudes with the sign of the offset.
 abbrev pub SignDetermines : UtcOffset → Type 0
 SignDetermines o =
     (signed_by (is_behind o) (pos (unsigned_abs (Offsets.minutes o))) ≡ Offsets.minutes o)

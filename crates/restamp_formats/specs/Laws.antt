@@ -10,16 +10,17 @@ use Rattle.restamp_formats.specs.Naming.{format_name_of, common_text, meaning_of
 use Rattle.restamp_formats.specs.ComponentValues.{pieces, AllStop, DeterminesMoment, ReadsTree, with_values_of, HasAll, SignDetermines}
 use Rattle.restamp_formats.specs.{Zoned.IsConverted, Zoned.has_local_offset, Form.IsWritten, Reading.ParsesAs, Reading.completed, Reading.IsCompleted, Reading.said, Reason.Reason}
 
--- All digits of the moment's fraction after the first k are 0.
+-- All of the nine digits of the moment's fraction after the first k are 0.
 abbrev pub HasDigits : ℕ → OffsetDateTime → Type 0
 HasDigits k v = kept k (Times.nanosecond (offset_time v)) ≡ Times.nanosecond (offset_time v)
 
--- `Auto` writes each nonzero digit.
+-- `Auto` omits only zeros at the end of the fraction.
 abbrev pub AutoHasAll : Type 0
 AutoHasAll = (v : OffsetDateTime) → HasDigits (written FractionDigits.Auto v) v
 
--- The format parses all of the moment from its text by the output format. A named format is the one that wrote the
--- text, with each nonzero digit; a description has the tree of the one that wrote it.
+-- The format parses all of the moment from the text that the output format writes of it. A named format is the same
+-- one, and the text has each nonzero digit of the fraction; a description has the same tree, and its text determines
+-- the moment. Never for a count.
 abbrev pub ReadsAll : Reading → Defaults → Writing → FractionDigits → OffsetDateTime → Type 0
 ReadsAll format defaults (Writing.Named Named.Rfc3339) digits v =
     (format ≡ Reading.Rfc3339) × HasDigits (written digits v) v
@@ -28,14 +29,15 @@ ReadsAll format defaults (Writing.Named Named.Iso8601) digits v = format ≡ Rea
 ReadsAll format defaults (Writing.Named (Named.Count unit)) digits v = ⊥
 ReadsAll format defaults (Writing.Described d) digits v = ReadsTree format defaults (shape d) v
 
--- The text is that of the moment in a form, and the format parses all of the moment, as it is after its conversion.
+-- The text is that of the moment in a form, and the format parses all of the moment, converted to the clock of the
+-- form, from it.
 abbrev pub IsReadable : Reading → Defaults → Form → OffsetDateTime → List ℕ → Type 0
 IsReadable format defaults form v bytes =
     ((w : OffsetDateTime) × IsConverted form.clock v (Some w)
     × ReadsAll format defaults form.writing.now form.digits w)
     × ((text : Items) × IsWritten form v (Ok text) × (bytes ≡ text.items))
 
--- A text of `IsReadable` parses as its moment, converted to the clock of its form, with all its bytes.
+-- A text of `IsReadable` parses as its moment, converted to the clock of its form, and the match has all its bytes.
 abbrev pub ReadsRewrittenBack : Type 0
 ReadsRewrittenBack =
     (format : Reading) (defaults : Defaults) (form : Form) (v : OffsetDateTime) (bytes : List ℕ)
@@ -44,8 +46,8 @@ ReadsRewrittenBack =
     → IsOkAnd read
     (λ said. IsConverted form.clock v (Some said.moment) × (said.start ≡ 0) × (said.length ≡ length bytes))
 
--- If a text of RFC 3339 parses as a moment, and the suffix after it fits the moment, both together parse as that moment
--- with all their bytes.
+-- If RFC 3339 matches a whole text, and the suffix after it agrees with the moment, RFC 9557 matches both together as
+-- that moment with all their bytes.
 abbrev pub ReadsSuffixedBack : Type 0
 ReadsSuffixedBack =
     (zones : Zones) (defaults : Defaults) (v : OffsetDateTime) (text behind : List ℕ) (zone : Option ZoneTag)
@@ -55,7 +57,8 @@ ReadsSuffixedBack =
     → ParsesAs (Reading.Zoned zones) false (text ++ behind) defaults read
     → read ≡ Ok (said v (length (text ++ behind)))
 
--- The zone is the one that moments are converted to: a table of zones has it by its name.
+-- The zone is the one that the clock converts moments to: its fixed offset, or a name that its time zone has in the
+-- table. Never for the moment's own offset.
 abbrev pub IsZoneOfClock : Zones → Clock → Zone → Type 0
 IsZoneOfClock zones Clock.Own z = ⊥
 IsZoneOfClock zones (Clock.Fixed o) (at_offset p) = p ≡ o
@@ -63,8 +66,8 @@ IsZoneOfClock zones (Clock.Fixed o) (named name) = ⊥
 IsZoneOfClock zones (Clock.Zone zone) (at_offset p) = ⊥
 IsZoneOfClock zones (Clock.Zone zone) (named name) = IsZoneIfAny (zone_named zones name) (Some zone)
 
--- The text is that of the moment by RFC 3339 in a form, with each nonzero digit, and the name is that of the zone that
--- the moment is converted to.
+-- The text is that of the moment by RFC 3339 in a form, with each nonzero digit of the fraction, and `name` is the text
+-- of the zone or the offset that the moment is converted to.
 pub record HasZone (zones : Zones) (defaults : Defaults) (form : Form) (v : OffsetDateTime)
     (text name : List ℕ) : Type 0 where
   pub zone : Zone
@@ -72,7 +75,8 @@ pub record HasZone (zones : Zones) (defaults : Defaults) (form : Form) (v : Offs
   pub of_clock : IsZoneOfClock zones form.clock zone
   pub told : IsZoneText name zone
 
--- A text of `HasZone` with that suffix parses as its moment, converted to the clock of the form, with all its bytes.
+-- A text of `HasZone`, followed by its `name` in brackets, parses by RFC 9557 as its moment, converted to the clock of
+-- the form, with all its bytes.
 abbrev pub ReadsZonedBack : Type 0
 ReadsZonedBack =
     (zones : Zones) (defaults : Defaults) (form : Form) (v : OffsetDateTime) (text name : List ℕ)
@@ -82,7 +86,8 @@ ReadsZonedBack =
     → IsOkAnd read (λ said. IsConverted form.clock v (Some said.moment) × (said.start ≡ 0)
     × (said.length ≡ length (text ++ bracketed false name)))
 
--- The moment as which a text of `HasZone` with that suffix parses has the same text in the form.
+-- If a text of `HasZone`, followed by its `name` in brackets, parses by RFC 9557 as a moment, that moment has the same
+-- text in the form, without the brackets.
 abbrev pub WritesZonedSame : Type 0
 WritesZonedSame =
     (zones : Zones) (defaults : Defaults) (form : Form) (v : OffsetDateTime) (text name : List ℕ) (said : Match)
@@ -91,7 +96,7 @@ WritesZonedSame =
     → ParsesAs (Reading.Zoned zones) false (text ++ bracketed false name) defaults (Ok said)
     → IsWritten form said.moment again → IsOkAnd again (λ written. written.items ≡ text)
 
--- A text of `IsReadable` parses as a moment that has the same text in the form.
+-- If a text of `IsReadable` parses as a moment, that moment has the same text in the form.
 abbrev pub WritesSameText : Type 0
 WritesSameText =
     (format : Reading) (defaults : Defaults) (form : Form) (v : OffsetDateTime) (bytes : List ℕ) (said : Match)
@@ -99,33 +104,35 @@ WritesSameText =
     → IsReadable format defaults form v bytes → ParsesAs format false bytes defaults (Ok said)
     → IsWritten form said.moment again → IsOkAnd again (λ text. text.items ≡ bytes)
 
--- A tree determines a moment with the defaults if the record of its components' values has all of it with them, and
--- each component's text is parsed whole.
+-- A tree determines a moment with the defaults, if each component's text is parsed whole, and the record of its
+-- components' values, completed by the defaults, has the date, the time and the offset of the moment, and no count from
+-- 1970.
 abbrev pub AllValuesDetermine : Type 0
 AllValuesDetermine =
     (v : OffsetDateTime) (tree : Tree) (defaults : Defaults) (after : Record)
     → AllStop v (pieces tree) → with_values_of v (pieces tree) empty ≡ Some after
     → HasAll (completed defaults after) v → DeterminesMoment tree defaults v
 
--- Defaults change no record that has all of a moment: they only supply what it omits.
+-- A record that resolves to a moment without defaults resolves to the same moment with any defaults.
 abbrev pub KeepsMoment : Type 0
 KeepsMoment =
     (defaults : Defaults) (r : Record) (v : OffsetDateTime) → IsMoment greatest_year r (Ok v)
     → IsCompleted defaults r (Ok v)
 
--- The sign of each offset and the sizes of its parts determine the offset.
+-- The minutes and the seconds of each offset are their magnitudes with the sign of the offset.
 abbrev pub SignsDetermine : Type 0
 SignsDetermine = (o : UtcOffset) → SignDetermines o
 
--- If a text names both a format to parse by and a description to write by, both have the same tree.
+-- If a text names both a format to parse by and a description to write by, the format is `Described`, with the tree of
+-- that description.
 abbrev pub OneTree : Type 0
 OneTree =
     (text : List ℕ) (format : Reading) (d : Description MOST_STEPS)
     → Means (format_name_of text) (meaning_of format) → MeansWriting text (Writing.Described d)
     → (e : List Step) × (format ≡ Reading.Described e) × (steps_shape e ≡ shape d)
 
--- A moment without a fraction, and with an offset of whole minutes, that the description of access logs wrote parses
--- back by the format of that name, whatever the defaults.
+-- If a moment has no fraction and its offset no seconds, its text by the description of the format `common` determines
+-- it by that format, whatever the defaults.
 abbrev pub CommonReadsBack : Type 0
 CommonReadsBack =
     (v : OffsetDateTime) (format : Reading) (defaults : Defaults) (d : Description MOST_STEPS)
@@ -135,18 +142,19 @@ CommonReadsBack =
 
 -- ---- Formats with tables of zones that differ only in names that aren't in some bytes
 
--- each name in brackets where a timestamp may end has one zone in both tables, or none
+-- each name that the bytes have in brackets, directly after a byte with which a timestamp may end, has the same zone in
+-- both tables, or none in either
 abbrev pub SameZones : List ℕ → Zones → Zones → Type 0
 SameZones bytes zones other = (name : List ℕ) → IsNameIn bytes name → SameNamed zones other name
 
--- the formats are equal, except for tables of zones as above
+-- the formats are equal, or both are RFC 9557, with tables of zones that agree on the names in the bytes
 abbrev pub AreEquivalent : List ℕ → Reading → Reading → Type 0
 AreEquivalent bytes format other =
     (format ≡ other)
     ⊎ ((zones same : Zones) × (format ≡ Reading.Zoned zones) × (other ≡ Reading.Zoned same)
     × SameZones bytes zones same)
 
--- the formats of two lists are pairwise equal, except for tables of zones as above
+-- two lists of equally many formats are equivalent in pairs, as above
 abbrev pub AllEquivalent : List ℕ → List Reading → List Reading → Type 0
 AllEquivalent bytes [] [] = Unit {0}
 AllEquivalent bytes [] (other ∷ others) = ⊥

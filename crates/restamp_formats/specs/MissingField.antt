@@ -4,7 +4,8 @@ use Rattle.std.specs.Prelude.{◌&&◌, ◌||◌, if◌then◌else◌, ◌≡◌
 use Rattle.restamp_formats.specs.Common.{Bool, true, false, not, List, codes, ℕ, Option, None, Some, is_some, Result, Ok, Refusal, OffsetDateTime, steps_shape, Tree, Trees, literal, component, sequence, optional, first_of, none, more, Component, Reads, Record, empty, Kind, MissingField, Part, Reading, Defaults, Match}
 use Rattle.restamp_formats.specs.{Reading.IsCompleted, Reading.IsDated, Reading.ParsesLocally, Reason.Reason}
 
--- the part of a moment that a component gives, as far as a day, its year, an hour and an offset need it
+-- the part of a moment that a component's text has; `Other` if a day, its year, an hour and an offset's hour don't need
+-- it
 abbrev pub kind_of : Component → Kind
 kind_of (Component.CalendarYearFullExtendedRange m) = Kind.Year
 kind_of (Component.CalendarYearFullStandardRange m) = Kind.Year
@@ -38,7 +39,7 @@ kind_of (Component.UnixTimestampMicrosecond m) = Kind.Count
 kind_of (Component.UnixTimestampNanosecond m) = Kind.Count
 kind_of c = Kind.Other
 
--- the two are equal
+-- the two kinds are equal
 abbrev pub same : Kind → Kind → Bool
 same Kind.Year Kind.Year = true
 same Kind.YearCentury Kind.YearCentury = true
@@ -62,7 +63,7 @@ same Kind.Other Kind.Other = true
 same k j = false
 
 abbrev mutual
-  -- some component of the tree gives that part
+  -- some component of the tree, even an optional one or one of a choice, is of that kind
   pub has_kind : Kind → Tree → Bool
   has_kind k (literal text) = false
   has_kind k (component whole c) = same (kind_of c) k
@@ -70,11 +71,13 @@ abbrev mutual
   has_kind k (optional t) = has_kind k t
   has_kind k (first_of ts) = one_has k ts
 
+  -- some component of one of the trees is of that kind
   pub one_has : Kind → Trees → Bool
   one_has k none = false
   one_has k (more t ts) = has_kind k t || one_has k ts
 
--- A part of a year, or the hour of an offset. A count from 1970 gives both, since it is a moment in UTC.
+-- A text with a component of that kind has that part: for `Year` any part of a year, for `Offset` the hour of an
+-- offset. A count from 1970 has both, since it is a moment in UTC.
 abbrev pub is_of : Part → Kind → Bool
 is_of Part.Year Kind.Year = true
 is_of Part.Year Kind.YearCentury = true
@@ -87,7 +90,7 @@ is_of p Kind.Count = true
 is_of p k = false
 
 abbrev mutual
-  -- each reading of the tree has the part: a component that isn't optional gives it, or each alternative does
+  -- each text of the tree has the part: a component that isn't optional has it, or each alternative of a choice does
   pub always : Part → Tree → Bool
   always p (literal text) = false
   always p (component whole c) = is_of p (kind_of c)
@@ -96,41 +99,45 @@ abbrev mutual
   always p (first_of none) = false
   always p (first_of (more t ts)) = each_always p (more t ts)
 
-  -- each reading of these trees in sequence has the part
+  -- each text of these trees in sequence has the part: at least one tree always has it
   pub one_always : Part → Trees → Bool
   one_always p none = false
   one_always p (more t ts) = always p t || one_always p ts
 
-  -- each reading of every tree has the part
+  -- each text of every tree has the part; true without trees
   pub each_always : Part → Trees → Bool
   each_always p none = true
   each_always p (more t ts) = always p t && each_always p ts
 
--- the tree gives a day of a year
+-- the tree has the components of a day of a year: the day of the year, or month and day, or a weekday and the number of
+-- a week that starts on Sunday or Monday
 abbrev pub has_day : Tree → Bool
 has_day t =
     has_kind Kind.Ordinal t || (has_kind Kind.Month t && has_kind Kind.Day t)
     || (has_kind Kind.Weekday t && (has_kind Kind.SundayWeek t || has_kind Kind.MondayWeek t))
 
--- the tree gives a day of an ISO 8601 week year
+-- the tree has the components of a day of an ISO 8601 week year: week and weekday
 abbrev pub has_iso_day : Tree → Bool
 has_iso_day t = has_kind Kind.IsoWeek t && has_kind Kind.Weekday t
 
--- the tree gives a whole year
+-- the tree has the components of a whole year: the year, or its century and its last two digits
 abbrev pub has_whole_year : Tree → Bool
 has_whole_year t = has_kind Kind.Year t || (has_kind Kind.YearCentury t && has_kind Kind.YearLastTwo t)
 
+-- the tree has the components of a whole ISO 8601 week year: that year, or its century and its last two digits
 abbrev pub has_whole_iso_year : Tree → Bool
 has_whole_iso_year t = has_kind Kind.IsoYear t || (has_kind Kind.IsoYearCentury t && has_kind Kind.IsoYearLastTwo t)
 
--- The tree gives a day with its year. A default year counts if a text may have no part of a year.
+-- The tree has the components of a day and its year. If the `Bool` is true, a default year counts for a calendar year
+-- of which some text may have no part.
 abbrev pub has_full_date : Bool → Tree → Bool
 has_full_date has_year t =
     (has_day t && (has_whole_year t || (has_year && not (always Part.Year t))))
     || (has_iso_day t && has_whole_iso_year t)
 
--- The part that all texts of a tree omit, so that none of them is a moment, with or without a default year. A count
--- from 1970 gives all of a moment, and an offset always has a default.
+-- The first of a day, its year, an hour and its half of the day that all texts of a tree omit, so that none of them is
+-- a moment. `None` if there is none, or with a count from 1970, which is a whole moment. The `Bool` is true if there is
+-- a default year. Offsets aren't checked.
 abbrev pub missing_field_of : Bool → Tree → Option MissingField
 missing_field_of has_year t =
     if has_kind Kind.Count t then None else
@@ -140,15 +147,16 @@ missing_field_of has_year t =
     if not (has_kind Kind.Hour t || has_kind Kind.HourOfHalf t) then Some MissingField.Hour else
     if not (has_kind Kind.Hour t || has_kind Kind.Half t) then Some MissingField.Half else None
 
--- The part that all texts of a format omit. RFC 3339, RFC 2822 and ISO 8601 have texts that are moments.
+-- The part that all texts of a format omit, by `missing_field_of`; `None` for RFC 3339, RFC 9557, RFC 2822 and ISO
+-- 8601, which have texts that are moments. The `Bool` is true if there is a default year or a latest moment.
 abbrev pub format_missing_field : Bool → Reading → Option MissingField
 format_missing_field has_year (Reading.Described d) = missing_field_of has_year (steps_shape d)
 format_missing_field has_year (Reading.Complete d) = missing_field_of has_year (steps_shape d)
 format_missing_field has_year (Reading.Counted d) = missing_field_of has_year (steps_shape d)
 format_missing_field has_year format = None
 
--- Whether a default year or offset can have an effect on a text of the format. Texts of RFC 3339, RFC 2822 and a
--- complete description have all of a moment; a date of ISO 8601 has its year.
+-- Whether a default for that part can have an effect: the format uses it, and some text may omit the part. RFC 3339,
+-- RFC 9557, RFC 2822 and `Complete` use no defaults, and a date of ISO 8601 has its year.
 abbrev pub can_default : Part → Reading → Bool
 can_default Part.Offset Reading.Iso8601 = true
 can_default p (Reading.Described d) = not (always p (steps_shape d))
@@ -157,22 +165,23 @@ can_default p format = false
 
 -- the printed text of a missing part
 abbrev pub missing_field_text : MissingField → List ℕ
-missing_field_text MissingField.Day = codes "it says no day"
-missing_field_text MissingField.Year = codes "it says no year; --year or --latest gives one"
-missing_field_text MissingField.WholeYear = codes "it says no whole year for its day"
-missing_field_text MissingField.Hour = codes "it says no hour"
-missing_field_text MissingField.Half = codes "it says no half of the day"
-missing_field_text MissingField.Minute = codes "it says no minute"
-missing_field_text MissingField.Second = codes "it says no second"
-missing_field_text MissingField.Offset = codes "it says no offset"
+missing_field_text MissingField.Day = codes "missing day"
+missing_field_text MissingField.Year = codes "missing year; --year or --latest gives one"
+missing_field_text MissingField.WholeYear = codes "missing whole year"
+missing_field_text MissingField.Hour = codes "missing hour"
+missing_field_text MissingField.Half = codes "missing AM or PM"
+missing_field_text MissingField.Minute = codes "missing minute"
+missing_field_text MissingField.Second = codes "missing second"
+missing_field_text MissingField.Offset = codes "missing offset"
 
 -- ---- Laws of what all texts of a format omit.
 
--- the defaults have a year
+-- the defaults have a year, or a latest moment, with which years are tried
 abbrev pub has_default_year : Defaults → Bool
 has_default_year defaults = is_some defaults.year || is_some defaults.latest
 
--- No text, and no prefix of one, parses as a moment by a format with a missing part.
+-- No text, and no prefix of one, parses as a moment by a format with a missing part, even as a local time in the zone
+-- of the defaults or with the years that are tried.
 abbrev pub ParsesNoMoment : Type 0
 ParsesNoMoment =
     (format : Reading) (missing_field : MissingField) (is_prefix : Bool) (text : List ℕ) (defaults : Defaults)
@@ -180,12 +189,13 @@ ParsesNoMoment =
     → format_missing_field (has_default_year defaults) format ≡ Some missing_field
     → ¬ IsDated format is_prefix text defaults (Ok said)
 
--- Both defaults are equal except for that part.
+-- The offsets of both defaults are equal for the part `Year`, and their years for `Offset`. Nothing else is compared.
 abbrev pub SameBut : Part → Defaults → Defaults → Type 0
 SameBut Part.Year defaults others = defaults.offset ≡ others.offset
 SameBut Part.Offset defaults others = defaults.year ≡ others.year
 
--- A default for a part changes nothing if each reading of the tree has the part.
+-- If each text of the tree has the part, the record of a text resolves to the same result with any defaults that differ
+-- only in that part.
 abbrev pub HasNoUse : Type 0
 HasNoUse =
     (p : Part) (tree : Tree) (bytes rest : List ℕ) (r : Record) (defaults others : Defaults)
@@ -193,7 +203,8 @@ HasNoUse =
     → always p tree ≡ true → Reads greatest_year tree bytes empty rest r → SameBut p defaults others
     → IsCompleted defaults r result → IsCompleted others r result
 
--- The zone for local times changes nothing if each text of the format has an offset.
+-- If `can_default` is false for the offset of the format, each result of parsing a text with a zone for local times is
+-- also its result without that zone.
 abbrev pub ClocksHaveNoUse : Type 0
 ClocksHaveNoUse =
     (format : Reading) (is_prefix : Bool) (text : List ℕ) (defaults : Defaults) (result : Result Match Reason)

@@ -6,8 +6,9 @@ use Rattle.restamp_formats.specs.declared.naming.FormatName as declared
 use Rattle.restamp_formats.specs.Common.{Bool, ℕ, List, codes, Option, None, Some, MatchOption, Tree, steps_shape, shape, version_of, Describes, DescribesStrftime, Description, Seconds, Milliseconds, Microseconds, Nanoseconds, Named, Writing, Reading, MOST_STEPS}
 use Rattle.restamp_formats.specs.declared.naming.FormatFault.{FormatFault}
 
--- how a text names a format: by one of three names, or by a description; a description of a number of seconds, one
--- whose texts have all of a moment, one in brackets, or one as in strftime
+-- How a text names an input format: by one of three names; by a description in brackets of a number of seconds, of
+-- texts that are parsed without defaults, or of other texts; or by a description as in strftime. `unknown` is none of
+-- them.
 pub data FormatName : Type 0 where
   rfc3339 : FormatName
   rfc2822 : FormatName
@@ -18,7 +19,7 @@ pub data FormatName : Type 0 where
   strftime : List ℕ → FormatName
   unknown : FormatName
 
--- the name of a format without the addresses of its texts
+-- a `FormatName` of the code, without the addresses of its texts
 abbrev pub erased_format_name : declared.FormatName → FormatName
 erased_format_name declared.FormatName.Rfc3339 = rfc3339
 erased_format_name declared.FormatName.Rfc2822 = rfc2822
@@ -29,20 +30,20 @@ erased_format_name (declared.FormatName.Brackets text) = brackets text.now
 erased_format_name (declared.FormatName.Strftime text) = strftime text.now
 erased_format_name declared.FormatName.Unknown = unknown
 
--- the byte is among the bytes
+-- the list has the byte
 abbrev pub has : ℕ → List ℕ → Bool
 has byte bytes = list_any (λ b. b == byte) bytes
 
--- the description of a format
+-- the kind of a description: in brackets if the text has a `[`, else as in strftime if it has a `%`, else `unknown`
 abbrev pub description_name : List ℕ → FormatName
 description_name name = if has 91 name then brackets name else if has 37 name then strftime name else unknown
 
--- the timestamps of access logs
+-- the description of the timestamps of access logs, for the name `common`
 abbrev pub common_text : List ℕ
 common_text =
     codes "[day]/[month repr:short]/[year]:[hour]:[minute]:[second] [offset_hour sign:mandatory][offset_minute]"
 
--- the format of that name: all but three are descriptions
+-- how a text names an input format: by one of nine names, of which six mean a description, or else as a description
 abbrev pub format_name_of : List ℕ → FormatName
 format_name_of name =
     if bytes_eq name (codes "rfc3339") then rfc3339 else
@@ -56,8 +57,8 @@ format_name_of name =
     if bytes_eq name (codes "syslog") then
     brackets (codes "[month repr:short] [day padding:space] [hour]:[minute]:[second]") else description_name name
 
--- the meaning of a format: a format without a description (RFC 9557 has no name here); the tree of a description; the
--- tree of a description whose texts have all of a moment; or the tree of a number of seconds
+-- The meaning of an input format: RFC 3339, RFC 9557 (which has no name here), RFC 2822 or ISO 8601; or the tree of a
+-- description: one with defaults, one without defaults, or a number of seconds.
 pub data Meaning : Type 0 where
   as_rfc3339 : Meaning
   as_rfc9557 : Meaning
@@ -67,6 +68,7 @@ pub data Meaning : Type 0 where
   as_complete : Tree → Meaning
   as_count : Tree → Meaning
 
+-- which of the meanings an input format has, with the tree of its description
 abbrev pub meaning_of : Reading → Meaning
 meaning_of Reading.Rfc3339 = as_rfc3339
 meaning_of (Reading.Zoned zones) = as_rfc9557
@@ -76,16 +78,17 @@ meaning_of (Reading.Described d) = as_tree (steps_shape d)
 meaning_of (Reading.Complete d) = as_complete (steps_shape d)
 meaning_of (Reading.Counted d) = as_count (steps_shape d)
 
--- why a format has no meaning: the text is neither a name nor a description, or the description is invalid
+-- why a text names no format: it is neither a name nor a description, or the description is invalid or too long
 pub data Fault : Type 0 where
   unnamed : Fault
   faulty : Refusal → Fault
 
+-- an error of the code, without the addresses of its texts
 abbrev pub fault_of : FormatFault → Fault
 fault_of FormatFault.Unknown = unnamed
 fault_of (FormatFault.Description e) = faulty (refusal_of e)
 
--- the meaning of a format, by its name
+-- the meaning of a format that a text names in that way; none for an invalid description or for `unknown`
 abbrev pub Means : FormatName → Meaning → Type 0
 Means rfc3339 meaning = meaning ≡ as_rfc3339
 Means rfc2822 meaning = meaning ≡ as_rfc2822
@@ -96,7 +99,8 @@ Means (brackets text) meaning = (tree : Tree) × Describes (version_of 2) text t
 Means (strftime text) meaning = (tree : Tree) × DescribesStrftime text tree × (meaning ≡ as_tree tree)
 Means unknown meaning = ⊥
 
--- the error of a format, by its name
+-- the error of a text that names a format in that way: it is unknown, or its description is invalid or has more than
+-- 256 steps
 abbrev pub IsFault : FormatName → Fault → Type 0
 IsFault rfc3339 f = ⊥
 IsFault rfc2822 f = ⊥
@@ -107,7 +111,7 @@ IsFault (brackets text) f = (r : Refusal) × IsRefused MOST_STEPS (version_of 2)
 IsFault (strftime text) f = (r : Refusal) × IsRefusedStrftime MOST_STEPS text r × (f ≡ faulty r)
 IsFault unknown f = f ≡ unnamed
 
--- the output format of that name
+-- the output format of that name; `None` for any other text
 abbrev pub writing_named : List ℕ → Option Named
 writing_named name =
     if bytes_eq name (codes "rfc3339") then Some Named.Rfc3339 else
@@ -118,18 +122,20 @@ writing_named name =
     if bytes_eq name (codes "unix-us") then Some (Named.Count Microseconds) else
     if bytes_eq name (codes "unix-ns") then Some (Named.Count Nanoseconds) else None
 
--- The output format of a text: the one of that name, otherwise the one that it describes.
+-- The output format of a text: the one of that name, otherwise the one that it describes. There is none if it is
+-- neither, or the description is invalid or has more than 256 steps.
 abbrev pub MeansWriting : List ℕ → Writing → Type 0
 MeansWriting name result =
     MatchOption (writing_named name)
     ((d : Description MOST_STEPS) × Means (description_name name) (as_tree (shape d)) × (result ≡ Writing.Described d))
     (λ n. result ≡ Writing.Named n)
 
--- the error of a text that names no output format: it is neither such a name nor a valid description
+-- the error of a text that names no output format: it is none of the names, and is no description, an invalid one or
+-- one of more than 256 steps
 abbrev pub IsWritingFault : List ℕ → Fault → Type 0
 IsWritingFault name f = (writing_named name ≡ None) × IsFault (description_name name) f
 
--- the text of an error; no text is specified for a word that a description doesn't have
+-- the printed text of an error; `None` for a description's error that quotes a word of the description
 abbrev pub fault_text : Fault → Option (List ℕ)
 fault_text unnamed = Some (codes "no format has this name, and a description has a `[` or a `%`")
 fault_text (faulty refusal) = refusal_text refusal

@@ -6,24 +6,24 @@ use crate::reason::Reason;
 
 /// What a caller keeps of the reason for a rejected timestamp: the whole [`Reason`], or a [`Brief`].
 ///
-/// The functions from a text to its match are generic over this type. A stream of lines uses [`Brief`], since a whole
-/// reason beside each match costs a line as much as the match does.
+/// The functions that parse a text are generic over this trait. A stream of lines uses [`Brief`], since a whole reason
+/// beside each match costs a line as much as the match does.
 pub trait FromReason: Copy {
     ghost use Rattle.restamp_formats.specs.Reason.{Reason as Reason_, is_local_time_error};
 
-    // The value is what a caller keeps of that reason.
+    // Whether the value is what a caller keeps of that reason.
     ghost is_of: { Reason_ → Self → Type 0 };
 
     /// Builds the value from a reason.
     fn from_reason(reason: Reason) -> Self
         ensures { is_of (seen reason) result };
 
-    /// Whether the local time is nonexistent or ambiguous in the time zone.
+    /// Whether the reason is `Nonexistent` or `Ambiguous`.
     fn is_local_time_error(self) -> bool
         ensures { (reason : Reason_) → is_of reason self → result ≡ is_local_time_error reason };
 }
 
-// Whether the local time is nonexistent or ambiguous in the time zone.
+// Whether the reason is `Nonexistent` or `Ambiguous`.
 fn is_local_time_error(reason: Reason) -> bool
     ensures { result ≡ is_local_time_error (seen reason) }
 {
@@ -49,7 +49,7 @@ impl FromReason for Reason {
 /// The part of a reason that the choice of a year needs.
 #[derive(Clone, Copy, Debug, PartialEq, Eq)]
 pub struct Brief {
-    /// Whether the local time is nonexistent or ambiguous in the time zone.
+    /// Whether the reason is `Nonexistent` or `Ambiguous`.
     pub is_local_time_error: bool,
 }
 

@@ -14,7 +14,7 @@ use time_zones::{TimeZone, Zones, check_suffix, checked_to_zone, read_suffix};
 /// The offset that a moment is converted to before it is written.
 #[derive(Clone, Copy)]
 pub enum Clock<'a> {
-    /// Its own offset.
+    /// The moment's own offset: the moment is unchanged.
     Own,
     /// This offset.
     Fixed(UtcOffset),
@@ -22,7 +22,7 @@ pub enum Clock<'a> {
     Zone(TimeZone<'a>),
 }
 
-// Converts the moment to the offset; `None` if it has no date there.
+// Converts the moment to the offset; `None` if its year there is outside -999999 to 999999.
 #[inline(always)]
 fn convert_to_offset(moment: OffsetDateTime, offset: UtcOffset) -> Option<OffsetDateTime>
     ensures { spec.IsConverted (Clock.Fixed offset) moment result }
@@ -33,7 +33,8 @@ fn convert_to_offset(moment: OffsetDateTime, offset: UtcOffset) -> Option<Offset
     moment.checked_to_offset(offset)
 }
 
-// Converts the moment to local time in the zone. Not inlined, so that it needs no stack for lines without a zone.
+// Converts the moment to the zone's offset at that moment; `None` if the moment is before -9999-01-02T01:59:59Z or
+// after 9999-12-30T22:00:00.999999999Z. Not inlined, so that it needs no stack for lines without a zone.
 #[inline(never)]
 fn converted_in(moment: OffsetDateTime, zone: &TimeZone<'_>) -> Option<OffsetDateTime>
     ensures { spec.IsConverted (Clock.Zone zone.now) moment result }
@@ -42,7 +43,8 @@ fn converted_in(moment: OffsetDateTime, zone: &TimeZone<'_>) -> Option<OffsetDat
 }
 
 impl Clock<'_> {
-    /// Converts the moment to this clock; `None` if it has no date at the offset, or the zone's range excludes it.
+    /// Converts the moment to this clock; `None` if its year at a fixed offset is outside -999999 to 999999, or, for a
+    /// zone, if the moment is outside the range of time zones.
     #[inline(always)]
     pub(crate) fn show(&self, moment: OffsetDateTime) -> Option<OffsetDateTime>
         ensures { spec.IsConverted self.now moment result }
@@ -54,7 +56,7 @@ impl Clock<'_> {
         }
     }
 
-    /// The reason why a moment can't be converted to this clock.
+    /// The reason why a moment can't be converted to this clock: `OutsideZoneRange` for a zone, otherwise `OutOfRange`.
     #[inline(always)]
     pub(crate) fn conversion_error(&self) -> Reason
         ensures { seen result ≡ spec.conversion_error self.now }
@@ -66,27 +68,27 @@ impl Clock<'_> {
     }
 }
 
-// The error for bytes after a whole text.
+// The error for bytes after a timestamp and its suffix, if the whole text is parsed.
 const TRAILING: Parse = Parse::ParseFromDescription(
     ParseFromDescription::UnexpectedTrailingCharacters,
 );
 
-// Whether a text of RFC 3339 has a known offset. `Z` and `-00:00` leave the offset of a zone unknown.
+// Whether a text of RFC 3339 has a local offset: false for `Z`, `z` and `-00:00`, which leave it unknown.
 fn has_local_offset(front: &[u8]) -> bool
     ensures { result ≡ spec.has_local_offset front.now }
 {
     !(front.ends_with(b"Z") || front.ends_with(b"z") || front.ends_with(b"-00:00"))
 }
 
-// Whether bytes that aren't allowed follow a timestamp that ends at `end`.
+// Whether `text` has bytes from index `end` on that aren't allowed: false if `is_prefix` is true.
 fn has_tail(is_prefix: bool, text: &[u8], end: usize) -> bool
     ensures { result ≡ spec.has_tail is_prefix text.now end }
 {
     !is_prefix && end < text.len()
 }
 
-// Extends the match of a prefix by the longest suffix after it. Returns an error if the zone or a critical tag of the
-// suffix rejects the moment, or if more bytes follow and `is_prefix` is false.
+// Extends the match `front`, which starts at byte 0, by the longest suffix after it, which may be empty. Returns, as an
+// `E`, the reason `Unread` if more bytes follow and `is_prefix` is false, or `Suffix` if the suffix rejects the moment.
 fn with_suffix<E: FromReason>(
     zones: &Zones,
     is_prefix: bool,
@@ -113,7 +115,9 @@ fn with_suffix<E: FromReason>(
     }
 }
 
-/// Parses a text of RFC 3339 with a suffix. Not inlined, so that timestamps without one need no stack for it.
+/// Parses a text by RFC 3339 and the longest suffix after it, which may be empty: a prefix of the text if `is_prefix`
+/// is true, otherwise the whole text. The error, as an `E`, is `Unread` or `Suffix`. Not inlined, so that timestamps
+/// without a suffix need no stack for it.
 #[inline(never)]
 pub(crate) fn read_zoned<E: FromReason>(
     zones: &Zones,

@@ -15,7 +15,7 @@ use crate::reason::Reason;
 use std::cmp::Ordering;
 use time_values::{OffsetDateTime, UtcOffset};
 
-// Whether the moment is after another. Whole seconds mostly decide it, at a third of the cost of nanoseconds.
+// Whether the moment is later than another, at whatever offsets. Whole seconds, which are cheaper, mostly decide it.
 fn is_after(moment: OffsetDateTime, other: OffsetDateTime) -> bool
     ensures { result ≡ spec.is_after moment other }
 {
@@ -27,7 +27,8 @@ fn is_after(moment: OffsetDateTime, other: OffsetDateTime) -> bool
     moment.cmp_instant(other) == Ordering::Greater
 }
 
-// A text without a year, and the latest moment that it may mean.
+// A text that may omit its year, its format, the default offset and zone, and the latest moment that it may mean. If
+// `is_prefix` is true, a prefix of the text is parsed, otherwise the whole text.
 #[derive(Clone, Copy)]
 struct Undated<'a, 'z> {
     reading: &'a Reading,
@@ -39,7 +40,7 @@ struct Undated<'a, 'z> {
 }
 
 impl<'z> Undated<'_, 'z> {
-    // The defaults for that year.
+    // The defaults with that year, without a latest moment.
     fn in_year(&self, year: i32) -> Defaults<'z>
         ensures { result ≡ spec.in_year year self.now.offset self.now.clocks }
     {
@@ -51,7 +52,7 @@ impl<'z> Undated<'_, 'z> {
         }
     }
 
-    // Parses the text with that year.
+    // Parses the text with that default year; if the format rejects it, as a local time in the zone, if there is one.
     #[inline(always)]
     fn read_in_year<E: FromReason>(&self, year: i32) -> Result<Match, E>
         ensures said { Satisfies E.is_of (spec.IsReadInYear (spec.erased_undated self.now) year) result }
@@ -60,7 +61,8 @@ impl<'z> Undated<'_, 'z> {
         read_local(self.reading, self.is_prefix, self.text, &self.in_year(year))
     }
 
-    // Whether the text, with that year and at the offset of the latest moment, is a moment that isn't after it.
+    // Whether the text, with that default year and the offset of the latest moment, is a moment that isn't after the
+    // latest one; false if the format rejects it.
     fn is_early(&self, year: i32) -> bool
         ensures { spec.IsEarly (spec.erased_undated self.now) year result }
     {
@@ -71,7 +73,8 @@ impl<'z> Undated<'_, 'z> {
         }
     }
 
-    // Whether to try no earlier year: the zone rejects a local time that isn't after the latest moment.
+    // Whether the error of that year ends the search: the local time is nonexistent or ambiguous in the zone, and, at
+    // the offset of the latest moment, isn't after that moment.
     fn is_final<E: FromReason>(&self, year: i32, why: E) -> bool
         ensures { (reason : Reason_) → E.is_of reason why
             → spec.IsFinal (spec.erased_undated self.now) year reason result }
@@ -82,7 +85,8 @@ impl<'z> Undated<'_, 'z> {
         false
     }
 
-    // Tries `count` years from `year` down, and returns the first match that isn't after the latest moment.
+    // Tries `count` years from `year` down, and returns the first match that isn't after the latest moment; or the
+    // error of a year at which `is_final` ends the search, or the last error of a year, or `reason` if no year has one.
     #[inline(never)]
     fn read_years<E: FromReason>(&self, year: i32, count: u8, reason: E) -> Result<Match, E>
         requires { neg_ℤ (pos 2_000_000) ≤ℤ (year -ℤ pos count) }
@@ -111,8 +115,9 @@ impl<'z> Undated<'_, 'z> {
     }
 }
 
-// Parses a text that the format rejects for that reason: as a local time in a zone, then with years to try. Not inlined,
-// so that it needs no stack beside texts that the format accepts.
+// Parses a text that the format rejects for that reason: as a local time in the zone of the defaults, then, if they
+// have a latest moment, with ten years from the one after its year down. The error is that of the last attempt that
+// fails. Not inlined, so that it needs no stack beside texts that the format accepts.
 #[inline(never)]
 fn parse_by_defaults<E: FromReason>(
     reading: &Reading,
@@ -145,8 +150,10 @@ fn parse_by_defaults<E: FromReason>(
     }
 }
 
-/// Parses a text by the format, also if the text omits its offset or its year. Not inlined, so that it needs no stack
-/// beside other texts.
+/// Parses a text by the format; if that rejects it, as a local time in the zone of the defaults; and if that fails and
+/// the defaults have a `latest` moment, with ten years from the one after its year down, for a moment that isn't after
+/// it. A nonexistent or ambiguous local time ends the search if it isn't after `latest` at the offset of `latest`. The
+/// error, as an `E`, is that of the last attempt that fails. Not inlined, so that other texts need no stack for it.
 #[tactic(auto, using(crate::proofs::ParseLemmas::dated_at_once))]
 #[inline(never)]
 pub fn parse_dated<E: FromReason>(
@@ -169,8 +176,9 @@ pub fn parse_dated<E: FromReason>(
     }
 }
 
-/// Parses a text by the format. A text without a year means the latest moment that isn't after `defaults.latest`. It
-/// tries ten years from the one after that moment's down, since up to seven in a row have no 29 February.
+/// [`parse_dated`] with the whole [`Reason`] as its error. A text without a year means the latest moment that isn't
+/// after `defaults.latest`, if there is one. Ten years are tried, from the one after that moment's down, since up to
+/// seven in a row have no 29 February.
 pub fn read_dated(
     reading: &Reading,
     is_prefix: bool,
@@ -183,7 +191,7 @@ pub fn read_dated(
     parse_dated(reading, is_prefix, text, defaults)
 }
 
-// Parses a text by the first of the formats that matches; otherwise returns `reason`.
+// Parses a text by the first of the formats that matches, as `parse_dated` does; otherwise returns `reason`.
 fn read_others<E: FromReason>(
     readings: &[Reading],
     is_prefix: bool,
@@ -203,7 +211,8 @@ fn read_others<E: FromReason>(
     Err(reason)
 }
 
-/// Parses a text by the first of the formats that matches. If none does, the error is the first format's.
+/// Parses a text by the first of the formats that matches, each as [`parse_dated`] does. If none does, the error is the
+/// first format's, as an `E`.
 #[tactic(auto, using(crate::proofs::ParseLemmas::in_turn_at_once))]
 pub fn parse_in_turn<E: FromReason>(
     first: &Reading,
@@ -224,7 +233,7 @@ pub fn parse_in_turn<E: FromReason>(
     }
 }
 
-/// Parses a text by the first of the formats that matches. If none does, the error is the first format's.
+/// [`parse_in_turn`] with the whole [`Reason`] as its error, which is the first format's.
 pub fn read_in_turn(
     first: &Reading,
     others: &[Reading],

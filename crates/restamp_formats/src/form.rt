@@ -1,7 +1,7 @@
 //! How a moment is written.
 ghost use Rattle.std.specs.Fmt.{signed_decimal};
 ghost use Rattle.std.specs.Prelude.{◌≡◌, ◌≤◌};
-ghost use Rattle.restamp_formats.specs.Common.{length, MatchOption, Ok, greatest_year, IsInstant, IsWhole, nanoseconds, offset_instant, Named, Writing};
+ghost use Rattle.restamp_formats.specs.Common.{length, MatchOption, IfSome, Ok, greatest_year, IsInstant, nanoseconds, offset_instant, Named, Seconds, Milliseconds, Microseconds, Nanoseconds, Writing};
 ghost use Rattle.restamp_formats.specs.Form as spec;
 ghost use Rattle.restamp_formats.specs.Reason.{Stores, erased};
 
@@ -13,9 +13,10 @@ use time_descriptions::Description;
 use time_formatting::{FractionDigits, Text, Unwritable, format, text_2822, text_3339, text_8601};
 use time_values::{OffsetDateTime, Timestamp};
 
-// The first and the last second of all dates in UTC, counted from 1970-01-01T00:00:00Z.
+// -999999-01-01T00:00:00Z, the first second that has a date in UTC, in seconds from 1970-01-01T00:00:00Z.
 const FIRST_SECOND: i64 = -31_619_087_596_800;
 
+// 999999-12-31T23:59:59Z, the last second that has a date in UTC, in seconds from 1970-01-01T00:00:00Z.
 const LAST_SECOND: i64 = 31_494_784_780_799;
 
 /// The unit of a count from 1970-01-01T00:00:00Z.
@@ -31,16 +32,17 @@ pub enum Unit {
     Nanoseconds,
 }
 
-/// A format with a name.
+/// An output format that has a name.
 #[derive(Clone, Copy, Debug, PartialEq, Eq)]
 pub enum Named {
-    /// RFC 3339.
+    /// RFC 3339, with the fraction that [`Form::digits`] selects.
     Rfc3339,
     /// A mail date, RFC 2822, without a fraction.
     Rfc2822,
-    /// ISO 8601 with nine digits of a fraction.
+    /// ISO 8601 in its extended form, always with nine digits of the fraction.
     Iso8601,
-    /// A decimal number of units.
+    /// The decimal number of whole units from 1970-01-01T00:00:00Z to the moment, rounded down: negative for an earlier
+    /// moment.
     Count(Unit),
 }
 
@@ -49,7 +51,7 @@ pub enum Named {
 pub enum Writing {
     /// A format with a name.
     Named(Named),
-    /// A description.
+    /// A description, with all optional items and the first item of each choice. A text of over 35 bytes is an error.
     Described(Description<MOST_STEPS>),
 }
 
@@ -58,13 +60,13 @@ pub enum Writing {
 pub struct Form<'a> {
     /// The format.
     pub writing: &'a Writing,
-    /// How many digits the fraction of RFC 3339 has.
+    /// How many digits the fraction has if `writing` is RFC 3339. Other formats ignore it.
     pub digits: FractionDigits,
-    /// The offset or zone that the moment is converted to.
+    /// The offset or zone that the moment is converted to before it is written.
     pub clock: Clock<'a>,
 }
 
-// Stores a text, or returns what is kept of the reason why the moment has no text.
+// Replaces `text` by the text in `written`; or returns the error in it as the reason `Unwritable`, as an `E`.
 #[inline(always)]
 fn store<E: FromReason>(written: Result<Text, Unwritable>, text: &mut Text) -> Result<(), E>
     ensures { Stores E.is_of (λ given. given ≡ spec.written written) result text.new }
@@ -78,36 +80,42 @@ fn store<E: FromReason>(written: Result<Text, Unwritable>, text: &mut Text) -> R
     }
 }
 
-// A number of at most 64 bits.
+// Replaces `text` by the count in decimal, with a `-` if it is negative; for `None` returns the reason `OutOfRange`, as
+// an `E`.
 #[inline(always)]
-fn number(count: i64) -> Text
-    ensures { result.items ≡ signed_decimal count }
+fn store_count<E: FromReason>(count: Option<i64>, text: &mut Text) -> Result<(), E>
+    ensures { Stores E.is_of (λ given. given ≡ spec.counted count) result text.new }
 {
+    let Some(count) = count else {
+        return Err(E::from_reason(Reason::OutOfRange));
+    };
     let mut buffer = itoa::Buffer::new();
-    let mut text = Text::new();
+    text.clear();
     text.append(buffer.format(count).as_bytes());
-    text
+    Ok(())
 }
 
-// A number of at most 34 digits. Not inlined, so that it needs no stack when seconds are written.
+// Replaces `text` by the count in decimal, of at most 35 bytes with a `-`; for `None` returns the reason `OutOfRange`,
+// as an `E`. Not inlined, so that it needs no stack when seconds are written.
 #[inline(never)]
-fn wide_number(count: i128) -> Text
-    requires { length (signed_decimal count) ≤ 35 }
-    ensures { result.items ≡ signed_decimal count }
+fn store_wide_count<E: FromReason>(count: Option<i128>, text: &mut Text) -> Result<(), E>
+    requires { IfSome count (λ z. length (signed_decimal z) ≤ 35) }
+    ensures { Stores E.is_of (λ given. given ≡ spec.counted count) result text.new }
 {
+    let Some(count) = count else {
+        return Err(E::from_reason(Reason::OutOfRange));
+    };
     let mut buffer = itoa::Buffer::new();
-    let mut text = Text::new();
+    text.clear();
     text.append(buffer.format(count).as_bytes());
-    text
+    Ok(())
 }
 
-// The whole seconds of the moment since 1970; `None` if it has no date in UTC. They cost much less to compute than its
-// nanoseconds.
+// The whole seconds from 1970-01-01T00:00:00Z to the moment, rounded down; `None` if its year in UTC is outside -999999
+// to 999999. They cost much less to compute than its nanoseconds.
 #[inline(always)]
 fn seconds_of(moment: OffsetDateTime) -> Option<i64>
-    ensures { MatchOption result (¬ IsInstant greatest_year (offset_instant greatest_year moment))
-        (λ z. IsInstant greatest_year (offset_instant greatest_year moment)
-        × IsWhole 1_000_000_000 (offset_instant greatest_year moment) z) }
+    ensures { spec.IsCount Seconds moment result }
 {
     let seconds = moment.unix_timestamp();
     if seconds < FIRST_SECOND {
@@ -119,7 +127,17 @@ fn seconds_of(moment: OffsetDateTime) -> Option<i64>
     Some(seconds)
 }
 
-// The nanoseconds of the moment since 1970; `None` if it has no date in UTC.
+// The whole milliseconds from 1970-01-01T00:00:00Z to the moment, rounded down and computed in 64 bits; `None` if its
+// year in UTC is outside -999999 to 999999.
+#[inline(always)]
+fn milliseconds_of(moment: OffsetDateTime) -> Option<i64>
+    ensures { spec.IsCount Milliseconds moment result }
+{
+    let seconds = seconds_of(moment)?;
+    Some(seconds * 1_000 + i64::from(moment.time().nanosecond() / 1_000_000))
+}
+
+// The moment as a `Timestamp`; `None` if its year in UTC is outside -999999 to 999999.
 fn stamp_of(moment: OffsetDateTime) -> Option<Timestamp>
     ensures { MatchOption result (¬ IsInstant greatest_year (offset_instant greatest_year moment))
         (λ stamp. IsInstant greatest_year (offset_instant greatest_year moment)
@@ -128,45 +146,39 @@ fn stamp_of(moment: OffsetDateTime) -> Option<Timestamp>
     Some(Timestamp::from(moment.checked_to_utc()?))
 }
 
-// The whole milliseconds of the moment since 1970, computed in 64 bits; `None` if it has no date in UTC.
-#[inline(always)]
-fn milliseconds_of(moment: OffsetDateTime) -> Option<i64>
-    ensures { MatchOption result (¬ IsInstant greatest_year (offset_instant greatest_year moment))
-        (λ z. IsInstant greatest_year (offset_instant greatest_year moment)
-        × IsWhole 1_000_000 (offset_instant greatest_year moment) z) }
+// The whole microseconds from 1970-01-01T00:00:00Z to the moment, rounded down; `None` if its year in UTC is outside
+// -999999 to 999999.
+fn microseconds_of(moment: OffsetDateTime) -> Option<i128>
+    ensures count { spec.IsCount Microseconds moment result }
+    ensures short { IfSome result (λ z. length (signed_decimal z) ≤ 35) }
 {
-    let seconds = seconds_of(moment)?;
-    Some(seconds * 1_000 + i64::from(moment.time().nanosecond() / 1_000_000))
+    Some(stamp_of(moment)?.as_microseconds())
 }
 
-// The moment's count of a unit since 1970; `None` if it has no date in UTC.
-#[inline(always)]
-fn count_text(moment: OffsetDateTime, unit: Unit) -> Option<Text>
-    ensures { MatchOption result (¬ IsInstant greatest_year (offset_instant greatest_year moment))
-        (λ text. spec.IsCounted unit moment (Ok text)) }
+// The nanoseconds from 1970-01-01T00:00:00Z to the moment; `None` if its year in UTC is outside -999999 to 999999.
+fn nanoseconds_of(moment: OffsetDateTime) -> Option<i128>
+    ensures count { spec.IsCount Nanoseconds moment result }
+    ensures short { IfSome result (λ z. length (signed_decimal z) ≤ 35) }
 {
-    match unit {
-        Unit::Seconds => Some(number(seconds_of(moment)?)),
-        Unit::Milliseconds => Some(number(milliseconds_of(moment)?)),
-        Unit::Microseconds => Some(wide_number(stamp_of(moment)?.as_microseconds())),
-        Unit::Nanoseconds => Some(wide_number(stamp_of(moment)?.nanoseconds())),
-    }
+    Some(stamp_of(moment)?.nanoseconds())
 }
 
-// Stores the moment's count of a unit since 1970.
+// Replaces `text` by the decimal number of whole units from 1970-01-01T00:00:00Z to the moment, rounded down; or
+// returns the reason `OutOfRange`, as an `E`, if its year in UTC is outside -999999 to 999999.
 #[inline(always)]
 fn write_count<E: FromReason>(moment: OffsetDateTime, unit: Unit, text: &mut Text) -> Result<(), E>
     ensures { Stores E.is_of (spec.IsCounted unit moment) result text.new }
 {
-    let Some(count) = count_text(moment, unit) else {
-        return Err(E::from_reason(Reason::OutOfRange));
-    };
-    *text = count;
-    Ok(())
+    match unit {
+        Unit::Seconds => store_count(seconds_of(moment), text),
+        Unit::Milliseconds => store_count(milliseconds_of(moment), text),
+        Unit::Microseconds => store_wide_count(microseconds_of(moment), text),
+        Unit::Nanoseconds => store_wide_count(nanoseconds_of(moment), text),
+    }
 }
 
-// Stores a mail date. This and the next function aren't inlined, so that their texts need no stack when RFC 3339 is
-// written.
+// Replaces `text` by the mail date of the moment, RFC 2822, or returns the reason `Unwritable`, as an `E`. `digits` has
+// no effect. This and the next function aren't inlined, so that their texts need no stack when RFC 3339 is written.
 #[inline(never)]
 fn write_mail<E: FromReason>(
     moment: OffsetDateTime,
@@ -178,7 +190,8 @@ fn write_mail<E: FromReason>(
     store(text_2822(moment), text)
 }
 
-// Stores a text of ISO 8601.
+// Replaces `text` by the moment in ISO 8601 with nine digits of the fraction, or returns the reason `Unwritable`, as an
+// `E`. `digits` has no effect.
 #[inline(never)]
 fn write_8601<E: FromReason>(
     moment: OffsetDateTime,
@@ -190,7 +203,8 @@ fn write_8601<E: FromReason>(
     store(text_8601(moment), text)
 }
 
-// Stores the text of the moment by a named format, or returns what is kept of the reason why it has no text.
+// Replaces `text` by the text of the moment by a named format; or returns the reason why it has no text, as an `E`:
+// `OutOfRange` for a count, otherwise `Unwritable`. Only RFC 3339 uses `digits`.
 #[inline(always)]
 fn write_named_text<E: FromReason>(
     moment: OffsetDateTime,
@@ -208,7 +222,8 @@ fn write_named_text<E: FromReason>(
     }
 }
 
-// Converts the moment to the clock, and stores its text by a named format.
+// Converts the moment to the clock, and replaces `text` by what a named format writes of it; or returns the reason why
+// it can't be converted or has no text, as an `E`.
 #[inline(always)]
 fn write_named<E: FromReason>(
     moment: OffsetDateTime,
@@ -225,8 +240,9 @@ fn write_named<E: FromReason>(
     }
 }
 
-// Converts the moment to the clock, and stores its text by a description. Not inlined, so that other formats need no
-// stack for its text.
+// Converts the moment to the clock, and replaces `text` by what a description writes of it; or returns the reason why
+// it can't be converted, or `Unformattable`, as an `E`. `digits` has no effect. Not inlined, so that other formats need
+// no stack for it.
 #[inline(never)]
 fn write_described<E: FromReason>(
     moment: OffsetDateTime,
@@ -250,7 +266,9 @@ fn write_described<E: FromReason>(
     }
 }
 
-/// Stores the text of the moment, or returns what is kept of the reason why it has no text.
+/// Converts the moment to the form's clock, and replaces `text` by its text. The error, as an `E`, is
+/// [`Reason::OutOfRange`] or [`Reason::OutsideZoneRange`] if it can't be converted, [`Reason::OutOfRange`] if it has no
+/// count, and otherwise [`Reason::Unwritable`] or [`Reason::Unformattable`].
 #[inline(always)]
 pub fn write_to<E: FromReason>(
     moment: OffsetDateTime,
@@ -267,7 +285,7 @@ pub fn write_to<E: FromReason>(
     }
 }
 
-/// Formats the moment, on the form's clock. An error is the reason why it has no text.
+/// Converts the moment to the form's clock, and returns its text. The errors are those of [`write_to`].
 pub fn write_moment(moment: OffsetDateTime, form: &Form<'_>) -> Result<Text, Reason>
     ensures { spec.IsWritten form.now moment (erased result) }
 {

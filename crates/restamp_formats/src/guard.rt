@@ -8,14 +8,15 @@ use crate::brief::FromReason;
 use crate::reading::Match;
 use crate::reason::Reason;
 
-// Whether the number has a minus and a fraction.
+// Whether the text of a number starts with `-` and contains a `.`; false if it is empty.
 fn is_negative_fraction(number: &[u8]) -> bool
     ensures { result ≡ spec.is_negative_fraction number.now }
 {
     !number.is_empty() && number[0] == b'-' && number.contains(&b'.')
 }
 
-/// The match, or an error if its text has a minus and a fraction.
+/// The match; or the reason `NegativeFraction`, as an `E`, if the first `said.length` bytes of `text` start with `-`
+/// and contain a `.`.
 #[inline(always)]
 pub(crate) fn without_negative_fraction<E: FromReason>(text: &[u8], said: Match) -> Result<Match, E>
     requires { said.start + said.length ≤ length text.now }

@@ -8,68 +8,73 @@ ghost use Rattle.restamp_formats.specs.MissingField.{ClocksHaveNoUse, HasNoUse, 
 /// bytes of the text. [`Auto`](time_formatting::FractionDigits::Auto) omits no such digit.
 ///
 /// A text written by a description parses likewise by a description with the same tree, provided that the values of its
-/// components make a record of that moment, and that each component's text is followed by bytes that may follow it.
+/// components, with the defaults that the format uses, make a record of that moment, that each component's text is
+/// followed by bytes that may follow it, and that no fraction follows the minus of a number of seconds.
 pub fn law_rewritten_read_back()
     ensures text { ReadsRewrittenBack }
     ensures auto { AutoHasAll }
 {}
 
-/// A suffix that fits its moment changes nothing: if RFC 3339 matches a whole text, as it does each text that it
-/// writes, then RFC 9557 matches the text with the suffix, as the same moment.
+/// If RFC 3339 matches a whole text, and the suffix after it agrees with its moment, RFC 9557 matches the text and the
+/// suffix together as the same moment.
 pub fn law_suffixed_read_back()
     ensures { ReadsSuffixedBack }
 {}
 
-/// A text written by RFC 3339 with each nonzero digit of its fraction, and followed by the name of the zone that it was
-/// converted to, parses by RFC 9557 as the same moment with all its bytes. Writing that moment again gives the same
-/// text.
+/// If a text was written by RFC 3339 with each nonzero digit of its fraction, and the zone or the fixed offset that its
+/// moment was converted to follows in brackets, RFC 9557 parses all of it as the converted moment, if its table has
+/// that zone by that name. Written again in the same form, this moment has the same text, without the brackets.
 pub fn law_zoned_read_back()
     ensures text { ReadsZonedBack }
     ensures again { WritesZonedSame }
 {}
 
-/// Defaults change no record that has all of a moment.
+/// A record that resolves to a moment without defaults resolves to the same moment with any defaults.
 #[tactic(auto, using(crate::proofs::DescribedBack::keeps_moment))]
 pub fn law_defaults()
     ensures { KeepsMoment }
 {}
 
-/// A text written by a description has all of a moment if the values of its components for the date, the time and the
-/// offset, with the defaults for the rest, have all of it, and each component's text is parsed whole. The sign of an
-/// offset and the sizes of its parts determine the offset.
+/// The text of a moment by a description's tree determines the moment, if each component's text is parsed whole, and
+/// the record of the components' values, completed by the defaults, has the date, the time and the offset of the
+/// moment, and no count from 1970. The minutes and the seconds of an offset are their magnitudes with the sign of the
+/// offset.
 #[tactic(auto, using(crate::proofs::ComponentValueLemmas::says_all_told, crate::proofs::ComponentValueLemmas::signs_tell))]
 pub fn law_all_values()
     ensures says { AllValuesDetermine }
     ensures signs { SignsDetermine }
 {}
 
-/// If a text names both a format to parse by and a description to write by, both have the same tree.
+/// If a text names both a format to parse by and a description to write by, the format is `Described`, with the tree of
+/// that description.
 #[tactic(auto, using(crate::proofs::CommonBack::one_tree))]
 pub fn law_one_tree()
     ensures { OneTree }
 {}
 
-/// A moment without a fraction, and with an offset of whole minutes, parses back by the format `common` if the same
-/// description wrote it, whatever the defaults.
+/// The text that the description of the format `common` writes of a moment determines that moment by the format
+/// `common`, whatever the defaults, if the moment has no fraction and its offset has no seconds.
 #[tactic(auto, using(crate::proofs::CommonBack::common_reads_back))]
 pub fn law_common_read_back()
     ensures { CommonReadsBack }
 {}
 
-/// No text, and no prefix of one, parses as a moment by a format for which
-/// [`Reading::missing_field`](crate::Reading::missing_field) returns something.
+/// [`parse_dated`](crate::parse_dated) parses no text, and no prefix of one, as a moment by a format for which
+/// [`Reading::missing_field`](crate::Reading::missing_field) returns a part. `has_year` is true if the defaults have a
+/// `year` or a `latest`.
 pub fn law_no_moment()
     ensures { ParsesNoMoment }
 {}
 
-/// A default year changes nothing if each text of a description has a part of a year. A default offset changes nothing
-/// if each text has the hour of an offset. A count from 1970 gives both.
+/// A default year doesn't change what a record that a description parsed resolves to, if each text of the description
+/// has a part of a year. A default offset doesn't, if each text has the hour of an offset. A count from 1970 counts as
+/// both.
 #[tactic(auto, using(crate::proofs::MissingFieldUses::has_no_use))]
 pub fn law_no_use()
     ensures { HasNoUse }
 {}
 
-/// The zone for local times changes nothing if each text of a format has an offset, that is, if
+/// The zone for local times doesn't change the match or the error of a text by a format for which
 /// [`Reading::can_default`](crate::Reading::can_default) returns false for the offset.
 #[tactic(auto, using(crate::proofs::MissingFieldUses::clocks_have_no_use))]
 pub fn law_no_clocks()

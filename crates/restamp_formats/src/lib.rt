@@ -1,4 +1,5 @@
-//! Formats of timestamps: what a text parses as, with defaults and zones for what it omits, and how a moment is written.
+//! Formats of timestamps: what a text parses as, with defaults and zones for what it omits, and how moments are
+//! written.
 #![tactic(auto)]
 
 mod brief;

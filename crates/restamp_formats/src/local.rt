@@ -14,7 +14,7 @@ use time_zones::{NotOne, TimeZone, assume_zone};
 /// Which moment an ambiguous local time means: the clocks of the zone moved back, and show it a second time.
 #[derive(Clone, Copy, Debug, PartialEq, Eq)]
 pub enum Fold {
-    /// None: it is rejected.
+    /// None: it is rejected as [`Reason::Ambiguous`].
     Refuse,
     /// The earlier one.
     Earlier,
@@ -22,7 +22,7 @@ pub enum Fold {
     Later,
 }
 
-/// A zone for local times.
+/// A zone for local times, and the choice for ambiguous ones.
 #[derive(Clone, Copy)]
 pub struct Clocks<'a> {
     /// The zone.
@@ -39,7 +39,7 @@ pub(crate) fn clock_of(moment: OffsetDateTime) -> PlainDateTime
 }
 
 impl Fold {
-    // The offset of the moment that an ambiguous local time means.
+    // The offset of the moment that an ambiguous local time means; for `Refuse` the reason `Ambiguous`.
     fn of_two(self, earlier: OffsetDateTime, later: OffsetDateTime) -> Result<UtcOffset, Reason>
         ensures { erased result ≡ spec.of_two self earlier later }
     {
@@ -55,7 +55,8 @@ impl Fold {
 }
 
 impl Clocks<'_> {
-    // The offset of the zone at the local date and time of a moment.
+    // The offset of the zone at the local date and time of a moment, chosen by `fold` if that is ambiguous; or the
+    // reason `Nonexistent`, `Ambiguous` or `OutsideZoneRange`.
     fn offset_when(&self, shown: OffsetDateTime) -> Result<UtcOffset, Reason>
         ensures { spec.IsOffsetWhen self.now shown (erased result) }
     {
@@ -67,7 +68,9 @@ impl Clocks<'_> {
         }
     }
 
-    // Parses a text as a local time in the zone. Not inlined, so that it needs no stack where a line needs no zone.
+    // Parses a text with UTC as the default offset, and again with the offset that the zone has at that local date and
+    // time. The error is that of either parse, or the reason why the zone has no such offset. Not inlined, so that
+    // lines that need no zone need no stack for it.
     #[inline(never)]
     fn read<E: FromReason>(
         &self,
@@ -91,7 +94,8 @@ impl Clocks<'_> {
 }
 
 impl Defaults<'_> {
-    /// Whether a text that a format rejects may still be a local time in a zone, or one without a year.
+    /// Whether the defaults have a zone for local times, or a latest moment for texts without a year. If not,
+    /// [`parse_dated`](crate::parse_dated) rejects each text that [`parse`] rejects.
     #[inline(always)]
     pub fn tries_more(&self) -> bool
         ensures { result ≡ false → (self.now.clocks ≡ None) × (self.now.latest ≡ None) }
@@ -99,7 +103,7 @@ impl Defaults<'_> {
         self.clocks.is_some() || self.latest.is_some()
     }
 
-    // The defaults with that offset.
+    // These defaults with that offset, and without `clocks` and `latest`.
     pub(crate) fn at(&self, offset: UtcOffset) -> Defaults<'static>
         ensures { result ≡ at_offset offset self.now }
     {
@@ -112,7 +116,8 @@ impl Defaults<'_> {
     }
 }
 
-/// Parses a text that the format rejects for that reason as a local time, if the defaults have a zone for these.
+/// Parses a text that the format rejects for that reason as a local time in the zone of the defaults; returns the
+/// reason if they have no zone.
 #[inline(always)]
 pub(crate) fn read_unplaced<E: FromReason>(
     reading: &Reading,
@@ -131,7 +136,7 @@ pub(crate) fn read_unplaced<E: FromReason>(
     }
 }
 
-/// Parses a text by the format; if it omits its offset, as a local time in the zone of the defaults.
+/// Parses a text by the format; if that rejects it, as a local time in the zone of the defaults, if they have one.
 #[inline(always)]
 pub(crate) fn read_local<E: FromReason>(
     reading: &Reading,

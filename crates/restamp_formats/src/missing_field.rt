@@ -9,24 +9,24 @@ use crate::reading::Reading;
 use std::fmt;
 use time_components::{Component, Group, Step, steps_after};
 
-/// A part that a text, or each text of a format, is missing, so that it is no moment.
+/// A part of a moment that a text, or each text of a format, omits, so that it is no moment.
 #[derive(Clone, Copy, Debug, PartialEq, Eq)]
 pub enum MissingField {
-    /// A day of a year.
+    /// The day: neither the day of the year, nor month and day, nor weekday and number of the week is complete.
     Day,
-    /// The year of the day, which a default can supply.
+    /// The year, of which a text may have no part. A default year may supply it.
     Year,
-    /// The whole year of the day, which no default can supply.
+    /// The whole year, which no default supplies: there is only a part of it, or the day needs an ISO 8601 week year.
     WholeYear,
-    /// An hour.
+    /// An hour of the day.
     Hour,
-    /// The half of the day, for an hour from 1 to 12.
+    /// The half of the day, AM or PM, for an hour from 1 to 12.
     Half,
-    /// The minute.
+    /// The minute. [`Reading::missing_field`] never returns it.
     Minute,
-    /// The second.
+    /// The second. [`Reading::missing_field`] never returns it.
     Second,
-    /// An offset.
+    /// The offset. [`Reading::missing_field`] never returns it.
     Offset,
 }
 
@@ -35,19 +35,19 @@ impl fmt::Display for MissingField {
 
     fn fmt<W: fmt::Write>(&self, f: &mut fmt::Formatter<W>) -> fmt::Result {
         match self {
-            MissingField::Day => write!(f, "it says no day"),
-            MissingField::Year => write!(f, "it says no year; --year or --latest gives one"),
-            MissingField::WholeYear => write!(f, "it says no whole year for its day"),
-            MissingField::Hour => write!(f, "it says no hour"),
-            MissingField::Half => write!(f, "it says no half of the day"),
-            MissingField::Minute => write!(f, "it says no minute"),
-            MissingField::Second => write!(f, "it says no second"),
-            MissingField::Offset => write!(f, "it says no offset"),
+            MissingField::Day => write!(f, "missing day"),
+            MissingField::Year => write!(f, "missing year; --year or --latest gives one"),
+            MissingField::WholeYear => write!(f, "missing whole year"),
+            MissingField::Hour => write!(f, "missing hour"),
+            MissingField::Half => write!(f, "missing AM or PM"),
+            MissingField::Minute => write!(f, "missing minute"),
+            MissingField::Second => write!(f, "missing second"),
+            MissingField::Offset => write!(f, "missing offset"),
         }
     }
 }
 
-// What a component gives.
+// The part of a moment that a component's text has.
 #[derive(Clone, Copy, Debug, PartialEq, Eq)]
 enum Kind {
     Year,
@@ -58,41 +58,43 @@ enum Kind {
     IsoYearLastTwo,
     Month,
     Day,
+    // The day of the year.
     Ordinal,
     Weekday,
     IsoWeek,
     SundayWeek,
     MondayWeek,
+    // An hour from 0 to 23.
     Hour,
     // An hour from 1 to 12.
     HourOfHalf,
     // AM or PM.
     Half,
     OffsetHour,
-    // A count from 1970.
+    // A count of seconds or smaller units from 1970, which is a whole moment.
     Count,
-    // Nothing that a day, an hour or an offset needs.
+    // A part that a day, its year, an hour and the hour of an offset don't need.
     Other,
 }
 
-/// A part that a default can supply.
+/// A part of a moment that a default can supply.
 #[derive(Clone, Copy, Debug, PartialEq, Eq)]
 pub enum Part {
-    /// A part of a year.
+    /// The year. A text with any part of a year has this part.
     Year,
-    /// The hour of an offset.
+    /// The offset. A text with the hour of an offset has this part.
     Offset,
 }
 
 impl Kind {
-    // Whether the two are equal.
+    // Whether the two kinds are equal.
     fn is(self, other: Kind) -> bool
         ensures { result ≡ spec.same self other }
     {
         self == other
     }
 
-    // Whether the component gives that part. A count from 1970 gives both.
+    // Whether a text with a component of this kind has that part. One with a count from 1970 has both.
     fn is_of(self, part: Part) -> bool
         ensures { result ≡ spec.is_of part self }
     {
@@ -110,7 +112,7 @@ impl Kind {
     }
 }
 
-// What the component gives.
+// The part of a moment that the component's text has; `Other` if `missing_field` doesn't need it.
 fn kind_of(component: Component) -> Kind
     ensures { result ≡ spec.kind_of component }
 {
@@ -157,14 +159,14 @@ fn step_has(step: Step, kind: Kind) -> bool
     }
 }
 
-// Whether some component is of that kind.
+// Whether some component of the steps, even an optional one or one of a choice, is of that kind.
 fn has_kind(steps: &[Step], kind: Kind) -> bool
     ensures { result ≡ spec.has_kind kind (steps_shape steps.now) }
 {
     steps.iter().any(|step| step_has(*step, kind))
 }
 
-// Whether each text of these items in sequence has the part.
+// Whether each text of these items in sequence has the part: at least one item always has it.
 #[cycle(always)]
 fn one_always(steps: &[Step], part: Part) -> bool
     ensures { result ≡ spec.one_always part (steps_trees steps.now) }
@@ -175,7 +177,7 @@ fn one_always(steps: &[Step], part: Part) -> bool
     item_always(*step, behind, part) || one_always(steps_after(step, behind), part)
 }
 
-// Whether each text of every item has the part.
+// Whether each text of every item has the part; true if there is no item.
 #[cycle(always)]
 fn each_always(steps: &[Step], part: Part) -> bool
     ensures { result ≡ spec.each_always part (steps_trees steps.now) }
@@ -186,7 +188,7 @@ fn each_always(steps: &[Step], part: Part) -> bool
     item_always(*step, behind, part) && each_always(steps_after(step, behind), part)
 }
 
-// Whether each text of the item that the step starts has the part. Steps behind it may belong to that item.
+// Whether each text of the item that the step starts has the part. Steps of `behind` may belong to that item.
 #[cycle(always)]
 fn item_always(step: Step, behind: &[Step], part: Part) -> bool
     ensures { result ≡ spec.always part (tree_at steps_trees step behind.now) }
@@ -201,7 +203,7 @@ fn item_always(step: Step, behind: &[Step], part: Part) -> bool
     }
 }
 
-// Whether each text of a group of these steps has the part.
+// Whether each text of a group of these steps has the part; false if the group is optional or an empty choice.
 #[cycle(always)]
 fn group_always(group: Group, inside: &[Step], part: Part) -> bool
     ensures { result ≡ spec.always part (group_tree group (steps_trees inside.now)) }
@@ -213,7 +215,8 @@ fn group_always(group: Group, inside: &[Step], part: Part) -> bool
     }
 }
 
-// Whether the steps give a day of a year.
+// Whether the steps have the components of a day of a year: the day of the year, or month and day, or a weekday and the
+// number of a week that starts on Sunday or Monday.
 fn has_day(steps: &[Step]) -> bool
     ensures { result ≡ spec.has_day (steps_shape steps.now) }
 {
@@ -223,14 +226,14 @@ fn has_day(steps: &[Step]) -> bool
             && (has_kind(steps, Kind::SundayWeek) || has_kind(steps, Kind::MondayWeek)))
 }
 
-// Whether the steps give a day of an ISO 8601 week year.
+// Whether the steps have the components of a day of an ISO 8601 week year: week and weekday.
 fn has_iso_day(steps: &[Step]) -> bool
     ensures { result ≡ spec.has_iso_day (steps_shape steps.now) }
 {
     has_kind(steps, Kind::IsoWeek) && has_kind(steps, Kind::Weekday)
 }
 
-// Whether the steps give a whole year.
+// Whether the steps have the components of a whole year: the year, or its century and its last two digits.
 fn has_whole_year(steps: &[Step]) -> bool
     ensures { result ≡ spec.has_whole_year (steps_shape steps.now) }
 {
@@ -238,7 +241,7 @@ fn has_whole_year(steps: &[Step]) -> bool
         || (has_kind(steps, Kind::YearCentury) && has_kind(steps, Kind::YearLastTwo))
 }
 
-// Whether the steps give a whole ISO 8601 week year.
+// Whether the steps have the components of a whole ISO 8601 week year: that year, or its century and last two digits.
 fn has_whole_iso_year(steps: &[Step]) -> bool
     ensures { result ≡ spec.has_whole_iso_year (steps_shape steps.now) }
 {
@@ -246,7 +249,8 @@ fn has_whole_iso_year(steps: &[Step]) -> bool
         || (has_kind(steps, Kind::IsoYearCentury) && has_kind(steps, Kind::IsoYearLastTwo))
 }
 
-// Whether the steps give a day with its year. A default year counts if a text may have no part of a year.
+// Whether the steps have the components of a day and its year. If `has_year` is true, a default year counts for a
+// calendar year of which some text may have no part.
 fn has_full_date(steps: &[Step], has_year: bool) -> bool
     ensures { result ≡ spec.has_full_date has_year (steps_shape steps.now) }
 {
@@ -254,7 +258,8 @@ fn has_full_date(steps: &[Step], has_year: bool) -> bool
         || (has_iso_day(steps) && has_whole_iso_year(steps))
 }
 
-// What all texts of the steps omit.
+// The first of a day, its year, an hour and its half of the day that all texts of the steps omit; `None` if there is
+// none, or if the steps have a count from 1970. `has_year` is true if there is a default year. Offsets aren't checked.
 fn missing_field_of(steps: &[Step], has_year: bool) -> Option<MissingField>
     ensures { result ≡ spec.missing_field_of has_year (steps_shape steps.now) }
 {
@@ -276,8 +281,10 @@ fn missing_field_of(steps: &[Step], has_year: bool) -> Option<MissingField>
 }
 
 impl Reading {
-    /// What all texts of the format omit, so that none of them is a moment. `has_year` is true if the defaults have a
-    /// year, which counts for texts without any part of a year.
+    /// The first of a day, its year, an hour and its half of the day that all texts of the format omit, so that none of
+    /// them is a moment. `None` if there is none, and for RFC 3339, RFC 9557, RFC 2822, ISO 8601 and descriptions with
+    /// a count from 1970. `has_year` is true if the defaults have a `year` or a `latest`. Either counts for texts
+    /// without any part of a year.
     pub fn missing_field(&self, has_year: bool) -> Option<MissingField>
         ensures { result ≡ spec.format_missing_field has_year self.now }
     {
@@ -290,7 +297,8 @@ impl Reading {
         }
     }
 
-    /// Whether a default for that part can have an effect: some text may omit the part.
+    /// Whether a default for that part can have an effect: the format uses defaults, and some text may omit the part.
+    /// False for RFC 3339, RFC 9557, RFC 2822 and `Complete`, and for the year of ISO 8601.
     pub fn can_default(&self, part: Part) -> bool
         ensures { result ≡ spec.can_default part self.now }
     {

@@ -9,12 +9,12 @@ use std::fmt;
 use time_descriptions::{Description, InvalidFormatDescription, parse_borrowed, parse_strftime};
 use time_preparing::Prepared;
 
-/// The error of a format's text.
+/// Why a text names no format.
 #[derive(Clone, Copy, Debug)]
 pub enum FormatFault<'a> {
-    /// The text is neither a name nor a description.
+    /// The text is none of the names, and has neither a `[` nor a `%`.
     Unknown,
-    /// The description is invalid.
+    /// The description is invalid, or has more than [`MOST_STEPS`] steps.
     Description(InvalidFormatDescription<'a>),
 }
 
@@ -34,22 +34,26 @@ impl fmt::Display for FormatFault<'_> {
     }
 }
 
-// How a text names a format.
+// How a text names an input format.
 #[derive(Clone, Copy)]
 enum FormatName<'a> {
     Rfc3339,
     Rfc2822,
     Iso8601,
-    // A description of a number of seconds.
+    // A description in brackets of a number of seconds.
     Counted(&'a [u8]),
-    // A description whose texts have all of a moment.
+    // A description in brackets whose texts are parsed without defaults.
     Complete(&'a [u8]),
+    // Any other description in brackets.
     Brackets(&'a [u8]),
+    // A description as in strftime.
     Strftime(&'a [u8]),
+    // Neither a name nor a description.
     Unknown,
 }
 
-// The format of a description: in brackets if the text has a `[`, otherwise as in strftime if it has a `%`.
+// The kind of a description: `Brackets` if the text has a `[`, otherwise `Strftime` if it has a `%`, otherwise
+// `Unknown`. The description may still be invalid.
 fn description_name(name: &[u8]) -> FormatName<'_>
     ensures { spec.erased_format_name result ≡ spec.description_name name.now }
 {
@@ -69,7 +73,7 @@ macro_rules! value_named {
     };
 }
 
-// How the text names a format.
+// How the text names an input format: by one of nine names, by a description, which may be invalid, or not at all.
 fn find_format_name(name: &[u8]) -> FormatName<'_>
     ensures { spec.erased_format_name result ≡ spec.format_name_of name.now }
 {
@@ -92,7 +96,7 @@ fn find_format_name(name: &[u8]) -> FormatName<'_>
     )
 }
 
-// Parses a description in brackets.
+// Parses a description in brackets, of version 2. An invalid one, or one of more than `MOST_STEPS` steps, is an error.
 fn bracketed(text: &[u8]) -> Result<Description<MOST_STEPS>, FormatFault<'_>>
     ensures { MatchResult result (λ description. Describes (version_of 2) text.now (shape description))
         (λ fault. spec.IsFault (spec.brackets text.now) (spec.fault_of fault)) }
@@ -100,7 +104,7 @@ fn bracketed(text: &[u8]) -> Result<Description<MOST_STEPS>, FormatFault<'_>>
     parse_borrowed::<2, MOST_STEPS>(text).map_err(FormatFault::Description)
 }
 
-// Parses a description as in strftime.
+// Parses a description as in strftime. An invalid one, or one of more than `MOST_STEPS` steps, is an error.
 fn lettered(text: &[u8]) -> Result<Description<MOST_STEPS>, FormatFault<'_>>
     ensures { MatchResult result (λ description. DescribesStrftime text.now (shape description))
         (λ fault. spec.IsFault (spec.strftime text.now) (spec.fault_of fault)) }
@@ -108,9 +112,9 @@ fn lettered(text: &[u8]) -> Result<Description<MOST_STEPS>, FormatFault<'_>>
     parse_strftime::<MOST_STEPS>(text).map_err(FormatFault::Description)
 }
 
-/// The format of that name: `rfc3339`, `rfc2822`, `iso8601`, `common`, `syslog`, `unix`, `unix-ms`, `unix-us` or
-/// `unix-ns`; or the one that the text describes: in brackets if it has a `[`, otherwise as in strftime if it has a
-/// `%`.
+/// The input format of that name: `rfc3339`, `rfc2822`, `iso8601`, `common`, `syslog`, `unix`, `unix-ms`, `unix-us` or
+/// `unix-ns`; or the one that the text describes: in brackets (version 2) if it has a `[`, otherwise as in strftime if
+/// it has a `%`. An error if it is none of these, or the description is invalid or has over [`MOST_STEPS`] steps.
 pub fn find_reading(name: &[u8]) -> Result<Reading, FormatFault<'_>>
     ensures { MatchResult result
         (λ reading. spec.Means (spec.format_name_of name.now) (spec.meaning_of reading))
@@ -128,7 +132,7 @@ pub fn find_reading(name: &[u8]) -> Result<Reading, FormatFault<'_>>
     }
 }
 
-// The format of that name for output.
+// The output format of that name; `None` if the text isn't one of the seven names in the code.
 fn find_named(name: &[u8]) -> Option<Named>
     ensures { result ≡ spec.writing_named name.now }
 {
@@ -145,7 +149,8 @@ fn find_named(name: &[u8]) -> Option<Named>
     )
 }
 
-// Parses a description, in brackets or as in strftime.
+// Parses a description: in brackets if it has a `[`, otherwise as in strftime if it has a `%`. An error if it has
+// neither, is invalid, or has more than `MOST_STEPS` steps.
 fn find_description(text: &[u8]) -> Result<Description<MOST_STEPS>, FormatFault<'_>>
     ensures { MatchResult result (λ description. spec.Means (spec.description_name text.now) (spec.as_tree (shape description)))
         (λ fault. spec.IsFault (spec.description_name text.now) (spec.fault_of fault)) }
@@ -157,9 +162,9 @@ fn find_description(text: &[u8]) -> Result<Description<MOST_STEPS>, FormatFault<
     }
 }
 
-/// The format of that name for output: `rfc3339`, `rfc2822`, `iso8601`, `unix`, `unix-ms`, `unix-us` or
-/// `unix-ns`; or the one that the text describes: in brackets if it has a `[`, otherwise as in strftime if it has
-/// a `%`.
+/// The output format of that name: `rfc3339`, `rfc2822`, `iso8601`, `unix`, `unix-ms`, `unix-us` or `unix-ns`; or the
+/// one that the text describes: in brackets (version 2) if it has a `[`, otherwise as in strftime if it has a `%`. An
+/// error if it is none of these, or the description is invalid or has more than [`MOST_STEPS`] steps.
 pub fn find_writing(name: &[u8]) -> Result<Writing, FormatFault<'_>>
     ensures { MatchResult result (λ writing. spec.MeansWriting name.now writing)
         (λ fault. spec.IsWritingFault name.now (spec.fault_of fault)) }

@@ -21,7 +21,8 @@ use time_values::error::Parse;
 use time_values::{OffsetDateTime, UtcOffset};
 use time_zones::Zones;
 
-/// The most steps that a description may have. A description in brackets of at most this many bytes has no more.
+/// The most steps that a description may have: bytes of literals, components and starts of groups. A description in
+/// brackets of at most this many bytes never has more.
 pub const MOST_STEPS: usize = 256;
 
 /// A format that timestamps are parsed by.
@@ -29,45 +30,47 @@ pub const MOST_STEPS: usize = 256;
 pub enum Reading {
     /// RFC 3339, section 5.6, with `T`, `t` or a space between the date and the time.
     Rfc3339,
-    /// RFC 9557, section 4.1: RFC 3339 with a suffix, which names one of these zones.
+    /// RFC 9557, section 4.1: RFC 3339 with an optional suffix. A zone that the suffix names has to be one of these.
     Zoned(Zones),
-    /// Mail dates, RFC 2822, section 3.3.
+    /// Mail dates, RFC 2822, section 3.3, with optional white space around them.
     Rfc2822,
-    /// ISO 8601.
+    /// ISO 8601, basic or extended, with a date and a time. A default counts for an offset that a text omits.
     Iso8601,
-    /// A description.
+    /// A description. Defaults count for a year or an offset that a text omits.
     Described(Prepared<MOST_STEPS>),
-    /// A description whose texts have all of a moment, so that defaults don't count.
+    /// A description that is parsed without defaults: a text that omits a part of a moment is rejected.
     Complete(Prepared<MOST_STEPS>),
-    /// A description of a number of seconds, which may have a fraction unless a minus comes before it.
+    /// A description of a number of seconds from 1970. A match that starts with `-` and contains a `.` is rejected.
     Counted(Prepared<MOST_STEPS>),
 }
 
-/// Defaults for the parts that a timestamp omits.
+/// Defaults for the parts that a timestamp omits. [`parse`] and [`read`] use only `year` and `offset`.
 #[derive(Clone, Copy)]
 pub struct Defaults<'a> {
-    /// The year, if the timestamp has no part of one.
+    /// The year, if the timestamp has no part of one. A year outside -999999 to 999999 has no effect.
     pub year: Option<i32>,
-    /// The offset, if the timestamp has no hour of one.
+    /// The offset, if the timestamp has no hour of an offset.
     pub offset: Option<UtcOffset>,
-    /// The zone of local times, if `offset` is `None`.
+    /// The zone for local times: a text that is rejected with `year` and `offset` is parsed as a local time in it.
     pub clocks: Option<Clocks<'a>>,
-    /// A timestamp without a year means the latest moment that isn't after this one, if `year` is `None`.
+    /// A text that is rejected even so is parsed with ten years, from the one after this moment's down. It means the
+    /// first of these moments that isn't after this one.
     pub latest: Option<OffsetDateTime>,
 }
 
-/// The match of a text, or of a prefix of it.
+/// Which bytes of a text match a format, and the moment that they mean.
 #[derive(Clone, Copy, Debug)]
 pub struct Match {
     /// The moment.
     pub moment: OffsetDateTime,
-    /// How many bytes of the text come before the match.
+    /// How many bytes of the text come before the match: 0, except for white space before a mail date.
     pub start: usize,
     /// How many bytes the match has.
     pub length: usize,
 }
 
-/// Whether the record has a part of a year.
+/// Whether the record has a part of a year: a calendar year or an ISO 8601 week year, its century or its last two
+/// digits.
 #[inline(always)]
 pub fn has_year(parsed: &Parsed) -> bool
     ensures { result ≡ spec.has_year parsed.now }
@@ -80,7 +83,7 @@ pub fn has_year(parsed: &Parsed) -> bool
         || parsed.iso_year_last_two().is_some()
 }
 
-// Sets the year of a record that has no part of one.
+// Sets the year of a record that has no part of one. `None`, or a year outside -999999 to 999999, changes nothing.
 #[inline(always)]
 pub(crate) fn put_year(year: Option<i32>, parsed: &mut Parsed)
     ensures { parsed.new ≡ spec.with_year year parsed.old }
@@ -93,7 +96,8 @@ pub(crate) fn put_year(year: Option<i32>, parsed: &mut Parsed)
     }
 }
 
-// Sets the parts of the offset of a record that has no hour of one.
+// Sets the hour, minute and second of the offset, each with its sign, in a record without the hour of an offset. `None`
+// changes nothing.
 #[inline(always)]
 fn put_offset(offset: Option<UtcOffset>, parsed: &mut Parsed)
     ensures { parsed.new ≡ spec.with_offset offset parsed.old }
@@ -111,7 +115,8 @@ fn put_offset(offset: Option<UtcOffset>, parsed: &mut Parsed)
     parsed.forget_offset_sign();
 }
 
-/// Sets the parts of a record that the text omits to the defaults.
+/// Sets the default year in a record without a part of a year, and the default offset in a record without the hour of
+/// one. A year outside -999999 to 999999 isn't set. The defaults `clocks` and `latest` have no effect.
 #[inline(always)]
 pub fn complete(defaults: &Defaults<'_>, parsed: &mut Parsed)
     ensures { parsed.new ≡ spec.completed defaults.now parsed.old }
@@ -120,7 +125,7 @@ pub fn complete(defaults: &Defaults<'_>, parsed: &mut Parsed)
     put_offset(defaults.offset, parsed);
 }
 
-// The match of the text up to that rest.
+// The match, with this moment, of the bytes of `text` before `rest`, which is the end of `text`.
 #[inline(always)]
 pub(crate) fn match_before(rest: &[u8], text: &[u8], moment: OffsetDateTime) -> Match
     ensures said { result ≡ spec.said moment (length text.now - length rest.now) }
@@ -133,7 +138,7 @@ pub(crate) fn match_before(rest: &[u8], text: &[u8], moment: OffsetDateTime) -> 
     }
 }
 
-// Parses a prefix of the text by the format if `is_prefix` is true, otherwise the whole text.
+// Parses a prefix of the text by the format if `is_prefix` is true, otherwise the whole text; without defaults.
 #[inline(always)]
 fn read_by<F: Parsable>(format: &F, is_prefix: bool, text: &[u8]) -> Result<Match, Parse>
     ensures said { spec.IsReadBy is_prefix (F.path format.now) (F.reads format.now) (F.refuses format.now) text.now
@@ -148,7 +153,8 @@ fn read_by<F: Parsable>(format: &F, is_prefix: bool, text: &[u8]) -> Result<Matc
     Ok(match_before(&[], text, moment))
 }
 
-// Parses a prefix of the text with defaults for what it omits. Returns the moment and the rest.
+// Parses a prefix of the text with the defaults that `complete` sets. Returns the moment and the bytes after the
+// prefix.
 #[inline(always)]
 fn front_with<'a, F: Parsable>(
     format: &F,
@@ -165,7 +171,7 @@ fn front_with<'a, F: Parsable>(
     Ok((moment, rest))
 }
 
-// Parses the whole text with defaults for what it omits.
+// Parses the whole text with the defaults that `complete` sets.
 #[inline(always)]
 fn whole_with<F: Parsable>(
     format: &F,
@@ -181,7 +187,7 @@ fn whole_with<F: Parsable>(
     value_before::<OffsetDateTime>(rest, &parsed)
 }
 
-// Parses a prefix of the text if `is_prefix` is true, otherwise the whole text, with defaults for what it omits.
+// Parses a prefix of the text if `is_prefix` is true, otherwise the whole text, with the defaults that `complete` sets.
 #[inline(always)]
 fn read_with<F: Parsable>(
     format: &F,
@@ -201,7 +207,7 @@ fn read_with<F: Parsable>(
     Ok(match_before(&[], text, moment))
 }
 
-// The match without white space at both ends of its bytes.
+// The match, which starts at byte 0, without the ASCII white space at both ends of its bytes.
 fn bare(said: Match, text: &[u8]) -> Match
     requires { said.length ≤ length text.now }
     ensures said { result ≡ spec.bare text.now said }
@@ -215,8 +221,8 @@ fn bare(said: Match, text: &[u8]) -> Match
     }
 }
 
-// Parses a mail date, RFC 2822, which may have white space around it. If `is_prefix` is true the match leaves that out.
-// Not inlined, so that the other formats are.
+// Parses a mail date, RFC 2822, with optional white space around it: a prefix of the text if `is_prefix` is true,
+// otherwise the whole text. Only a prefix's match excludes the white space. Not inlined, so that other formats are.
 #[inline(never)]
 fn read_mail(is_prefix: bool, text: &[u8]) -> Result<Match, Parse>
     ensures said { spec.IsReadMail is_prefix text.now (spec.erased_match result) }
@@ -229,8 +235,8 @@ fn read_mail(is_prefix: bool, text: &[u8]) -> Result<Match, Parse>
     Ok(said)
 }
 
-/// Parses a prefix of the bytes by RFC 3339, without a record where possible. Not inlined, so that it needs no stack
-/// beside whole texts.
+/// Parses a prefix of the text by RFC 3339, with `T`, `t` or a space between the date and the time, and without a
+/// record where possible. Bytes after the prefix are no error. Not inlined, so that whole texts need no stack for it.
 #[inline(never)]
 pub fn read_front_3339(text: &[u8]) -> Result<Match, Parse>
     ensures said { spec.IsReadInFront text.now (spec.erased_match result) }
@@ -254,7 +260,8 @@ fn read_3339(is_prefix: bool, text: &[u8]) -> Result<Match, Parse>
     read_by(&Rfc3339Strict, is_prefix, text)
 }
 
-// Parses a text by ISO 8601 with defaults. Not inlined, so that it needs no stack beside other formats.
+// Parses a prefix of the text by ISO 8601 if `is_prefix` is true, otherwise the whole text, with the defaults that
+// `complete` sets. Not inlined, so that it needs no stack beside other formats.
 #[inline(never)]
 fn read_8601(is_prefix: bool, text: &[u8], defaults: &Defaults<'_>) -> Result<Match, Parse>
     ensures said { spec.IsReadWith is_prefix (iso8601.Reads greatest_year) (iso8601.Refuses greatest_year) text.now
@@ -264,8 +271,8 @@ fn read_8601(is_prefix: bool, text: &[u8], defaults: &Defaults<'_>) -> Result<Ma
     read_with(&Iso8601, is_prefix, text, defaults)
 }
 
-// What is kept of a parse error. It is passed by reference to a function that isn't inlined, since a move of the error
-// would have the compiler copy each match byte by byte.
+// The reason `Unread` with the parse error, as an `E`. The error is passed by reference to a function that isn't
+// inlined, since a move of the error would have the compiler copy each match byte by byte.
 #[inline(never)]
 fn keep_error<E: FromReason>(error: &Parse) -> E
     ensures { E.is_of (unread (refusal_of error.now)) result }
@@ -273,7 +280,7 @@ fn keep_error<E: FromReason>(error: &Parse) -> E
     E::from_reason(Reason::Unread(*error))
 }
 
-// A match, or what is kept of the error.
+// The match, or the reason `Unread` with the parse error, as an `E`.
 #[inline(always)]
 fn or_unread<E: FromReason>(parsed: Result<Match, Parse>) -> Result<Match, E>
     ensures { MatchResult parsed (λ said. result ≡ Ok said) (λ error. IsErrOf E.is_of (unread (refusal_of error)) result) }
@@ -284,7 +291,8 @@ fn or_unread<E: FromReason>(parsed: Result<Match, Parse>) -> Result<Match, E>
     }
 }
 
-// Parses a number of seconds by its description. It isn't inlined, since few logs count seconds.
+// Parses a number of seconds by its description, with the defaults that `complete` sets. The reason is `Unread`, or
+// `NegativeFraction` if the match starts with `-` and contains a `.`. Not inlined, since few logs count seconds.
 #[inline(never)]
 fn parse_counted<E: FromReason>(
     described: &Prepared<MOST_STEPS>,
@@ -301,8 +309,10 @@ fn parse_counted<E: FromReason>(
     }
 }
 
-/// Parses a text by the format, with defaults for what it omits: a prefix of it if `is_prefix` is true, otherwise the
-/// whole text. The error is what the caller keeps of the reason. The defaults `clocks` and `latest` don't count.
+/// Parses a text by the format: a prefix of it if `is_prefix` is true, otherwise the whole text. `Iso8601`, `Described`
+/// and `Counted` use the default year and offset for what the text omits; the other formats use no defaults, and
+/// `clocks` and `latest` have no effect. The error, as an `E`, is [`Reason::Unread`]; for `Counted` also
+/// [`Reason::NegativeFraction`], and for `Zoned` also [`Reason::Suffix`].
 #[inline(always)]
 pub fn parse<E: FromReason>(
     reading: &Reading,
@@ -324,7 +334,7 @@ pub fn parse<E: FromReason>(
     }
 }
 
-/// [`parse`], not inlined, for texts that are parsed a second time.
+/// [`parse`], but not inlined: for [`read`], and for texts that are parsed again with other defaults.
 #[inline(never)]
 pub(crate) fn parse_outlined<E: FromReason>(
     reading: &Reading,
@@ -338,8 +348,7 @@ pub(crate) fn parse_outlined<E: FromReason>(
     parse(reading, is_prefix, text, defaults)
 }
 
-/// Parses a text by the format, with defaults for what it omits: a prefix of it if `is_prefix` is true, otherwise the
-/// whole text. The defaults `clocks` and `latest` don't count.
+/// [`parse`] with the whole [`Reason`] as its error. The defaults `clocks` and `latest` have no effect.
 pub fn read(
     reading: &Reading,
     is_prefix: bool,

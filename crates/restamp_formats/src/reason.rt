@@ -29,31 +29,36 @@ pub struct OffsetParts {
 /// Why a timestamp isn't rewritten.
 #[derive(Clone, Copy, Debug)]
 pub enum Reason {
-    /// No format matches it; the error of the first format.
+    /// The format doesn't match it, with this error; if there are several formats, none matches, and the error is the
+    /// first one's.
     Unread(Parse),
-    /// It is a number of seconds with a minus and a fraction. Programs disagree whether that fraction counts forwards.
+    /// It is a number of seconds that starts with `-` and contains a `.`. Programs disagree whether that fraction
+    /// counts forwards.
     NegativeFraction,
     /// The local time is nonexistent in its zone: the clocks moved forward.
     Nonexistent,
-    /// The local time is ambiguous in its zone: the clocks moved back.
+    /// The local time is ambiguous in its zone, since the clocks moved back, and [`Fold::Refuse`](crate::Fold::Refuse)
+    /// rejects it. It may have these offsets.
     Ambiguous(TwoOffsets),
-    /// It has no date at the output's offset, or no date in UTC for an output that counts from 1970.
+    /// Its year at the output's offset, or in UTC for an output that counts from 1970, is outside -999999 to 999999.
     OutOfRange,
-    /// It is outside the range of time zones: before the year -9999 or after 9999, or in their first or last day.
+    /// It is outside the range of time zones: before -9999-01-02T01:59:59Z or after 9999-12-30T22:00:00.999999999Z; or
+    /// it is a local time near or beyond these limits that no moment in that range has.
     OutsideZoneRange,
-    /// Its suffix rejects it.
+    /// Its suffix has a critical tag or an unknown zone; or its offset, unless it is `Z`, `z` or `-00:00`, differs from
+    /// that of the suffix's zone, or can't be compared outside the range of time zones.
     Suffix(SuffixFault),
-    /// The output format has no text for it.
+    /// RFC 3339, RFC 2822 or ISO 8601 has no text for it.
     Unwritable(Unwritable),
     /// The output's description has no text for it.
     Unformattable(Unformattable),
-    /// It ends after the part of its line in which a timestamp may be.
+    /// It ends after the first 262144 bytes of its line.
     TooFar,
     /// The line has no timestamp.
     Missing,
 }
 
-// The last two digits of a number.
+// The last two decimal digits of a number, in ASCII.
 fn pair(number: u64) -> [u8; 2]
     ensures { result ≡ fixed 2 number }
 {
@@ -71,7 +76,7 @@ impl OffsetParts {
         }
     }
 
-    // The text of the offset, `+HH:MM:SS`.
+    // The nine bytes `+HH:MM:SS`, or `-HH:MM:SS` if local time is behind UTC.
     fn text(self) -> [u8; 9]
         ensures { result ≡ offset_text self }
     {
@@ -101,15 +106,15 @@ impl fmt::Display for TwoOffsets {
     }
 }
 
-// What a report calls a zone without a name.
+// The words that replace the name of the zone if a [`Reason`] is displayed without it.
 const ITS_ZONE: &str = "its zone";
 
-/// Displays a reason with the name of the time zone that it may be about.
+/// Displays a reason. Only `Nonexistent` and `Ambiguous` include the name of the time zone.
 #[derive(Clone, Copy)]
 pub struct ReasonDisplay<'a> {
     /// The reason.
     pub reason: Reason,
-    /// The name of the time zone.
+    /// The name of the time zone of local times.
     pub zone: &'a str,
 }
 
@@ -128,7 +133,7 @@ impl fmt::Display for ReasonDisplay<'_> {
                 write!(f, "the clocks of {zone} show it twice, at {offsets}")
             }
             Reason::OutOfRange => write!(f, "the time has no date at that offset"),
-            Reason::OutsideZoneRange => write!(f, "no time zone tells of that time"),
+            Reason::OutsideZoneRange => write!(f, "the time is outside the range of time zones"),
             Reason::Suffix(fault) => write!(f, "{fault}"),
             Reason::Unwritable(why) => write!(f, "{why}"),
             Reason::Unformattable(why) => write!(f, "{why}"),

@@ -21,7 +21,7 @@ pub record Replacement : Type 0 where
   pub unused : leads before temporary ≡ None
   pub there : leads before name ≡ Some original
 
--- a crash leaves the file safe
+-- a crash leaves the name of the file safe (`IsSafe`)
 abbrev pub Safe : Replacement → List Event → Type 0
 Safe aim done = IsSafe aim.before aim.name aim.backup aim.new done
 
@@ -31,7 +31,7 @@ pub record Reached (aim : Replacement) (done : List Event) : Type 0 where
   pub is : done ≡ more ++ aim.before
   pub safe : Throughout aim.before more (Safe aim)
 
--- The file is untouched.
+-- A crash leaves under the name only what it might have left before, and only the new file's bytes may have changed.
 pub record Same (aim : Replacement) (done : List Event) : Type 0 where
   pub reached : Reached aim done
   pub same : (file : Option ℕ) → MayLead done aim.name file → MayLead aim.before aim.name file
@@ -74,7 +74,7 @@ pub record Backed (aim : Replacement) (done : List Event) : Type 0 where
   pub ready : Ready aim done
   pub backed : IfSome aim.backup (HasBackup aim done)
 
--- The new file's own name may be removed.
+-- The new file's own name may be removed: that leaves the file's name safe.
 pub record TempRemovable (aim : Replacement) (done : List Event) : Type 0 where
   pub reached : Reached aim done
   pub safe : Safe aim (Leads aim.temporary None ∷ done)
@@ -85,7 +85,7 @@ pub record BackupRemovable (aim : Replacement) (done : List Event) : Type 0 wher
   pub unbacked : IfSome aim.backup (λ second.
       leads done aim.name ≡ Some aim.original → TempRemovable aim (Leads second None ∷ done))
 
--- The new file is in its place.
+-- The file's name points to the new file, whose bytes are on the disk. A requested backup is on the disk, too.
 pub record Put (aim : Replacement) (done : List Event) : Type 0 where
   pub reached : Reached aim done
   pub is : leads done aim.name ≡ Some aim.number
@@ -94,7 +94,8 @@ pub record Put (aim : Replacement) (done : List Event) : Type 0 where
   pub others : (other : List ℕ) → ¬ (other ≡ aim.name) → ¬ (aim.backup ≡ Some other)
       → leads done other ≡ leads aim.before other
 
--- The new file is in its place, also on the disk.
+-- A crash leaves the new file under the file's name (`IsReplaced`); a crash at any earlier moment left the file safe
+-- (`Reached`).
 pub record Installed (aim : Replacement) (done : List Event) : Type 0 where
   pub reached : Reached aim done
   pub replaced : IsReplaced aim.before done aim.name aim.backup aim.new
@@ -106,7 +107,7 @@ pub record IsPlanOf (aim : Replacement) (plan : Plan) : Type 0 where
   pub backup : option_map (λ second. second.now) plan.backup ≡ aim.backup
   pub original : plan.original.number ≡ aim.original
 
--- those bytes were written
+-- the bytes that were written are known, and are the new bytes of the plan
 abbrev pub IsWritten : Replacement → Option (List ℕ) → Type 0
 IsWritten aim known = (bytes : List ℕ) × (known ≡ Some bytes) × (aim.new ≡ Some bytes)
 
@@ -119,7 +120,7 @@ abbrev pub IsEndOf : Replacement → Made → List Event → Type 0
 IsEndOf aim Changed done = Installed aim done
 IsEndOf aim Made.Same done = Reached aim done × IsUntouched aim.before done
 
--- A call leads from one phase to another.
+-- A call leads from one phase to another, if the folder's events before it are known.
 abbrev pub Runs : Option (List Event) → Option (List Event) → (List Event → Type 0) → (List Event → Type 0) → Type 0
 Runs before after from onto =
     IfSome before (λ done. from done → (now : List Event) × (after ≡ Some now) × onto now)

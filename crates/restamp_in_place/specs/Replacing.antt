@@ -10,7 +10,7 @@ pub use Rattle.restamp_in_place.specs.declared.lines.Made.TheVariants.{Changed, 
 
 -- ---- The events of a folder, and what a crash leaves of it
 
--- an event
+-- a change in a folder
 pub data Event : Type 0 where
   -- a name points to the file of that number, or to no file
   Leads : (name : List ℕ) (file : Option ℕ) → Event
@@ -19,32 +19,32 @@ pub data Event : Type 0 where
   -- the names are on the disk
   Synced : Event
 
--- the file of a name after the events, the last event first
+-- the number of the file to which a name points after the events, the last event first; `None` if to no file
 abbrev pub leads : List Event → List ℕ → Option ℕ
 leads [] name = None
 leads (Leads other file ∷ done) name = if bytes_eq other name then file else leads done name
 leads (Stored file bytes ∷ done) name = leads done name
 leads (Synced ∷ done) name = leads done name
 
--- the bytes of a file that are on the disk; without any, a crash may leave any bytes
+-- the bytes of a file that are on the disk; `None` if none were stored, so that a crash may leave any bytes
 abbrev pub stored : List Event → ℕ → Option (List ℕ)
 stored [] file = None
 stored (Leads name other ∷ done) file = stored done file
 stored (Stored other bytes ∷ done) file = if nat_eq other file then Some bytes else stored done file
 stored (Synced ∷ done) file = stored done file
 
--- The files that a crash may leave under a name: the current one, and those since the names were last on the disk.
+-- A crash may leave the name pointing to that file (or none): the current one, or one it had since the last `Synced`.
 abbrev pub MayLead : List Event → List ℕ → Option ℕ → Type 0
 MayLead [] name file = file ≡ None
 MayLead (Leads other led ∷ done) name file = ((other ≡ name) × (file ≡ led)) ⊎ MayLead done name file
 MayLead (Stored other bytes ∷ done) name file = MayLead done name file
 MayLead (Synced ∷ done) name file = file ≡ leads done name
 
--- the bytes of a name's file, if they are on the disk
+-- the bytes of the file to which a name points; `None` if it points to none, or if they aren't on the disk
 abbrev pub bytes_at : List Event → List ℕ → Option (List ℕ)
 bytes_at done name = option_and_then (stored done) (leads done name)
 
--- a crash leaves no name pointing to the file of that number, and the file has no bytes
+-- a crash leaves no name pointing to the file of that number, and none of its bytes are on the disk
 pub record IsFresh (done : List Event) (number : ℕ) : Type 0 where
   pub led : (name : List ℕ) (file : Option ℕ) → MayLead done name file → file ≢ Some number
   pub empty : stored done number ≡ None
@@ -54,13 +54,13 @@ abbrev pub Performs : Option (List Event) → Option (List Event) → (List Even
 Performs before after fact =
     IfSome before (λ done. (more : List Event) × (after ≡ Some (more ++ done)) × fact done more)
 
--- The events of a call, all or none if it fails.
+-- A call added events that satisfy the fact, also if it failed; or it failed and added none.
 abbrev pub Tries : {T E : Type 0} → Option (List Event) → Option (List Event) → Result T E
     → (List Event → List Event → Type 0) → Type 0
 Tries before after result fact =
     Performs before after (λ done more. fact done more ⊎ (IsErr result × (more ≡ [])))
 
--- A new file was created under an unused name.
+-- The only event after `done` is that a new file (`IsFresh`) was created under that name, which was unused.
 abbrev pub Creates : List ℕ → List Event → List Event → Type 0
 Creates name done more =
     (number : ℕ) × IsFresh done number × (leads done name ≡ None) × (more ≡ Leads name (Some number) ∷ [])
@@ -77,13 +77,13 @@ Links name second done more =
     (number : ℕ) × (leads done name ≡ Some number) × (leads done second ≡ None)
     × (more ≡ Leads second (Some number) ∷ [])
 
--- A name points to the file of another name, and the other name is unused.
+-- The name `onto` now points to the file to which `name` pointed, and `name` points to no file.
 abbrev pub Renames : List ℕ → List ℕ → List Event → List Event → Type 0
 Renames name onto done more =
     (number : ℕ) × (leads done name ≡ Some number)
     × (more ≡ Leads name None ∷ Leads onto (Some number) ∷ [])
 
--- A name is unused.
+-- The name now points to no file.
 abbrev pub Removes : List ℕ → List Event → List Event → Type 0
 Removes name done more = more ≡ Leads name None ∷ []
 
@@ -96,11 +96,11 @@ abbrev pub bytes_made : Made → List ℕ → Option (List ℕ)
 bytes_made Changed text = Some text
 bytes_made Same text = None
 
--- A file has the bytes on the disk that it had before.
+-- A file, if there is one, has the bytes on the disk that it had before.
 abbrev pub HasSameBytes : List Event → List Event → Option ℕ → Type 0
 HasSameBytes before after file = IfSome file (λ number. stored after number ≡ stored before number)
 
--- A crash leaves the file of the first name under the second one, with its bytes.
+-- A crash leaves under the second name the file to which the first name pointed before, with the bytes of then.
 abbrev pub IsBackedUp : List Event → List Event → List ℕ → List ℕ → Type 0
 IsBackedUp before after name second =
     (file : Option ℕ) → MayLead after second file → (file ≡ leads before name) × HasSameBytes before after file
@@ -145,7 +145,8 @@ abbrev pub IsEnded : Made → List Event → List Event → List ℕ → Option 
 IsEnded Changed before after name backup new = IsReplaced before after name backup new
 IsEnded Same before after name backup new = IsUntouched before after
 
--- The replacement of a file by bytes that are made from those on the disk, unless none are.
+-- The result of replacing a file: new bytes, if there are any, are made from the old ones. A crash at any moment leaves
+-- the name safe. After a success the file is replaced or untouched, by the result.
 pub record Replaces (makes : List ℕ → Option (List ℕ) → Type 0) (before : List Event) (after : Option (List Event))
     (name : List ℕ) (backup : Option (List ℕ)) {E : Type 0} (result : Result Made E) : Type 0 where
   pub new : Option (List ℕ)
@@ -154,7 +155,7 @@ pub record Replaces (makes : List ℕ → Option (List ℕ) → Type 0) (before 
   pub ends : IfOk result (λ how. IfSome after (λ now. IsEnded how before now name backup new))
   pub same : IfOk result (λ how. how ≡ Same → IfSome (bytes_at before name) (λ old. makes old None))
 
--- A crash leaves a file under the name that has the old bytes on the disk, or exactly the new ones.
+-- A crash leaves a file under the name whose bytes on the disk are the old ones, or exactly the new ones.
 abbrev pub IsOldOrNew : List ℕ → Option (List ℕ) → List ℕ → List Event → Type 0
 IsOldOrNew name new old after =
     (file : Option ℕ) → MayLead after name file
@@ -179,7 +180,7 @@ backup_of name suffix = if has_star suffix then with_name name suffix else name 
 
 -- ---- The new bytes of a file by its lines
 
--- A file with those counts is to be replaced if one of its timestamps was rewritten.
+-- `Changed` for a file with those counts if one of its timestamps was rewritten, otherwise `Same`
 abbrev pub made_of : Tally → Made
 made_of tally = if tally.rewritten == 0 then Same else Changed
 

@@ -11,15 +11,15 @@ use std::io::ErrorKind;
 /// The state of a file when it was opened.
 #[derive(Clone, Copy, Debug, PartialEq, Eq)]
 pub struct Original {
-    /// The file's number in its file system.
+    /// The file's number in its file system (its inode number).
     pub number: u64,
     /// The number of the file system.
     pub device: u64,
     /// The length in bytes.
     pub length: u64,
-    /// The last write, in seconds and nanoseconds since 1970.
+    /// The time of the last write: the seconds since 1970-01-01T00:00:00Z, and the nanoseconds after them.
     pub written: (i64, i64),
-    /// The permissions.
+    /// The permission bits of its mode, without the file's type.
     pub mode: u32,
     /// The owner's number.
     pub owner: u32,
@@ -46,7 +46,7 @@ impl<W: Drop> Failing for Counted<W> {
     }
 }
 
-/// A folder. Each call makes one change in it. A failed call has made its change, or none.
+/// A folder. Each call but `open` and `is_at` makes one change in it. A failed call has made its whole change, or none.
 ///
 /// `events` lists what was done in the folder, the last event first; it is `None` for files on a disk, where the
 /// contracts state what is assumed of them.
@@ -60,38 +60,39 @@ pub trait Folder {
     // What was done in the folder, the last event first, if it is known.
     ghost events: { Self → Option (List Event) };
 
-    /// Opens a file that is to be replaced. Rejects all but files with a single name.
+    /// Opens a file to be replaced. Returns its reader and its state. Rejects all but regular files with a single name.
     fn open(&self, name: &str) -> io::Result<(Self::Old, Original)>
         ensures { IfOk result (λ opened. IfSome (events self.now) (λ done.
             (leads done name.now ≡ Some opened.1.number)
             × ((read : List ℕ) × (Self.Old.remaining opened.0 ≡ Some read)
             × IfSome (stored done opened.1.number) (λ bytes. bytes ≡ read)))) };
 
-    /// Whether the name still points to that file, and the file hasn't changed since it was opened.
+    /// Whether the name still points to that file, and its state is still `original`.
     fn is_at(&self, name: &str, original: &Original) -> io::Result<bool>
         ensures { IfOk result (λ is. IfSome (events self.now) (λ done.
             is ≡ true → leads done name.now ≡ Some original.now.number)) };
 
-    /// Creates a file under an unused name, readable by no other user.
+    /// Creates an empty file under an unused name, readable by no other user. After an error of the kind
+    /// `AlreadyExists` nothing was created.
     fn create(&mut self, name: &str) -> io::Result<Self::New>
         ensures made { Tries (events self.old) (events self.new) result (Creates name.now) }
         ensures taken { IfErr result (λ e. error_kind e ≡ ErrorKind.AlreadyExists → events self.new ≡ events self.old) }
         ensures empty { IfOk result (λ new. IfSome (events self.old) (λ _. Self.New.contents new ≡ Some [])) };
 
-    /// Writes the bytes of the new file of that name to the disk, with the mode of the old file, and its owner where
-    /// that may be set. The new file takes no more writes.
+    /// Closes the new file of that name, and writes its bytes to the disk, with the mode of the old file, and its owner
+    /// and group where those may be set.
     fn store(&mut self, name: &str, new: Self::New, original: &Original) -> io::Result<()>
         ensures { Tries (events self.old) (events self.new) result (Stores name.now (Self.New.contents new)) };
 
-    /// Gives a file a second name, which must be unused.
+    /// Adds a second name to a file (a hard link). An error if that name is in use.
     fn link(&mut self, name: &str, second: &str) -> io::Result<()>
         ensures { Tries (events self.old) (events self.new) result (Links name.now second.now) };
 
-    /// Renames a file. If the other name was in use, its old file loses that name.
+    /// Renames a file to `onto`. If `onto` was in use, it no longer points to its old file.
     fn rename(&mut self, name: &str, onto: &str) -> io::Result<()>
         ensures { Tries (events self.old) (events self.new) result (Renames name.now onto.now) };
 
-    /// Removes a name.
+    /// Removes a name. The bytes of its file remain if the file has another name.
     fn remove(&mut self, name: &str) -> io::Result<()>
         ensures { Tries (events self.old) (events self.new) result (Removes name.now) };
 

@@ -13,7 +13,7 @@ use restamp_stream::{Block, Rewriting, Settings, Stop, Stream, Tally};
 pub enum Made {
     /// It is replaced.
     Changed,
-    /// It is unchanged, whatever was written.
+    /// It isn't replaced. What was written to the new file is discarded.
     Same,
 }
 
@@ -21,14 +21,14 @@ pub enum Made {
 pub trait FileTransform: Drop {
     ghost use Rattle.restamp_in_place.specs.Replacing.{bytes_made};
 
-    /// Why no new bytes were made.
+    /// The error if no new bytes could be made.
     type Stop: Drop;
 
-    // Relates its states before and after to the old bytes, and to the new ones if it made any.
+    // Relates the transform before and after `make` to the old bytes, and to the new ones if it made any.
     ghost makes: { Self → Self → List ℕ → Option (List ℕ) → Type 0 };
 
     /// Reads the old bytes to their end, and writes the new ones. If the file needs no change, it may write anything.
-    /// Returns the writer.
+    /// Returns itself, the writer, and whether the file is to be replaced.
     fn make<R: Source, W: Sink>(self, input: &mut R, out: W) -> (Self, W, Result<Made, Self::Stop>)
         ensures { IfOk result.2 (λ made. IfSome (R.remaining input.old) (λ old.
             (text : List ℕ) × Appends (W.contents out) (W.contents result.1) text × makes self result.0 old (bytes_made made text))) };
@@ -60,7 +60,7 @@ fn made_of(tally: &Tally) -> Made
 }
 
 impl<T: Rewriting, L: Sink + Drop> Lines<'_, T, L> {
-    // Processes all lines of the old bytes, and writes the output.
+    // Processes all lines of the old bytes, and writes the output. The returned tally counts only these lines.
     fn answer<R: Source, W: Sink>(self, input: &mut R, out: W) -> (Self, W, Result<(), Stop>)
         ensures { OnOk result.2 (IfSome (R.remaining input.old)
             (ProcessedAll (job_of (T.is_action self.entry.rewriting.now) (T.is_reason self.entry.rewriting.now) self.entry.name.now self.entry.settings)

@@ -38,11 +38,11 @@ fn with_name(alloc: Global, name: &[u8], text: &[u8]) -> io::Result<Vec<u8>>
 }
 
 /// The name of a file's backup: the suffix with the name in place of each `*`; without a `*`, the name followed by the
-/// suffix.
+/// suffix. An empty suffix results in the name itself.
 ///
 /// # Errors
 ///
-/// Memory is short.
+/// Out of memory.
 pub fn backup_name(alloc: Global, name: &str, suffix: &str) -> io::Result<String>
     ensures { IfOk result (λ backup. string_bytes backup ≡ spec.backup_of name.now suffix.now) }
 {

@@ -10,7 +10,7 @@ use restamp_stream::{Stop, write_name};
 use std::alloc::Global;
 use std::{fmt, io};
 
-// Writes the name of a file and why it wasn't replaced.
+// Writes a line to the log: the escaped name of a file, and why it wasn't replaced.
 fn write_why<L: Sink>(name: &[u8], why: &[u8], log: &mut L) -> Result<(), Unwritten>
     ensures reported { OnOk result (Appends (L.contents log.old) (L.contents log.new) (unread_text name.now why.now)) }
     ensures cause { HasCause result (L.faults log.old) (L.faults log.new) }
@@ -21,7 +21,7 @@ fn write_why<L: Sink>(name: &[u8], why: &[u8], log: &mut L) -> Result<(), Unwrit
     log.write_all(b"\n")
 }
 
-// Writes the name of a file, the step that failed, and the text of its error.
+// Writes a line to the log: the escaped name of a file, the step that failed, and the text of its error.
 fn write_failed<L: Sink>(
     name: &[u8],
     step: Step,
@@ -38,8 +38,8 @@ fn write_failed<L: Sink>(
     log.write_all(b"\n")
 }
 
-/// Writes the name of a file and why it wasn't replaced. For a failed call that is the step and the error's own text,
-/// without the latter if memory is short.
+/// Writes a line to the log: the escaped name of a file, and why it wasn't replaced. For a failed call that is the step
+/// and the error's text, or `out of memory` if no memory can be allocated for that text.
 pub fn write_unreplaced<L: Sink>(
     alloc: Global,
     name: &[u8],
@@ -51,11 +51,11 @@ pub fn write_unreplaced<L: Sink>(
     ensures cause { HasCause result (L.faults log.old) (L.faults log.new) }
 {
     match why {
-        Unreplaced::Stopped(_) => write_why(name, b"its lines were not answered", log),
+        Unreplaced::Stopped(_) => write_why(name, b"its lines were not rewritten", log),
         Unreplaced::Changed => write_why(name, b"another program changed it meanwhile", log),
         Unreplaced::Failed(step, error) => match format!(in alloc; "{error}") {
             Ok(text) => write_failed(name, *step, text.as_bytes(), log),
-            Err(_) => write_failed(name, *step, b"memory is short", log),
+            Err(_) => write_failed(name, *step, b"out of memory", log),
         },
     }
 }
@@ -71,9 +71,9 @@ pub enum Step {
     Write,
     /// Storing the new file on the disk.
     Store,
-    /// Looking at the old file again.
+    /// Checking that the old file is unchanged.
     Look,
-    /// Giving the old file its second name.
+    /// Adding the backup's name to the old file, and writing that name to the disk.
     BackUp,
     /// Renaming the new file to the old one's name.
     Rename,
@@ -94,22 +94,22 @@ impl fmt::Display for Step {
             Step::Open => "it was not opened",
             Step::Create => "no new file was made beside it",
             Step::Write | Step::Store => "the new file was not written",
-            Step::Look => "it was not looked at again",
+            Step::Look => "it was not checked for changes",
             Step::BackUp => "it was not backed up",
             Step::Rename => "the new file did not take its place",
             Step::Remove => "the new file was not removed",
-            Step::Sync => "the new file took its place, but its folder was not put on the disk",
+            Step::Sync => "the new file took its place, but its folder was not synced",
         })
     }
 }
 
-/// Why a file wasn't replaced.
+/// Why a file wasn't replaced; or for [`Step::Sync`], why a crash may undo its replacement.
 #[derive(Debug, Drop)]
 pub enum Unreplaced<S: Drop> {
-    /// No new bytes were made.
+    /// No new bytes could be made, for this reason.
     Stopped(S),
-    /// Another program replaced or wrote the file meanwhile.
+    /// Another program replaced or changed the file meanwhile.
     Changed,
-    /// A call failed.
+    /// That step failed, with that error.
     Failed(Step, io::Error),
 }

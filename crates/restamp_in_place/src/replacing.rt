@@ -14,7 +14,7 @@ use std::io::ErrorKind;
 // How many names are tried for a new file.
 const TRIES: u32 = 1000;
 
-// A file that is to be replaced, and the names of the new file and of the backup.
+// A file that is to be replaced, the names of the new file and of the backup, and the file's state when it was opened.
 #[derive(Clone, Copy)]
 pub(crate) struct Plan<'a> {
     name: &'a str,
@@ -23,7 +23,8 @@ pub(crate) struct Plan<'a> {
     original: Original,
 }
 
-// Creates a file beside a file, under an unused name.
+// Creates an empty file under the first unused name of `.NAME.restamp-0` to `.NAME.restamp-999`. Returns that name and
+// the file's writer. If all are in use, the error is of the kind `AlreadyExists`.
 fn create_beside<F: Folder>(
     folder: &mut F,
     alloc: Global,
@@ -45,7 +46,7 @@ fn create_beside<F: Folder>(
     Err(io::Error::from(ErrorKind::AlreadyExists))
 }
 
-// An error if another program changed the old file, or it can't be looked at.
+// Success if the old file is unchanged; an error if another program changed or replaced it, or the check failed.
 fn unchanged<S: Drop>(is_there: io::Result<bool>) -> Result<(), Unreplaced<S>> {
     match is_there {
         Ok(true) => Ok(()),
@@ -54,7 +55,7 @@ fn unchanged<S: Drop>(is_there: io::Result<bool>) -> Result<(), Unreplaced<S>> {
     }
 }
 
-// Writes the new file to the disk. An error if another program changed the old one.
+// Writes the new file to the disk, then checks that the old one is `unchanged`. An error if either fails.
 fn prepare<F: Folder, S: Drop>(
     folder: &mut F,
     plan: &Plan<'_>,
@@ -87,7 +88,7 @@ fn rename_linked<F: Folder, S: Drop>(folder: &mut F, plan: &Plan<'_>) -> Result<
     rename(folder, plan)
 }
 
-// Removes the backup again, if the name still points to the old file.
+// Removes the backup again, if the name still points to the unchanged old file. Ignores any failure.
 fn remove_backup<F: Folder>(folder: &mut F, plan: &Plan<'_>, backup: &str)
     ensures { (aim : Replacement) → IsPlanOf aim plan.now → aim.backup ≡ Some backup.now
         → Runs (F.events folder.old) (F.events folder.new) (BackupRemovable aim) (TempRemovable aim) }
@@ -98,7 +99,7 @@ fn remove_backup<F: Folder>(folder: &mut F, plan: &Plan<'_>, backup: &str)
     let _ = folder.remove(backup);
 }
 
-// Gives the old file its second name, then renames the new file.
+// Gives the old file its second name, then calls `rename_linked`. If that fails, tries to remove the second name again.
 fn rename_backed<F: Folder, S: Drop>(
     folder: &mut F,
     plan: &Plan<'_>,
@@ -134,9 +135,9 @@ fn install<F: Folder, S: Drop>(
     }
 }
 
-// Installs the new file and syncs the folder. Removes the new file if it can't be installed. If only the sync fails, the
-// new file is in place, and the result is an error.
-fn put<F: Folder, S: Drop>(
+// Installs the new file and syncs the folder. Removes the new file if it can't be installed. If only the sync fails,
+// the new file is in place, and the result is an error.
+fn install_or_remove<F: Folder, S: Drop>(
     folder: &mut F,
     plan: &Plan<'_>,
     new: F::New,
@@ -147,14 +148,14 @@ fn put<F: Folder, S: Drop>(
     match install(folder, plan, new) {
         Ok(()) => folder.sync().map_err(|e| Unreplaced::Failed(Step::Sync, e)),
         Err(why) => {
-            // A second failure leaves the new file.
+            // If the removal fails, too, the new file remains.
             let _ = folder.remove(plan.temporary);
             Err(why)
         }
     }
 }
 
-// Installs or removes the new file, by the result of its making.
+// Installs the new file for `Changed`, else removes it. If the maker and a write failed, the error is the write's.
 fn finish<F: Folder, S: Drop>(
     folder: &mut F,
     plan: &Plan<'_>,
@@ -169,7 +170,7 @@ fn finish<F: Folder, S: Drop>(
 {
     match made {
         Ok(Made::Changed) => {
-            put(folder, plan, new)?;
+            install_or_remove(folder, plan, new)?;
             Ok(Made::Changed)
         }
         Ok(Made::Same) => {
@@ -189,12 +190,14 @@ fn finish<F: Folder, S: Drop>(
     }
 }
 
-/// Replaces the file of that name by what `maker` makes of its bytes. Returns the maker.
+/// Replaces the file of that name by what `maker` makes of its bytes. Returns the maker, and whether the file was
+/// replaced.
 ///
-/// It writes the new bytes to a new file beside the old one, stores that on the disk, and renames it. If a backup's name
-/// is given, the old file has that name from then on. The old file is unchanged if the maker returns `Same`, if another
-/// program replaced or wrote it meanwhile, and if anything fails: then the new file is removed, unless that fails too.
-/// If only the last write of the folder to the disk fails, the new file is in place, and the result is an error.
+/// It writes the new bytes to a new file beside the old one, stores that on the disk, and renames it. If a backup's
+/// name is given, which must be unused, the old file has that name from then on. The old file is unchanged if the maker
+/// returns `Same`, if another program replaced or changed it meanwhile, and if anything fails: then the new file is
+/// removed, unless that fails too. If a rename fails after it was made, or if only the last write of the folder to the
+/// disk fails, the new file is in place, and the result is an error.
 ///
 /// A crash at any moment leaves what it might have left before under the name, or the whole new file.
 pub fn replace<F: Folder, M: FileTransform>(

@@ -17,17 +17,17 @@ use std::alloc::Global;
 pub struct Target<'a> {
     /// Its name in its folder.
     pub name: &'a str,
-    /// The second name of the old file, if a backup is requested.
+    /// The second name of the old file, which must be unused; `None` for no backup.
     pub backup: Option<&'a str>,
-    /// Its name in reports.
+    /// Its name in reports: any bytes, such as its path.
     pub shown: &'a [u8],
 }
 
-/// Replaces a file by its processed lines, unless none of its timestamps is rewritten. Returns the log and the counts
-/// of the file's lines by their actions.
+/// Replaces a file by its processed lines, unless none of its timestamps is rewritten. Returns the log, the counts of
+/// the file's lines by their actions, and whether the file was replaced.
 ///
 /// The file is unchanged if the work stops at a rejected line, and if anything fails but the last write of the folder
-/// to the disk.
+/// to the disk, or a rename that was made.
 pub fn replace_file<T: Rewriting, F: Folder, L: Sink + Drop>(
     rewriting: &T,
     settings: Settings<'_>,

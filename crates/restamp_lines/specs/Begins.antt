@@ -14,47 +14,50 @@ use Rattle.restamp_lines.specs.declared.anywhere.firsts.Firsts.{Firsts}
 use Rattle.restamp_formats.specs.declared.reading.Reading.{Reading}
 use Rattle.restamp_formats.specs.declared.reading.Reading.TheVariants as reading
 
--- sets of first bytes: digits; digits and signs; those of a mail date; all bytes
+-- a set of first bytes: ASCII digits
 abbrev pub digits : Firsts
 digits = record { signs = false; mail = false; others = false }
 
+-- a set of first bytes: ASCII digits, `+` and `-`
 abbrev pub numbers : Firsts
 numbers = record { signs = true; mail = false; others = false }
 
+-- a set of first bytes: those of a mail date, which are ASCII digits, white space, `(` and first letters of weekdays
 abbrev pub mail : Firsts
 mail = record { signs = false; mail = true; others = false }
 
+-- a set of first bytes: all bytes
 abbrev pub all : Firsts
 all = record { signs = true; mail = false; others = true }
 
--- white space or a comment may start with the byte
+-- white space or a comment of a mail date may start with the byte: a space, a tab, CR or `(`
 abbrev pub is_gap : ℕ → Bool
 is_gap x = x == 32 || x == 9 || x == 13 || x == 40
 
--- the byte is that lower case letter in either case
+-- the byte is the ASCII letter, which is given in lower case, in either case
 abbrev pub is_letter : ℕ → ℕ → Bool
 is_letter x letter = x == letter || x == letter - 32
 
--- the name of a weekday may start with the byte
+-- the English name of a weekday may start with the byte, in either case
 abbrev pub is_weekday : ℕ → Bool
 is_weekday x = is_letter x 109 || is_letter x 116 || is_letter x 119 || is_letter x 102 || is_letter x 115
 
--- the byte may be the second of a weekday's name
+-- the byte may be the second letter of a weekday's English name, in either case
 abbrev pub is_weekday_second : ℕ → Bool
 is_weekday_second x =
     is_letter x 111 || is_letter x 117 || is_letter x 101 || is_letter x 104 || is_letter x 114 || is_letter x 97
 
--- a text may start with the byte
+-- the byte is in the set: a digit, or one of those that its fields add
 abbrev pub is_in : Firsts → ℕ → Bool
 is_in f x =
     is_ascii_digit x || (f.signs && (x == 43 || x == 45)) || (f.mail && (is_gap x || is_weekday x)) || f.others
 
--- the bytes, or any byte if spaces pad the text
+-- the set, or all bytes if spaces pad the text
 abbrev pub padded : Padding → Firsts → Firsts
 padded padding.Space f = all
 padded padding f = f
 
--- the first bytes of a component's text
+-- the bytes that a component's text may start with; all bytes for a component without a rule of its own
 abbrev pub component_firsts : Component → Firsts
 component_firsts (component.Day m) = padded m.padding digits
 component_firsts (component.MonthNumerical m) = padded m.padding digits
@@ -67,12 +70,12 @@ component_firsts (component.UnixTimestampMicrosecond m) = numbers
 component_firsts (component.UnixTimestampNanosecond m) = numbers
 component_firsts _ = all
 
--- the first bytes of a description's text, by its first step
+-- the bytes that a description's text may start with, by its first step; all bytes unless that is a component
 abbrev pub steps_firsts : List Step → Firsts
 steps_firsts (step.Component c ∷ steps) = component_firsts c
 steps_firsts _ = all
 
--- the first bytes of a format's text
+-- the bytes that a format's text may start with
 abbrev pub format_firsts : Reading → Firsts
 format_firsts reading.Rfc3339 = digits
 format_firsts (reading.Zoned zones) = digits
@@ -82,28 +85,29 @@ format_firsts (reading.Described d) = steps_firsts d
 format_firsts (reading.Complete d) = steps_firsts d
 format_firsts (reading.Counted d) = steps_firsts d
 
--- no text of the format, or of any of the formats, starts with the byte
+-- the byte isn't among the first bytes of the format's texts
 abbrev pub IsNotIn : ℕ → Reading → Type 0
 IsNotIn x format = is_in (format_firsts format) x ≡ false
 
+-- the byte isn't among the first bytes of the texts of any of the formats
 abbrev pub IsInNone : ℕ → List Reading → Type 0
 IsInNone x = All (IsNotIn x)
 
--- a text may start at that place of a line
+-- a text may start at index k of a line: its byte is in the set, and doesn't continue a word or a number
 abbrev pub may_begin : Firsts → List ℕ → ℕ → Bool
 may_begin f line k = not (is_inside line k) && is_in f (slice_index line k)
 
--- the bytes start with four digits
+-- the bytes start with four ASCII digits
 abbrev pub has_year : List ℕ → Bool
 has_year bytes =
     is_ascii_digit (slice_index bytes 0) && is_ascii_digit (slice_index bytes 1) && is_ascii_digit (slice_index bytes 2)
     && is_ascii_digit (slice_index bytes 3)
 
--- a day or a weekday, a comment, or more white space may start with the two bytes
+-- a day or a weekday, a comment, or white space may start with the two bytes
 abbrev pub begins_day : ℕ → ℕ → Bool
 begins_day x y = is_ascii_digit x || is_gap x || (is_weekday x && is_weekday_second y)
 
--- the bytes may start with a mail date, judged by the first three
+-- the bytes may start with a mail date, judged by the first two, or by the two after a space
 abbrev pub may_be_mail : List ℕ → Bool
 may_be_mail bytes =
     if slice_index bytes 0 == 32 then begins_day (slice_index bytes 1) (slice_index bytes 2)

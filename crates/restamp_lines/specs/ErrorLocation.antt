@@ -36,15 +36,17 @@ use Rattle.restamp_formats.specs.declared.missing_field.MissingField.{MissingFie
 use Rattle.restamp_formats.specs.declared.missing_field.MissingField.TheVariants as missing_field
 use Rattle.restamp_formats.specs.declared.reading.Defaults.{Defaults}
 
--- the location of an error: the column of the byte, from 1, and what was expected there, if that is reported
+-- the location of an error: the number of the byte in its line, from 1, and what was expected there, if a format fails
+-- to match there
 pub record ErrorLocation : Type 0 where
   pub column : ℕ
   pub wanted : Option Expectation
 
+-- the location at that column, with what was expected there
 abbrev pub error_location : ℕ → Option Expectation → ErrorLocation
 error_location column wanted = record { column = column; wanted = wanted }
 
--- the location without the address of what was expected
+-- the location, without the address of what was expected
 abbrev pub erased_location : declared.ErrorLocation → ErrorLocation
 erased_location w = error_location w.column (option_map wants w.expected)
 
@@ -53,62 +55,65 @@ abbrev pub IsMatched : Bool → Outcome.Reading → List ℕ → Type 0
 IsMatched true reads text = (rest : List ℕ) × (r : Record) × reads text empty rest r
 IsMatched false reads text = (r : Record) × reads text empty [] r
 
--- whether a format matches a prefix of a text
+-- whether a format matches a prefix of a text, over an empty record
 abbrev pub MatchesPrefix : Outcome.Reading → List ℕ → Bool → Type 0
 MatchesPrefix reads text true = IsMatched true reads text
 MatchesPrefix reads text false = IsMatched true reads text → ⊥
 
--- The location of a rejected value in a part: the start of the component that the error reports as out of range, or the
--- start of the part.
+-- The location of a rejected value in a part: the start of the component that the error reports as out of range, or if
+-- there is none, the start of the part.
 abbrev pub IsValueLocation : Marking → Part → Refusal → ErrorLocation → Type 0
 IsValueLocation marks p e w =
     (index : Option ℕ) × IsValueAt marks p.text empty (range_name e) index
     × (w ≡ error_location (p.start + unwrap_or index 0 + 1) None)
 
--- The location where a format fails to match a part.
+-- The location where a format fails to match a part, with what was expected there.
 abbrev pub IsMismatchLocation : Outcome.Reading → Locating → Part → ErrorLocation → Type 0
 IsMismatchLocation reads locates p w =
     (at : Located) × IsLocated reads locates p.text empty (Some at)
     × (w ≡ error_location (p.start + at.index + 1) (Some (wants at.expected)))
 
--- The location of the error in a part of a line that a format of these relations rejects.
+-- The location of the error in a part of a line that a format with these relations rejects: of the rejected value if
+-- the format matches the part, otherwise of the mismatch.
 abbrev pub IsLocationBy : Outcome.Reading → Locating → Marking → Part → Refusal → ErrorLocation → Type 0
 IsLocationBy reads locates marks p e w =
     (IsMatched p.is_prefix reads p.text × IsValueLocation marks p e w)
     ⊎ ((IsMatched p.is_prefix reads p.text → ⊥) × IsMismatchLocation reads locates p w)
 
--- the location of the error by a description
+-- the location of the error in a part by a description with that tree
 abbrev pub IsTreeLocation : Tree → Part → Refusal → ErrorLocation → Type 0
 IsTreeLocation tree = IsLocationBy (Description.Reads greatest_year tree) (LocatesTree first_byte tree) (MarksTree tree)
 
--- bytes follow the text
+-- the error is that bytes follow a whole timestamp
 abbrev pub is_trailing : Refusal → Bool
 is_trailing trailing = true
 is_trailing e = false
 
--- the location of the error by RFC 3339
+-- the location of the error in a part by RFC 3339
 abbrev pub IsRfc3339Location : Part → Refusal → ErrorLocation → Type 0
 IsRfc3339Location = IsLocationBy (Rfc3339.Reads greatest_year) located_rfc3339.Locates located_rfc3339.Marks
 
--- the location behind the suffix that follows a prefix by RFC 3339
+-- the location right after the match `front` and the longest suffix that follows it, where the end was expected
 abbrev pub IsLocationBehind : Part → Match → ErrorLocation → Type 0
 IsLocationBehind p front w =
     (s : Suffix) × IsLongestSuffix (drop front.length p.text) s
     × (w ≡ error_location (p.start + front.length + s.len + 1) (Some the_end))
 
--- the location of bytes that follow a text with a suffix
+-- the location of the bytes that follow a timestamp and its suffix; that of the error by RFC 3339 if the part starts
+-- with no timestamp of RFC 3339
 abbrev pub IsTailLocation : Part → Refusal → ErrorLocation → Type 0
 IsTailLocation p e w =
     (outcome : Result Match Refusal) × IsReadInFront p.text outcome
     × MatchResult outcome (λ front. IsLocationBehind p front w) (λ _. IsRfc3339Location p e w)
 
--- the location of the error in a part of a line that may have a suffix
+-- the location of the error in a part by RFC 9557: the bytes after the suffix if the error is that bytes follow,
+-- otherwise the error by RFC 3339
 abbrev pub IsZonedLocation : Part → Refusal → ErrorLocation → Type 0
 IsZonedLocation p e w =
     let front = record p { is_prefix = true } in
     MatchBool (is_trailing e) (IsTailLocation front e w) (IsRfc3339Location front e w)
 
--- The location of the error by any of the formats. Defaults have no effect, since they only supply what a text omits.
+-- The location of the error in a part by a format. Defaults have no effect, since they only supply what a text omits.
 abbrev pub IsPartLocation : Reading → Part → Refusal → ErrorLocation → Type 0
 IsPartLocation reading.Rfc3339 = IsRfc3339Location
 IsPartLocation (reading.Zoned zones) = IsZonedLocation
@@ -118,28 +123,28 @@ IsPartLocation (reading.Described d) = IsTreeLocation (steps_shape d)
 IsPartLocation (reading.Complete d) = IsTreeLocation (steps_shape d)
 IsPartLocation (reading.Counted d) = IsTreeLocation (steps_shape d)
 
--- The location of a suffix that rejects the moment of its prefix by RFC 3339; `otherwise` if there is no such
--- prefix.
+-- The location of a suffix that rejects the moment: right after the timestamp of RFC 3339 at the start of the part;
+-- `otherwise` if the part starts with no such timestamp.
 abbrev pub IsSuffixLocation : Part → ErrorLocation → ErrorLocation → Type 0
 IsSuffixLocation p otherwise w =
     (outcome : Result Match Refusal) × IsReadInFront p.text outcome
     × MatchResult outcome (λ front. w ≡ error_location (p.start + front.length + 1) None) (λ _. w ≡ otherwise)
 
--- The location of the error in a part that was rejected for a reason: `otherwise`, unless no format matches it, or its
--- suffix rejects it. If no format matches, it is the location by the first.
+-- The location of the error in a part that was rejected for a reason: by the first format, which is given, if no format
+-- matches; of the suffix if that rejects the moment; `otherwise` for any other reason.
 abbrev pub IsReasonLocation : Reading → Part → Reason → ErrorLocation → ErrorLocation → Type 0
 IsReasonLocation format p (unread e) otherwise w = IsPartLocation format p e w
 IsReasonLocation format p (suffix fault) otherwise w = IsSuffixLocation p otherwise w
 IsReasonLocation format p reason otherwise w = w ≡ otherwise
 
--- The location of the error in a timestamp that was rejected at a column for a reason: that column if the line has no
--- part for a timestamp.
+-- The location of the error in a timestamp that was rejected at a column for a reason: that column if the job has no
+-- place or the line no part there, or the reason is neither `unread` nor `suffix`; otherwise by `IsReasonLocation`.
 abbrev pub IsErrorLocation : Job → List ℕ → ℕ → Reason → ErrorLocation → Type 0
 IsErrorLocation job line column reason w =
     MatchOption (part_of job.place line) (w ≡ error_location column None)
     (λ p. IsReasonLocation job.first.now p reason (error_location column None) w)
 
--- The error has one location, and one report of what was expected there, which may be `None`.
+-- The error has at most one location, which includes what was expected there or `None`.
 abbrev pub OneErrorLocation : Type 0
 OneErrorLocation =
     (job : Job) (line : List ℕ) (column : ℕ) (reason : Reason) (w other : ErrorLocation)
@@ -147,64 +152,72 @@ OneErrorLocation =
 
 -- ---- The part that is missing from a rejected timestamp.
 
--- a record has a whole year; it has a whole ISO 8601 week year
+-- a record has a year, or its century and its last two digits
 abbrev pub has_whole_year : Record → Bool
 has_whole_year r = is_some r.year || (is_some r.year_century && is_some r.year_last_two)
 
+-- a record has an ISO 8601 week year, or its century and its last two digits
 abbrev pub has_whole_iso_year : Record → Bool
 has_whole_iso_year r = is_some r.iso_year || (is_some r.iso_year_century && is_some r.iso_year_last_two)
 
--- a record has a day of a year; it has a day of an ISO 8601 week year
+-- a record has a day of a year: its number in the year, a month and a day, or a weekday and the number of a week that
+-- starts on Sunday or Monday
 abbrev pub has_day : Record → Bool
 has_day r =
     is_some r.ordinal || (is_some r.month && is_some r.day)
     || (is_some r.weekday && (is_some r.sunday_week_number || is_some r.monday_week_number))
 
+-- a record has a day of an ISO 8601 week year: a week number and a weekday
 abbrev pub has_iso_day : Record → Bool
 has_iso_day r = is_some r.iso_week_number && is_some r.weekday
 
--- a record has a day with its year
+-- a record has a day with its whole year, both of the calendar year or both of the ISO 8601 week year
 abbrev pub has_full_date : Record → Bool
 has_full_date r = (has_whole_year r && has_day r) || (has_whole_iso_year r && has_iso_day r)
 
--- a record has an hour of the day
+-- a record has an hour of the day: from 0 to 23, or from 1 to 12 with AM or PM
 abbrev pub has_hour : Record → Bool
 has_hour r = is_some r.hour_24 || (is_some r.hour_12 && is_some r.hour_12_is_pm)
 
--- the missing part of a record without a date
+-- the missing part of a record without a date: `Day` if it has no day, otherwise `WholeYear` if it has a part of a
+-- year, else `Year`
 abbrev pub missing_date_field : Record → MissingField
 missing_date_field r =
     if not (has_day r) && not (has_iso_day r) then missing_field.Day else
     if has_year r then missing_field.WholeYear else missing_field.Year
 
--- the missing part of a record with a date
+-- the missing part of a record with a date: the first of the hour (AM or PM if it has an hour from 1 to 12), the minute
+-- and the second that it doesn't have, or if it has them, the offset
 abbrev pub missing_time_field : Record → MissingField
 missing_time_field r =
     if not (has_hour r) then (if is_some r.hour_12 then missing_field.Half else missing_field.Hour) else
     if not (is_some r.minute) then missing_field.Minute else
     if not (is_some r.second) then missing_field.Second else missing_field.Offset
 
--- the missing part of a record that has too little information for a moment
+-- the missing part of a record that has too little information for a moment: a part of its date, or if it has a date,
+-- of its time or offset
 abbrev pub missing_field_in : Record → MissingField
 missing_field_in r = if has_full_date r then missing_time_field r else missing_date_field r
 
--- the defaults with the year of `latest`, if that is set: a text without a year means no later moment
+-- the defaults with the year of the given moment in place of their `year` and `latest`; unchanged for `None`
 abbrev pub dated_by : Defaults → Option OffsetDateTime → Defaults
 dated_by d None = d
 dated_by d (Some v) = in_year (Dates.year (offset_date v)) d.offset d.clocks
 
+-- the defaults with the year of `latest` in place of `year` and `latest`; unchanged if `latest` is `None`
 abbrev pub dated : Defaults → Defaults
 dated d = dated_by d d.latest
 
--- The missing part of a text, with defaults for what the text omits. A format has to match a prefix of the text.
+-- The missing part of a text, with the default year and offset for what it omits; `None` if the format matches no
+-- prefix of the text.
 abbrev pub IsMissingFieldBy : Outcome.Reading → Refusing → Defaults → List ℕ → Option MissingField → Type 0
 IsMissingFieldBy reads refuses defaults text result =
     ((e : Refusal) × refuses text empty e × (result ≡ None))
     ⊎ ((rest : List ℕ) × (r : Record) × reads text empty rest r
     × (result ≡ Some (missing_field_in (completed defaults r))))
 
--- The missing part by any of the formats. RFC 3339 and RFC 2822 give all of a moment, and a complete description gets
--- no defaults.
+-- The missing part of a text by a format; always `None` for RFC 3339, RFC 9557, RFC 2822 and a complete description,
+-- whose texts have all of a moment.
 abbrev pub IsMissingFieldIn : Reading → Defaults → List ℕ → Option MissingField → Type 0
 IsMissingFieldIn reading.Iso8601 = IsMissingFieldBy (Iso8601.Reads greatest_year) (Iso8601.Refuses greatest_year)
 IsMissingFieldIn (reading.Described d) =
@@ -215,12 +228,13 @@ IsMissingFieldIn (reading.Counted d) =
     (Description.Refuses greatest_year (steps_shape d))
 IsMissingFieldIn format = λ defaults text result. result ≡ None
 
--- information is missing
+-- the reason is that the timestamp omits a part of a moment
 abbrev pub is_insufficient : Reason → Bool
 is_insufficient (unread insufficient) = true
 is_insufficient reason = false
 
--- The missing part of a line's timestamp that was rejected for a reason, by the first format.
+-- The missing part of a line's timestamp that was rejected for a reason, by the first format; `None` unless the reason
+-- is insufficient information, and the line has a part at the job's place.
 abbrev pub IsMissingField : Job → List ℕ → Reason → Option MissingField → Type 0
 IsMissingField job line reason result =
     MatchBool (is_insufficient reason)

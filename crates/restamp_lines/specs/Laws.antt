@@ -12,14 +12,14 @@ use Rattle.restamp_lines.specs.declared.job.Job.{Job}
 use Rattle.restamp_lines.specs.declared.job.TheConstants.{LIMIT}
 use Rattle.restamp_formats.specs.Laws.{IsReadable, AreEquivalent, AllEquivalent}
 
--- Each line has at most one verdict.
+-- Each line has at most one verdict by a job.
 abbrev pub OneVerdict : Type 0
 OneVerdict = (job : Job) (line : List ℕ) (verdict other : Verdict)
     → IsJudged job line verdict → IsJudged job line other → verdict ≡ other
 
--- A line with a text of `IsReadable` at its place, by the job's own form and its first format, keeps its bytes: the
--- text replaces itself. Otherwise the line is dropped, because the moment lies outside the bounds, or it is rejected,
--- because the text ends too far behind.
+-- If a text of `IsReadable`, by the job's own form and its first format, is the whole part of a line at a place that
+-- isn't `Front` or `After`, the line is rejected if the text ends after the first `LIMIT` bytes, dropped if the moment
+-- lies outside the bounds, and otherwise the text replaces itself.
 abbrev pub ChangesNothing : Type 0
 ChangesNothing =
     (job : Job) (place : Place) (line : List ℕ) (span : Span) (v : OffsetDateTime) (bytes : List ℕ) (verdict : Verdict)
@@ -29,7 +29,8 @@ ChangesNothing =
     → MatchBool (nat_lt LIMIT (span.start + length bytes)) (verdict ≡ refused (span.start + 1) too_far)
     (MatchBool (is_kept job v) (verdict ≡ rewritten span.start (length bytes) bytes) (verdict ≡ Dropped))
 
--- the jobs are equal, except for tables of zones that have the same zones for each name in the line
+-- the jobs are equal, except for their formats' tables of zones, which have the same zone, or both none, for each name
+-- in brackets where a timestamp may end in the line
 pub record DiffersInZones (line : List ℕ) (job other : Job) : Type 0 where
   pub first : AreEquivalent line job.first.now other.first.now
   pub others : AllEquivalent line job.others.now other.others.now
@@ -40,7 +41,8 @@ pub record DiffersInZones (line : List ℕ) (job other : Job) : Type 0 where
   pub until : job.until ≡ other.until
   pub requires_timestamp : job.requires_timestamp ≡ other.requires_timestamp
 
--- the verdict on a line depends only on zones whose names are in it where a timestamp may end
+-- jobs that differ only in zones whose names aren't in a line, in brackets where a timestamp may end, have the same
+-- verdict on it
 abbrev pub DependsOnNamedZones : Type 0
 DependsOnNamedZones =
     (job other : Job) (line : List ℕ) (verdict : Verdict) → DiffersInZones line job other

@@ -15,7 +15,8 @@ use restamp_place::body_of;
 use restamp_stream::LineAction;
 use time_values::text::Text;
 
-// Whether the bytes right before and right at a place of the line are both ASCII letters or digits.
+// Whether the bytes of the line at the indices `place` - 1 and `place` are both ASCII letters or digits; `false` at 0
+// and from the line's end on.
 fn is_inside(line: &[u8], place: usize) -> bool
     ensures { result ≡ spec.is_inside line.now place }
 {
@@ -26,7 +27,8 @@ fn is_inside(line: &[u8], place: usize) -> bool
 }
 
 impl Job<'_> {
-    // Parses a prefix of the line from a byte on by the format; `None` also where it ends inside a word or a number.
+    // Parses the line from `start` on by the format, a prefix of at most `REACH` bytes; `None` if that doesn't match,
+    // or if the match ends inside a word or a number. The match counts its start from `start`.
     fn match_alone(&self, line: &[u8], start: usize, reading: &Reading) -> Option<Match>
         requires { start ≤ length line.now }
         ensures matched { spec.MatchesAlone self.now line.now start reading.now result }
@@ -43,7 +45,7 @@ impl Job<'_> {
         Some(matched)
     }
 
-    // Like `match_alone`, without a parse where no text of the format starts with these bytes.
+    // The result of `match_alone`, without a parse if no text of the format starts with these bytes.
     #[inline(always)]
     fn try_alone(&self, line: &[u8], start: usize, reading: &Reading) -> Option<Match>
         requires { start ≤ length line.now }
@@ -56,7 +58,7 @@ impl Job<'_> {
         }
     }
 
-    // Parses a prefix of the line from a byte on by the first of the other formats that matches.
+    // The match by `match_alone` of the first of `self.others` that has one from `start` on; `None` if none has.
     fn read_others(&self, line: &[u8], start: usize) -> Option<Match>
         requires { start ≤ length line.now }
         ensures matched { spec.AreTriedAlone self.now line.now start self.now.others.now result }
@@ -70,7 +72,8 @@ impl Job<'_> {
         None
     }
 
-    // Parses a prefix of the line from a byte on that isn't inside a word or a number.
+    // Parses the line from `start` on as `match_alone`, by the first of all formats that matches; `None` if none does,
+    // or if the byte at `start` continues a word or a number.
     fn match_from(&self, line: &[u8], start: usize) -> Option<Match>
         requires { start ≤ length line.now }
         ensures matched { spec.MatchesFrom self.now line.now start result }
@@ -85,7 +88,8 @@ impl Job<'_> {
         }
     }
 
-    // The next place, from that one on, with a byte that a timestamp can start with; that place itself if unknown.
+    // The next index to try, from `from` to the line's length. No format matches from an index in `from..result`.
+    // Bytes that aren't in `firsts`, or that continue a word or a number, may be skipped.
     fn next_start(&self, firsts: Firsts, line: &[u8], from: usize) -> usize
         requires some { 0 < from }
         requires within { from ≤ length line.now }
@@ -101,7 +105,8 @@ impl Job<'_> {
         }
     }
 
-    // The first place of the line from which on it has a timestamp, and the match.
+    // The first index of the line from which on a format matches, and the match, which counts its start from there;
+    // `None` if no format matches anywhere.
     pub(crate) fn find_first(&self, line: &[u8]) -> Option<(usize, Match)>
         ensures first { spec.IsFirst self.now line.now result }
         ensures within { IfSome result (λ found. found.0 + found.1.start + found.1.length ≤ length line.now) }
@@ -117,7 +122,7 @@ impl Job<'_> {
         None
     }
 
-    // The verdict on a line whose timestamp may be anywhere but in a CR at its end.
+    // The verdict on a line whose timestamp may be anywhere but in a CR at its end; a new time is stored in `text`.
     #[inline(never)]
     pub(crate) fn judge_anywhere<E: FromReason>(
         &self,

@@ -20,13 +20,14 @@ use time_zones::read_suffix;
 /// The location of the error in a rejected timestamp.
 #[derive(Clone, Copy, Debug)]
 pub struct ErrorLocation<'a> {
-    /// The column of the byte, from 1.
+    /// The number of the error's byte in its line, from 1; one past the last byte if the line ends there.
     pub column: usize,
-    /// What was expected there. `None` if the text is well formed, and its value is rejected.
+    /// What was expected there, if the first format fails to match there or bytes follow the timestamp; `None` for any
+    /// other error, such as a value out of range.
     pub expected: Option<Expected<'a>>,
 }
 
-// Whether the format matches a prefix of the text.
+// Whether the format matches a prefix of the text, even if its components make no valid value.
 fn reads_front<F: Parsable>(format: &F, text: &[u8]) -> bool
     ensures { spec.MatchesPrefix (F.reads format.now) text.now result }
 {
@@ -34,7 +35,7 @@ fn reads_front<F: Parsable>(format: &F, text: &[u8]) -> bool
     format.parse_into(text, &mut parsed).is_ok()
 }
 
-// The component that the error reports as out of range.
+// The name of the component that the error reports as out of range; `None` for any other error.
 fn range_name(error: Parse) -> Option<&'static str>
     ensures { option_map (λ name. name.now) result ≡ located.range_name (refusal_of error) }
 {
@@ -45,7 +46,9 @@ fn range_name(error: Parse) -> Option<&'static str>
     }
 }
 
-// The index in the text at which the component starts that the error reports as out of range.
+// The index in the text at which the component starts that the error reports as out of range: for an `ordinal` in a
+// text without one, the start of the week number. `None` if the error reports none, the format matches no prefix of the
+// text, or that prefix has no such component.
 fn index_of_value<F: Locate>(format: &F, text: &[u8], error: Parse) -> Option<usize>
     ensures { located.IsValueAt (F.marks format.now) text.now empty (located.range_name (refusal_of error)) result }
 {
@@ -57,7 +60,8 @@ fn index_of_value<F: Locate>(format: &F, text: &[u8], error: Parse) -> Option<us
     }
 }
 
-// Locates a rejected value in a part of a line.
+// Locates a rejected value in a part of a line: the start of the component that the error reports as out of range, or
+// if there is none, the start of the part.
 fn find_value<'f, F: Locate>(format: &F, part: Part<'_>, error: Parse) -> ErrorLocation<'f>
     ensures { spec.IsValueLocation (F.marks format.now) (erased_part part.entry) (refusal_of error) (spec.erased_location result) }
 {
@@ -68,7 +72,8 @@ fn find_value<'f, F: Locate>(format: &F, part: Part<'_>, error: Parse) -> ErrorL
     }
 }
 
-// Locates the error in a part of a line that the format rejects.
+// Locates the error in a part of a line that the format rejects: the rejected value of `error` if the format matches
+// the part (a prefix of it if `is_prefix` is true), otherwise the mismatch.
 fn find_by<'f, F: Locate>(format: &'f F, part: Part<'_>, error: Parse) -> ErrorLocation<'f>
     ensures { spec.IsLocationBy (F.reads format.now) (F.locates format.now) (F.marks format.now) (erased_part part.entry)
         (refusal_of error) (spec.erased_location result) }
@@ -85,7 +90,7 @@ fn find_by<'f, F: Locate>(format: &'f F, part: Part<'_>, error: Parse) -> ErrorL
     }
 }
 
-// Whether the error is that bytes follow the text.
+// Whether the error is that bytes follow a whole timestamp.
 fn is_trailing(error: Parse) -> bool
     ensures { result ≡ spec.is_trailing (refusal_of error) }
 {
@@ -95,7 +100,8 @@ fn is_trailing(error: Parse) -> bool
     )
 }
 
-// Locates the bytes that follow a suffix but aren't allowed, in a part of a line.
+// Locates the bytes that follow a timestamp and its suffix, in a part of a line, where the end was expected; or the
+// error by RFC 3339 if the part starts with no timestamp of RFC 3339.
 fn find_tail<'f>(part: Part<'_>, error: Parse) -> ErrorLocation<'f>
     ensures { spec.IsTailLocation (erased_part part.entry) (refusal_of error) (spec.erased_location result) }
 {
@@ -108,7 +114,8 @@ fn find_tail<'f>(part: Part<'_>, error: Parse) -> ErrorLocation<'f>
     }
 }
 
-// Locates the error in a part of a line that may have a suffix.
+// Locates the error in a part of a line that RFC 9557 rejects: the bytes after the suffix if the error is that bytes
+// follow, otherwise the error by RFC 3339.
 fn find_zoned<'f>(part: Part<'_>, error: Parse) -> ErrorLocation<'f>
     ensures { spec.IsZonedLocation (erased_part part.entry) (refusal_of error) (spec.erased_location result) }
 {
@@ -123,7 +130,7 @@ fn find_zoned<'f>(part: Part<'_>, error: Parse) -> ErrorLocation<'f>
     find_by(&Rfc3339Strict, part, error)
 }
 
-// Locates the error in a part of a line that the format rejects, whichever it is.
+// Locates the error in a part of a line that this format rejects.
 fn find_in_part<'a>(reading: &'a Reading, part: Part<'_>, error: Parse) -> ErrorLocation<'a>
     ensures { spec.IsPartLocation reading.now (erased_part part.entry) (refusal_of error) (spec.erased_location result) }
 {
@@ -138,7 +145,8 @@ fn find_in_part<'a>(reading: &'a Reading, part: Part<'_>, error: Parse) -> Error
     }
 }
 
-// The start of the suffix that rejects the moment; `otherwise` if no timestamp precedes a suffix.
+// The start of the suffix that rejects the moment, right after the timestamp of RFC 3339 at the start of the part;
+// `otherwise` if the part starts with no such timestamp.
 fn find_suffix<'a>(part: Part<'_>, otherwise: ErrorLocation<'a>) -> ErrorLocation<'a>
     ensures { spec.IsSuffixLocation (erased_part part.entry) (spec.erased_location otherwise.entry) (spec.erased_location result) }
 {
@@ -152,10 +160,10 @@ fn find_suffix<'a>(part: Part<'_>, otherwise: ErrorLocation<'a>) -> ErrorLocatio
 }
 
 impl<'a> Job<'a> {
-    /// Locates the error in the timestamp of a line that was rejected at `column` for `reason`. If no format matches,
-    /// the location is the byte at which the first format fails, or the start of the component whose value it rejects.
-    /// If a suffix rejects the moment, the location is the start of the suffix. For any other reason it is `column`,
-    /// where the timestamp starts.
+    /// Locates the error in the timestamp of a line that was rejected at `column` for `reason`. For [`Reason::Unread`],
+    /// the location is the byte at which the first format fails to match, or the start of the component whose value it
+    /// rejects, or if there is none, the start of the timestamp's part. For [`Reason::Suffix`], it is the start of the
+    /// suffix. For any other reason, or if the job has no place or the line no part there, it is `column`.
     ///
     /// Defaults have no effect: they only supply what a timestamp omits.
     #[inline(never)]
@@ -177,7 +185,7 @@ impl<'a> Job<'a> {
     }
 }
 
-/// The error in a rejected line has one location, and one report of what was expected there, which may be `None`.
+/// The error in a rejected line has at most one location, which includes what was expected there or `None`.
 #[tactic(auto, using(crate::proofs::OneErrorLocation::one_error_location))]
 pub fn law_one_error_location()
     ensures { spec.OneErrorLocation }

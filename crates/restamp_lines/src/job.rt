@@ -1,4 +1,4 @@
-//! The verdict on a line.
+//! The verdict on a line: its action, and the new time if it is rewritten.
 //!
 //! `fast` parses a timestamp without the reason of an error.
 ghost use Rattle.std.specs.Prelude.{◌≡◌, ◌≤◌, ◌<◌, ◌+◌, ◌^◌, ℕ, length, IfSome, Some};
@@ -18,18 +18,18 @@ use std::cmp::Ordering;
 use time_values::OffsetDateTime;
 use time_values::text::Text;
 
-/// How many bytes a timestamp may have if no place is given.
+/// The most bytes that a timestamp may have if the job has no place.
 pub const REACH: usize = 256;
 
-/// How many bytes of a line may come before the end of its timestamp.
+/// The most bytes from a line's start to the end of its timestamp. If the timestamp ends later, the line is rejected.
 pub const LIMIT: usize = 262_144;
 
 /// What is done with each line.
 #[derive(Clone, Copy)]
 pub struct Job<'a> {
-    /// The place of its timestamp; `None` means the first byte from which on a format matches.
+    /// The place of the timestamp in the line; `None` means the first byte from which on a format matches.
     pub place: Option<Place<'a>>,
-    /// The format that is tried first.
+    /// The format that is tried first. If no format matches at `place`, its error is the reason.
     pub first: &'a Reading,
     /// The formats that are tried next, in turn.
     pub others: &'a [Reading],
@@ -37,24 +37,25 @@ pub struct Job<'a> {
     pub defaults: Defaults<'a>,
     /// How the moment is written.
     pub form: Form<'a>,
-    /// Drops lines with an earlier moment.
+    /// Drops lines with an earlier moment; `None` drops none.
     pub since: Option<OffsetDateTime>,
-    /// Drops lines with this moment or a later one.
+    /// Drops lines with this moment or a later one; `None` drops none.
     pub until: Option<OffsetDateTime>,
-    /// Rejects lines without a timestamp.
+    /// Whether lines without a timestamp are rejected; otherwise they are [`LineAction::Without`].
     pub requires_timestamp: bool,
 }
 
 /// Why a line is rejected, and where.
 #[derive(Clone, Copy, Debug)]
 pub struct Refusal<E> {
-    /// Where the timestamp starts, from 1.
+    /// The number of a byte in the line, from 1: the timestamp's first byte, or if it doesn't parse, the first byte of
+    /// its part of the line; 1 for a line without a timestamp.
     pub column: usize,
-    /// What is kept of the reason.
+    /// The reason; or what the caller keeps of it, such as a [`Brief`](restamp_formats::Brief).
     pub reason: E,
 }
 
-// Whether the moment is before the bound; `otherwise` if there is none.
+// Whether the moment is before the bound; `otherwise` if there is no bound.
 #[inline(always)]
 fn is_before(moment: OffsetDateTime, bound: Option<OffsetDateTime>, otherwise: bool) -> bool
     ensures { result ≡ spec.is_before moment bound otherwise }
@@ -66,7 +67,7 @@ fn is_before(moment: OffsetDateTime, bound: Option<OffsetDateTime>, otherwise: b
 }
 
 impl Job<'_> {
-    // Whether the moment lies within the bounds.
+    // Whether the moment isn't before `since`, and is before `until`. A bound that is `None` excludes no moment.
     #[inline(always)]
     pub(crate) fn keeps(&self, moment: OffsetDateTime) -> bool
         ensures { result ≡ spec.is_kept self.now moment }
@@ -74,7 +75,9 @@ impl Job<'_> {
         !is_before(moment, self.since, false) && is_before(moment, self.until, true)
     }
 
-    // Writes the moment of a match over its bytes, in the part of a line that starts at `start`.
+    // The verdict on a line with a match in the part that starts at `start`: rejected if the match ends after the first
+    // `LIMIT` bytes, dropped if its moment is outside the bounds, otherwise rewritten, with the new time in `text`, or
+    // rejected if the moment has no text in the job's form.
     #[inline(always)]
     pub(crate) fn put<E: FromReason>(
         &self,
@@ -106,7 +109,7 @@ impl Job<'_> {
         }
     }
 
-    // The verdict on a line without a timestamp.
+    // The verdict on a line without a timestamp: `Without`, or rejected at column 1 if a timestamp is required.
     #[inline(always)]
     pub(crate) fn miss<E: FromReason>(&self) -> LineAction<Refusal<E>>
         ensures verdict { (text : Items) → spec.SatisfiesWithText E.is_of (λ verdict. verdict ≡ spec.missed self.now) result text }
@@ -121,8 +124,9 @@ impl Job<'_> {
         })
     }
 
-    // The verdict on a line whose timestamp lies in that part, by the first of the formats that matches.
-    // Not inlined, so that it needs no stack beside lines that the fast path matches.
+    // The verdict on a line whose timestamp lies in that part, by the first of the formats that matches. If none does,
+    // the line is rejected at the part's start for the first format's reason. A new time is stored in `text`.
+    // Not inlined, so that lines that the fast path matches need no stack for it.
     #[inline(never)]
     fn judge_in_turn<E: FromReason>(
         &self,
@@ -142,7 +146,7 @@ impl Job<'_> {
         }
     }
 
-    // The verdict on a line whose timestamp lies in that part.
+    // The verdict of `judge_in_turn`. The fast path tries the first format without the reason of an error.
     #[inline(always)]
     fn judge_part<E: FromReason>(&self, part: Part<'_>, text: &mut Text) -> LineAction<Refusal<E>>
         ensures verdict { spec.SatisfiesWithText E.is_of (spec.IsJudgedIn self.now (Some (spec.erased_part part.entry))) result text.new }
@@ -154,7 +158,7 @@ impl Job<'_> {
         }
     }
 
-    // The part of the line in which its timestamp lies; `None` if it may be anywhere, or the line has no such part.
+    // The part of the line in which its timestamp lies; `None` if the job has no place, or the line has no part there.
     #[inline(always)]
     pub(crate) fn find_part<'l>(&self, line: &'l [u8]) -> Option<Part<'l>>
         ensures part { option_map spec.erased_part result ≡ spec.part_of self.now.place line.now }
@@ -169,17 +173,20 @@ impl Job<'_> {
         })
     }
 
-    /// The verdict on a line, which has no LF. It keeps a line whose timestamp is rejected, or ends after the first
-    /// [`LIMIT`] bytes. The caller may pass [`REACH`] bytes more of a longer line, so that the parser sees what follows
-    /// the timestamp.
+    /// The verdict on a line without its LF. The line is rejected if no format matches its timestamp, if that ends
+    /// after the first [`LIMIT`] bytes, if its moment lies within the bounds but has no text in the job's form, or if
+    /// there is no timestamp and one is required. It is dropped if the moment lies outside the bounds. Of a longer line
+    /// the caller may pass only the first `LIMIT` + [`REACH`] bytes, so that the parser sees what follows the
+    /// timestamp.
     ///
     /// Without a place, the timestamp starts at the first byte from which on a format matches, and has at most
     /// [`REACH`] bytes. It is made of whole words and numbers: if its first byte is an ASCII letter or digit, the byte
     /// before it is none, and if its last byte is one, the byte after it is none. A line without such a text has no
-    /// timestamp. White space around a mail date stays unless the place ends the timestamp.
+    /// timestamp. With a place, it has none if the line has no part at the place. White space around a mail date stays
+    /// if the format decides where the timestamp ends, and is replaced if the place does.
     ///
-    /// If the line is rewritten, `text` is its new text, whatever it was before. The type `E` decides how much of the
-    /// reason of a rejection the caller gets: [`Reason`] is all of it.
+    /// If the line is rewritten, `text` is overwritten with the new time. The type `E` decides how much of the reason
+    /// is returned for a rejected line: [`Reason`] is all of it.
     #[inline(always)]
     pub fn judge<E: FromReason>(&self, line: &[u8], text: &mut Text) -> LineAction<Refusal<E>>
         ensures verdict { spec.SatisfiesWithText E.is_of (spec.IsJudged self.now line.now) result text.new }

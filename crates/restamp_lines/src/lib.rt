@@ -1,4 +1,5 @@
-//! What happens to a line: its timestamp is parsed by one format and written by another, or it is rejected for a reason.
+//! The verdict on a line: its timestamp is parsed by one format and written by another; or the line is unchanged,
+//! dropped, or rejected for a reason.
 #![tactic(auto)]
 
 mod anywhere;

@@ -10,14 +10,14 @@ use time_parsing::{Iso8601, Parsable};
 use time_record::Parsed;
 use time_values::error::{Parse, TryFromParsed};
 
-// Whether the record has a whole year.
+// Whether the record has a year, or its century and its last two digits.
 fn has_whole_year(parsed: &Parsed) -> bool
     ensures { result ≡ spec.has_whole_year parsed.now }
 {
     parsed.year().is_some() || (parsed.year_century().is_some() && parsed.year_last_two().is_some())
 }
 
-// Whether the record has a whole ISO 8601 week year.
+// Whether the record has an ISO 8601 week year, or its century and its last two digits.
 fn has_whole_iso_year(parsed: &Parsed) -> bool
     ensures { result ≡ spec.has_whole_iso_year parsed.now }
 {
@@ -25,7 +25,8 @@ fn has_whole_iso_year(parsed: &Parsed) -> bool
         || (parsed.iso_year_century().is_some() && parsed.iso_year_last_two().is_some())
 }
 
-// Whether the record has a day of a year.
+// Whether the record has a day of a year: its number in the year, a month and a day, or a weekday and the number of a
+// week that starts on Sunday or Monday.
 fn has_day(parsed: &Parsed) -> bool
     ensures { result ≡ spec.has_day parsed.now }
 {
@@ -35,14 +36,14 @@ fn has_day(parsed: &Parsed) -> bool
             && (parsed.sunday_week_number().is_some() || parsed.monday_week_number().is_some()))
 }
 
-// Whether the record has a day of an ISO 8601 week year.
+// Whether the record has a day of an ISO 8601 week year: a week number and a weekday.
 fn has_iso_day(parsed: &Parsed) -> bool
     ensures { result ≡ spec.has_iso_day parsed.now }
 {
     parsed.iso_week_number().is_some() && parsed.weekday().is_some()
 }
 
-// Whether the record has a day with its year.
+// Whether the record has a day with its whole year, both of the calendar year or both of the ISO 8601 week year.
 fn has_full_date(parsed: &Parsed) -> bool
     ensures { result ≡ spec.has_full_date parsed.now }
 {
@@ -50,14 +51,15 @@ fn has_full_date(parsed: &Parsed) -> bool
         || (has_whole_iso_year(parsed) && has_iso_day(parsed))
 }
 
-// Whether the record has an hour of the day.
+// Whether the record has an hour of the day: from 0 to 23, or from 1 to 12 with AM or PM.
 fn has_hour(parsed: &Parsed) -> bool
     ensures { result ≡ spec.has_hour parsed.now }
 {
     parsed.hour_24().is_some() || (parsed.hour_12().is_some() && parsed.hour_12_is_pm().is_some())
 }
 
-// The missing part of a record without a date.
+// The missing part of a record without a date: `Day` if it has no day, otherwise `WholeYear` if it has a part of a
+// year, else `Year`.
 fn missing_date_field(parsed: &Parsed) -> MissingField
     ensures { result ≡ spec.missing_date_field parsed.now }
 {
@@ -70,7 +72,8 @@ fn missing_date_field(parsed: &Parsed) -> MissingField
     }
 }
 
-// The missing part of a record with a date.
+// The missing part of a record with a date: the first of the hour (AM or PM if it has an hour from 1 to 12), the minute
+// and the second that it doesn't have, or if it has them, the offset.
 fn missing_time_field(parsed: &Parsed) -> MissingField
     ensures { result ≡ spec.missing_time_field parsed.now }
 {
@@ -90,7 +93,8 @@ fn missing_time_field(parsed: &Parsed) -> MissingField
     }
 }
 
-// The missing part of a record that has too little information for a moment.
+// The missing part of a record that has too little information for a moment: a part of its date, or if it has a date,
+// of its time or offset.
 fn missing_field_in(parsed: &Parsed) -> MissingField
     ensures { result ≡ spec.missing_field_in parsed.now }
 {
@@ -101,7 +105,7 @@ fn missing_field_in(parsed: &Parsed) -> MissingField
     }
 }
 
-// The missing part of a text that the format matches.
+// The missing part of a text, with the default year and offset; `None` if the format matches no prefix of it.
 fn missing_field_by<F: Parsable>(
     format: &F,
     defaults: &Defaults<'_>,
@@ -119,7 +123,7 @@ fn missing_field_by<F: Parsable>(
     }
 }
 
-// Whether a timestamp is rejected because information is missing.
+// Whether the reason is that the timestamp omits a part of a moment.
 fn is_insufficient(reason: Reason) -> bool
     ensures { result ≡ spec.is_insufficient (seen reason) }
 {
@@ -129,7 +133,7 @@ fn is_insufficient(reason: Reason) -> bool
     )
 }
 
-// The defaults with the year of `latest`, if that is set: a timestamp without a year means no later moment.
+// The defaults with the year of `latest` in place of `year` and `latest`; unchanged if `latest` is `None`.
 fn dated<'a>(defaults: &Defaults<'a>) -> Defaults<'a>
     ensures { result ≡ spec.dated defaults.now }
 {
@@ -144,8 +148,8 @@ fn dated<'a>(defaults: &Defaults<'a>) -> Defaults<'a>
     }
 }
 
-// The missing part of a text that the format matches. A text of RFC 3339 or RFC 2822 has all of a moment, and a
-// complete description gets no defaults.
+// The missing part of a text, with the default year and offset; `None` if the format doesn't match a prefix of the
+// text. Always `None` for RFC 3339, RFC 9557, RFC 2822 and a complete description, whose texts have all of a moment.
 fn missing_field_in_text(
     reading: &Reading,
     defaults: &Defaults<'_>,
@@ -163,9 +167,11 @@ fn missing_field_in_text(
 }
 
 impl Job<'_> {
-    /// The missing part of a line's timestamp that was rejected for `reason`; `None` if no information is missing. It
-    /// is the first of a day, its year, an hour, its half of the day, a minute, a second and an offset that neither the
-    /// defaults nor the record of the first format have.
+    /// The missing part of a line's timestamp that was rejected for `reason`: the first of a day, its year, an hour, AM
+    /// or PM of an hour from 1 to 12, a minute, a second and an offset that neither the text by the first format has,
+    /// nor the defaults, whose `latest` has its year. `None` if `reason` is any other than insufficient information, if
+    /// the job has no place or the line no part there, if the first format matches no prefix of that part, or if all
+    /// texts of that format have all of a moment.
     #[inline(never)]
     pub fn find_missing_field(&self, line: &[u8], reason: Reason) -> Option<MissingField>
         ensures { spec.IsMissingField self.now line.now (seen reason) result }
@@ -178,14 +184,14 @@ impl Job<'_> {
     }
 }
 
-/// Why a timestamp isn't rewritten: the reason, or the missing part in its place.
+/// Why a timestamp isn't rewritten. Displays the missing part if there is one, otherwise the reason.
 #[derive(Clone, Copy)]
 pub struct Why<'a> {
     /// The reason.
     pub reason: Reason,
-    /// The missing part, if that is the reason.
+    /// The missing part, which is displayed instead of the reason; `None` if no part is missing.
     pub missing_field: Option<MissingField>,
-    /// The name of the time zone that the reason may be about.
+    /// The name of the time zone, for the reasons [`Reason::Nonexistent`] and [`Reason::Ambiguous`].
     pub zone: &'a str,
 }
 

@@ -4,11 +4,11 @@ ghost use Rattle.std.specs.Prelude.{◌<◌, ◌+◌, ◌^◌, length};
 // The part of a line that is its timestamp, or that starts with it.
 #[derive(Clone, Copy)]
 pub(crate) struct Part<'a> {
-    // How many bytes of the line come before it.
+    // How many bytes of the line come before the part.
     pub(crate) start: usize,
-    // Whether the format decides where the timestamp ends.
+    // Whether the format decides where the timestamp ends; otherwise it is the whole part.
     pub(crate) is_prefix: bool,
-    // Its bytes.
+    // The bytes of the part.
     pub(crate) text: &'a [u8],
     ghost fits: { start + length text.now + 1 < 2 ^ 64 },
 }

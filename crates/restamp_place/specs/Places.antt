@@ -8,7 +8,7 @@ use Rattle.restamp_place.specs.Fields.{Span, span, nth_field}
 
 -- ---- The place of a text in bytes
 
--- how many bytes come before the first occurrence of the text
+-- how many bytes come before the first occurrence of the text; 0 for an empty text; `None` if it doesn't occur
 abbrev pub place_of : List ℕ → List ℕ → Option ℕ
 place_of text [] = if occurs_at [] text 0 then Some 0 else None
 place_of text (x ∷ bytes) =
@@ -22,19 +22,19 @@ body_length line = if slice_index line (length line - 1) == 13 then length line 
 abbrev pub body_of : List ℕ → List ℕ
 body_of line = take (body_length line) line
 
--- the part from after the first `begin` up to the next `close`
+-- the part of a line after the first `begin`, up to the next `close`; `None` if either doesn't occur
 abbrev pub between_of : List ℕ → List ℕ → List ℕ → Option Span
 between_of begin close line =
     option_and_then
     (λ n. let start = n + length begin in option_map (λ k. span start (start + k)) (place_of close (drop start line)))
     (place_of begin line)
 
--- the part from after the first `key` to the end
+-- the part of a line after the first `key`, to the end; `None` if `key` doesn't occur
 abbrev pub after_of : List ℕ → List ℕ → Option Span
 after_of key line = option_map (λ n. span (n + length key) (length line)) (place_of key line)
 
--- the part of a line that is its timestamp, or starts with it; without a CR at the line's end, except between two
--- texts
+-- the part of a line that is its timestamp, or starts with it; a CR at the line's end is searched only by `Between`;
+-- `None` if there is no such field (fields count from 1, and `nth_field` may reject quotes), or a text doesn't occur
 abbrev pub span_of : Place → List ℕ → Option Span
 span_of Whole line = Some (span 0 (body_length line))
 span_of Front line = Some (span 0 (body_length line))
@@ -42,7 +42,7 @@ span_of (Field kind n) line = if n == 0 then None else nth_field kind (n - 1) (b
 span_of (Between begin close) line = between_of begin.now close.now line
 span_of (After key) line = after_of key.now (body_of line)
 
--- whether the format decides where the timestamp ends, so that its part goes on to the end of the line, or to a
+-- whether the format decides where the timestamp ends, so that its part extends to the end of the line, or to a
 -- CR there
 abbrev pub is_prefix : Place → Bool
 is_prefix Front = true

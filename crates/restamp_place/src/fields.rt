@@ -10,31 +10,34 @@ use crate::texts::{blanks_length, closing_quote, length_before, word_length};
 /// How a line is split into fields.
 #[derive(Clone, Copy, Debug, PartialEq, Eq)]
 pub enum Fields {
-    /// Each field ends before that byte, or at the end of the line.
+    /// Fields are separated by that byte. A field may be empty, and an empty line is one empty field.
     Delimited(u8),
     /// Each field is a run of bytes other than space and TAB, as in `awk`.
     Blank,
-    /// Each field ends before that byte, but one in quotes ends with its quote, and has two quotes for one (RFC 4180,
-    /// section 2).
+    /// Fields are separated by that byte. A field that starts with `"` ends with the next `"` that isn't doubled; its
+    /// content is the bytes between the two, in which `""` stays doubled (RFC 4180, section 2).
     Quoted(u8),
 }
 
-/// A part of a line: its bytes from `start` up to `stop`.
+/// A part of a line: its bytes from index `start`, counted from 0, to before index `stop`.
 #[derive(Clone, Copy, Debug, PartialEq, Eq)]
 pub struct Span {
-    /// How many bytes come before the part.
+    /// How many bytes of the line come before the part.
     pub start: usize,
-    /// How many bytes come before its end.
+    /// How many bytes of the line come before the end of the part.
     pub stop: usize,
 }
 
 /// A field: its content, and where it ends, after a closing quote.
 #[derive(Clone, Copy)]
 pub(crate) struct Field {
+    /// The content, without quotes around it.
     pub(crate) said: Span,
+    /// How many bytes come before the field's end, which is after a closing quote.
     pub(crate) edge: usize,
 }
 
+// The first field of a line: the bytes before the first `delimiter`, or all bytes if there is none.
 fn first_delimited(delimiter: u8, line: &[u8]) -> Field
     ensures value { result ≡ fields.first_delimited delimiter line.now }
     ensures within { fields.IsWithin (length line.now) result }
@@ -46,6 +49,7 @@ fn first_delimited(delimiter: u8, line: &[u8]) -> Field
     }
 }
 
+// The first run of bytes other than space and TAB; `None` if the line has no such byte.
 fn first_word(line: &[u8]) -> Option<Field>
     ensures value { result ≡ fields.first_word line.now }
     ensures within { IfSome result (fields.IsWithin (length line.now)) }
@@ -61,6 +65,7 @@ fn first_word(line: &[u8]) -> Option<Field>
     })
 }
 
+// The first field, in quotes or not. `None` if a closing quote is missing, or not followed by `delimiter` or the end.
 fn first_quoted(delimiter: u8, line: &[u8]) -> Option<Field>
     ensures value { result ≡ fields.first_quoted delimiter line.now }
     ensures within { IfSome result (fields.IsWithin (length line.now)) }
@@ -82,6 +87,7 @@ fn first_quoted(delimiter: u8, line: &[u8]) -> Option<Field>
     })
 }
 
+// The first field of a line by that kind. `None` if `Blank` finds no word, or `first_quoted` rejects the quotes.
 fn first_field(kind: Fields, line: &[u8]) -> Option<Field>
     ensures value { result ≡ fields.first_field kind line.now }
     ensures within { IfSome result (fields.IsWithin (length line.now)) }
@@ -94,7 +100,7 @@ fn first_field(kind: Fields, line: &[u8]) -> Option<Field>
 }
 
 impl Fields {
-    // How many bytes come between the end of a field and the bytes in which the next one is searched.
+    // The number of bytes between two fields: 1, the delimiter; 0 for `Blank`, where the next search skips any blanks.
     fn gap(self) -> usize
         ensures value { result ≡ fields.gap self }
         ensures least { result ≤ 1 }
@@ -106,7 +112,8 @@ impl Fields {
     }
 }
 
-// How many bytes of the line are skipped to find the field after n others, and how many fields still have to be skipped.
+// Skips bytes that come before the field with index n, from 0. Returns how many bytes are skipped, and how many fields
+// still have to be skipped after them.
 #[inline(always)]
 fn passed(kind: Fields, n: usize, line: &[u8]) -> (usize, usize)
     ensures value { fields.nth_field kind n line.now
@@ -121,7 +128,8 @@ fn passed(kind: Fields, n: usize, line: &[u8]) -> (usize, usize)
     (0, n)
 }
 
-/// The content of the field after n others.
+/// The content of the field with index n, from 0. `None` if the line has too few fields, or if a field up to it starts
+/// with a quote whose closing quote is missing or isn't followed by the delimiter or the end.
 pub(crate) fn nth_field(kind: Fields, n: usize, line: &[u8]) -> Option<Span>
     ensures value { result ≡ fields.nth_field kind n line.now }
     ensures within { IfSome result (fields.IsPart (length line.now)) }

@@ -6,25 +6,24 @@ ghost use Rattle.restamp_place.specs.Fields.{IsPart};
 use crate::fields::{Fields, Span, nth_field};
 use crate::texts::find_text;
 
-/// The place of the timestamp in a line, which has no LF. A CR at the line's end isn't part of the timestamp, except
-/// between two texts.
+/// Where the timestamp is in a line without its LF. A CR at the line's end is ignored, but `Between` may match it.
 #[derive(Clone, Copy, Debug)]
 pub enum Place<'a> {
-    /// The whole line.
+    /// The whole line, without a CR at its end.
     Whole,
     /// The start of the line. The format decides where the timestamp ends.
     Front,
-    /// The field of that number, from 1.
+    /// The content of the field with that number, counted from 1. There is no field 0.
     Field(Fields, usize),
-    /// From after the first occurrence of the first text up to the next one of the second.
+    /// The bytes after the first occurrence of the first text, up to the next occurrence of the second text.
     Between(&'a [u8], &'a [u8]),
-    /// From after the first occurrence of the text. The format decides where the timestamp ends.
+    /// The bytes after the first occurrence of the text. The format decides where the timestamp ends.
     After(&'a [u8]),
 }
 
 impl Place<'_> {
-    /// Whether the format decides where the timestamp ends. Then [`find_span`] returns all that follows its start, up to a
-    /// CR at the end of the line.
+    /// Whether the format decides where the timestamp ends. Then [`find_span`] returns all bytes from its start to the
+    /// end of the line, without a CR there.
     pub fn is_prefix(self) -> bool
         ensures { result ≡ is_prefix self.entry }
     {
@@ -54,7 +53,7 @@ pub fn body_of(line: &[u8]) -> &[u8]
     &line[..body_length(line)]
 }
 
-// The part from after the first `begin` up to the next `close`.
+// The part from after the first `begin` up to the next `close`; `None` if either doesn't occur.
 fn find_between(begin: &[u8], close: &[u8], line: &[u8]) -> Option<Span>
     ensures value { result ≡ span_of (Place.Between begin.entry close.entry) line.now }
     ensures within { IfSome result (IsPart (length line.now)) }
@@ -67,7 +66,7 @@ fn find_between(begin: &[u8], close: &[u8], line: &[u8]) -> Option<Span>
     })
 }
 
-// The part from after the first `key` to the end.
+// The part from after the first `key` to the end; `None` if it doesn't occur.
 fn find_after(key: &[u8], line: &[u8]) -> Option<Span>
     ensures value { result ≡ after_of key.now line.now }
     ensures within { IfSome result (IsPart (length line.now)) }
@@ -79,8 +78,10 @@ fn find_after(key: &[u8], line: &[u8]) -> Option<Span>
     })
 }
 
-/// The part of the line that is its timestamp, or that starts with it if [`Place::is_prefix`]. `None` if the line has no
-/// such part: too few fields, no such text, or a quote without an end. No field has the number 0.
+/// The part of the line that is its timestamp, or that starts with it if [`Place::is_prefix`].
+///
+/// `None` for field 0, too few fields, or a text that doesn't occur; for `Quoted` also if a field up to the requested
+/// one starts with a quote whose closing quote is missing, or isn't followed by the delimiter or the end.
 #[inline(always)]
 pub fn find_span(place: Place<'_>, line: &[u8]) -> Option<Span>
     ensures value { result ≡ span_of place.entry line.now }

@@ -12,7 +12,7 @@ use std::simd::prelude::*;
 // How many bytes are compared at once.
 const BLOCK: usize = 16;
 
-// A text up to this length is compared whole wherever three of its bytes match.
+// The greatest length in bytes of a text searched without `memmem`, whose preparation costs some 300 instructions.
 const SHORT: usize = 32;
 
 /// How many bytes come before the first occurrence of `byte`, or before the end.
@@ -25,7 +25,7 @@ pub(crate) fn length_before(byte: u8, bytes: &[u8]) -> usize
     memchr(byte, bytes).unwrap_or(bytes.len())
 }
 
-// How many of sixteen bytes come before the first occurrence of `byte`; 16 if it doesn't occur.
+// How many of the sixteen bytes from `at` come before the first occurrence of `byte`; 16 if it doesn't occur in them.
 #[inline(always)]
 fn place_in_block(byte: u8, bytes: &[u8], at: usize) -> usize
     requires { at + 16 ≤ length bytes.now }
@@ -41,7 +41,7 @@ fn place_in_block(byte: u8, bytes: &[u8], at: usize) -> usize
     }
 }
 
-// How many of sixteen bytes come before the first space or TAB; 16 if there is neither.
+// How many of the sixteen bytes from `at` come before the first space or TAB; 16 if they have neither.
 #[inline(always)]
 fn word_in_block(bytes: &[u8], at: usize) -> usize
     requires { at + 16 ≤ length bytes.now }
@@ -111,7 +111,8 @@ pub(crate) fn blanks_length(bytes: &[u8]) -> usize
     bytes.len()
 }
 
-/// The place of the quote that closes the one just before these bytes.
+/// The index of the quote that closes a field in quotes whose content starts with these bytes: the first `"` that isn't
+/// one of a pair `""`. `None` if there is none.
 #[tactic(auto, using(crate::proofs::WordLemmas::quote_steps))]
 pub(crate) fn closing_quote(bytes: &[u8]) -> Option<usize>
     ensures value { result ≡ fields.closing_quote bytes.now }
@@ -130,7 +131,7 @@ pub(crate) fn closing_quote(bytes: &[u8]) -> Option<usize>
     None
 }
 
-// Whether the bytes start with the text, as the lines of a mailbox start with a key.
+// Whether the bytes start with the text.
 #[inline(always)]
 fn begins_with(text: &[u8], bytes: &[u8]) -> bool
     ensures { result ≡ occurs_at bytes.now text.now 0 }
@@ -138,8 +139,8 @@ fn begins_with(text: &[u8], bytes: &[u8]) -> bool
     text.len() <= bytes.len() && &bytes[..text.len()] == text
 }
 
-// How many of sixteen places come before the first at which the text may occur, judged by its first byte, one in its
-// middle and its last; 16 if there is no such place.
+// How many of the sixteen indexes from `at` come before the first at which the text may occur, judged by its first,
+// middle and last byte; 16 if it occurs at none of them.
 #[inline(always)]
 fn first_in_block(text: &[u8], bytes: &[u8], at: usize) -> usize
     requires some { 0 < length text.now }
@@ -160,7 +161,7 @@ fn first_in_block(text: &[u8], bytes: &[u8], at: usize) -> usize
     }
 }
 
-// The first place from `from` to before `to` at which the text occurs.
+// The first index from `from` to before `to` at which the text occurs; `None` if it occurs at none of them.
 #[inline(always)]
 fn find_within(text: &[u8], bytes: &[u8], from: usize, to: usize) -> Option<usize>
     requires some { 0 < length text.now }
@@ -175,7 +176,8 @@ fn find_within(text: &[u8], bytes: &[u8], from: usize, to: usize) -> Option<usiz
     None
 }
 
-// The first place from `from` to before `end` at which the text occurs. These are the last places, at most sixteen.
+// The first index from `from` to before `end` at which the text occurs. These are the last indexes at which the text
+// fits, at most sixteen. `None` if it occurs at none of them.
 #[inline(always)]
 fn find_last(text: &[u8], bytes: &[u8], from: usize, end: usize) -> Option<usize>
     requires some { 0 < length text.now }
@@ -191,7 +193,7 @@ fn find_last(text: &[u8], bytes: &[u8], from: usize, end: usize) -> Option<usize
     find_within(text, bytes, from.max(place), end)
 }
 
-// The first place of the text in the bytes, searched sixteen places at a time.
+// The index of the first occurrence of the text in the bytes, searched at sixteen indexes at a time; `None` if none.
 fn find_short(text: &[u8], bytes: &[u8]) -> Option<usize>
     requires some { 0 < length text.now }
     requires within { length text.now ≤ length bytes.now }
@@ -212,8 +214,7 @@ fn find_short(text: &[u8], bytes: &[u8]) -> Option<usize>
     find_last(text, bytes, at, end)
 }
 
-/// The first place of the text in the bytes. The search for a long text prepares it first, at a cost of some three
-/// hundred instructions.
+/// The index of the first occurrence of the text in the bytes, or `None` if it doesn't occur. An empty text is at 0.
 #[inline]
 #[tactic(auto, using(crate::proofs::TextLemmas::text_places))]
 pub(crate) fn find_text(text: &[u8], bytes: &[u8]) -> Option<usize>

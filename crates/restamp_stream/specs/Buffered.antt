@@ -10,7 +10,7 @@ use Rattle.restamp_stream.specs.Reports.{TailAction, Absent, Action, passed}
 use Rattle.restamp_stream.specs.Streams.{Job, job_of, State, state, Answered, Stopped}
 use Rattle.restamp_stream.specs.Causes.{Stop, Unread, Unwritten, Refused, Stream}
 
--- the job of those relations for a file
+-- the `Job` of a file, where `is_action` and `is_reason` relate a line's front to its action, and to why it is rejected
 abbrev pub job_at : {T : Type 0} → (T → List ℕ → Action → Type 0) → (T → List ℕ → ℕ → List ℕ → Type 0) → File T → Job
 job_at is_action is_reason file =
     job_of (is_action file.rewriting.now) (is_reason file.rewriting.now) file.name.now file.settings
@@ -57,11 +57,11 @@ FailedBy Unread fact = fact
 FailedBy Unwritten fact = Unit {0}
 FailedBy Refused fact = ⊥
 
--- The bytes continue a line whose front was processed, and the line doesn't end in them.
+-- The bytes have no LF, and continue a line whose front was processed. They were written, or dropped for `Dropping`.
 abbrev pub ContinuesLine : Option (List ℕ) → Option (List ℕ) → TailAction → List ℕ → Type 0
 ContinuesLine out out' rest bytes = HasNoLf bytes × Appends out out' (passed rest bytes)
 
--- A line whose front was processed, if there is one, ends in the bytes, and the bytes `after` follow it.
+-- `after` follows the first LF; the bytes through it were written (`Dropping`: dropped). For `Absent` it is all bytes.
 abbrev pub EndsLine : Option (List ℕ) → Option (List ℕ) → TailAction → List ℕ → List ℕ → Type 0
 EndsLine out out' Absent bytes after = (after ≡ bytes) × Keeps out out'
 EndsLine out out' rest bytes after =

@@ -10,17 +10,19 @@ use Rattle.restamp_stream.specs.Reports.{Tally}
 abbrev pub faults_of : {W L : Type 0} → (W → ℕ) → (L → ℕ) → Stream W L → ℕ
 faults_of faults log_faults s = faults s.out.sink + log_faults s.log
 
--- That count rose if a failed write stopped the work, and is unchanged if the work stopped otherwise.
+-- The count of failed calls (`faults_of`) rose from `before` to `now` if a failed write stopped the work; it is
+-- unchanged if the work stopped otherwise.
 abbrev pub IsCounted : Stop → ℕ → ℕ → Type 0
 IsCounted Unwritten before now = Rises before now
 IsCounted _ before now = now ≡ before
 
--- That count rose if a failed write stopped the work, and otherwise is unchanged.
+-- The count of failed calls (`faults_of`) rose from `before` to `now` if a failed write stopped the work; it is
+-- unchanged if the work didn't stop, or stopped otherwise.
 abbrev pub HasWriteCause : {V : Type 0} → Result V Stop → ℕ → ℕ → Type 0
 HasWriteCause result before now = MatchResult result (λ _. now ≡ before) (λ stop. IsCounted stop before now)
 
 -- ---- What the exit status reports
 
--- The work stopped, a file wasn't read to its end, or a line was rejected and `strict` is set.
+-- The work stopped, a file wasn't opened or read to its end, or a line was rejected and `strict` is set.
 abbrev pub HasFailed : Tally → Option Stop → Bool → Type 0
 HasFailed tally stop strict = IsSome stop ⊎ ((0 < tally.unread) ⊎ (IsTrue strict × (0 < tally.refused)))

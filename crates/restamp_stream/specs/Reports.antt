@@ -16,15 +16,15 @@ pub use Rattle.restamp_stream.specs.declared.settings.Reports.TheVariants.{Quiet
 
 -- ---- How a name is displayed
 
--- the character of a digit below 16
+-- the ASCII code of a hexadecimal digit: of `0` to `9`, or `a` to `f`
 abbrev pub hexadecimal : ℕ → ℕ
 hexadecimal d = if nat_lt d 10 then 48 + d else 87 + d
 
--- `\x` and two digits
+-- `\x` and the two hexadecimal digits of a byte, with small letters
 abbrev pub escape : ℕ → List ℕ
 escape b = 92 ∷ 120 ∷ hexadecimal (b / 16) ∷ hexadecimal (b % 16) ∷ []
 
--- a byte is escaped: a control byte, and if only ASCII may be displayed, one from 128 on
+-- a byte is escaped: an ASCII control character (0 to 31, or 127), or if `ascii` is set, a byte from 128 on
 abbrev pub is_escaped : Bool → ℕ → Bool
 is_escaped ascii b = is_ascii_control b || (ascii && nat_le 128 b)
 
@@ -32,10 +32,11 @@ is_escaped ascii b = is_ascii_control b || (ascii && nat_le 128 b)
 abbrev pub escaped_byte : Bool → ℕ → List ℕ
 escaped_byte ascii b = if is_escaped ascii b then escape b else b ∷ []
 
+-- a name with its control characters escaped, and if `ascii` is set, also its bytes from 128 on
 abbrev pub displayed_as : Bool → List ℕ → List ℕ
 displayed_as ascii name = flat_map (escaped_byte ascii) name
 
--- a name with its control bytes escaped
+-- a name with its ASCII control characters escaped, as `\x` and two hexadecimal digits
 abbrev pub displayed_name : List ℕ → List ℕ
 displayed_name name = displayed_as false name
 
@@ -73,31 +74,31 @@ changed suffix front Dropped = []
 changed suffix front _ = front
 
 -- The output for the front of a line, if new times have that suffix: all lines but the dropped ones, only those with a
--- new time, or only the new times.
+-- new time, or only the new times, each with its suffix and LF.
 abbrev pub front_text : Output → List ℕ → List ℕ → Action → List ℕ
 front_text AllLines suffix front action = changed suffix front action
 front_text RewrittenLines suffix front (Rewritten begin end text) = changed suffix front (Rewritten begin end text)
 front_text Times suffix front (Rewritten begin end text) = text.items ++ (suffix ++ 10 ∷ [])
 front_text _ suffix front _ = []
 
--- whether the bytes after the front are copied or dropped
+-- the bytes after a front: `Passing` if the output has lines with that action, otherwise (`Times`: always) `Dropping`
 abbrev pub tail_action_of : Output → Action → TailAction
 tail_action_of AllLines Dropped = Dropping
 tail_action_of AllLines _ = Passing
 tail_action_of RewrittenLines (Rewritten begin end text) = Passing
 tail_action_of _ _ = Dropping
 
--- the output for bytes after the front
+-- the output for bytes after the front: none for `Dropping`, otherwise all of them
 abbrev pub passed : TailAction → List ℕ → List ℕ
 passed Dropping bytes = []
 passed _ bytes = bytes
 
--- a front was processed
+-- a front was processed: the tail action isn't `Absent`
 abbrev pub HasFront : TailAction → Type 0
 HasFront Absent = ⊥
 HasFront _ = ⊤
 
--- why a line was rejected, as the log has it: the column, from 1, and the reason
+-- why a line was rejected, as the log has it: the column in decimal, from 1, a colon, a space and the reason
 abbrev pub reason_text : ℕ → List ℕ → List ℕ
 reason_text column reason = decimal column ++ (codes ": " ++ reason)
 
@@ -110,7 +111,7 @@ WritesReason P old new =
 abbrev pub one_more : ℕ → ℕ
 one_more n = min (n + 1) (2 ^ 64 - 1)
 
--- no line and no file is counted yet
+-- the tally in which no line and no file is counted: all counts are 0
 abbrev pub nothing_counted : Tally
 nothing_counted =
     record {
@@ -143,7 +144,7 @@ abbrev pub counted : Tally → List Action → Tally
 counted t [] = t
 counted t (action ∷ actions) = counted (count_action t action) actions
 
--- a tally before the first line of a file
+-- a tally before the first line of a file: the two counts of the current file are 0
 abbrev pub at_first_line : Tally → Tally
 at_first_line t = record t { line = 0; refused_here = 0 }
 
@@ -151,17 +152,17 @@ at_first_line t = record t { line = 0; refused_here = 0 }
 abbrev pub count_unread : Tally → Tally
 count_unread t = record t { unread = one_more t.unread }
 
--- the log names the line that the tally counted last, if it has that action
+-- the log names the line counted last, if it has that action: for `First(n)`, one of the file's first n rejected lines
 abbrev pub is_named : Reports → Tally → Action → Bool
 is_named (First most) t Refused = nat_le t.refused_here most
 is_named _ t _ = false
 
--- how many rejected lines of the file the log doesn't name; 0 if it doesn't report their number
+-- how many rejected lines of the current file the log doesn't name; 0 for `Quiet`, which reports no number
 abbrev pub unnamed : Reports → Tally → ℕ
 unnamed Quiet t = 0
 unnamed (First most) t = t.refused_here - most
 
--- the report of the line with that number in that file
+-- the report of a rejected line: `NAME:LINE:COLUMN: REASON` and LF; LINE (in its file) and COLUMN both count from 1
 abbrev pub report_of : List ℕ → ℕ → ℕ → List ℕ → List ℕ
 report_of name line column reason =
     displayed_name name ++ (codes ":" ++ (decimal line ++ (codes ":" ++ (reason_text column reason ++ 10 ∷ []))))
@@ -170,9 +171,9 @@ report_of name line column reason =
 abbrev pub more_text : List ℕ → ℕ → List ℕ
 more_text name n =
     if n == 0 then [] else
-    if n == 1 then displayed_name name ++ (codes ": 1 more line was refused" ++ 10 ∷ []) else
-    displayed_name name ++ (codes ": " ++ (decimal n ++ (codes " more lines were refused" ++ 10 ∷ [])))
+    if n == 1 then displayed_name name ++ (codes ": 1 more line was rejected" ++ 10 ∷ []) else
+    displayed_name name ++ (codes ": " ++ (decimal n ++ (codes " more lines were rejected" ++ 10 ∷ [])))
 
--- the line in the log that the file wasn't read, and why
+-- the line in the log for a file that wasn't opened, or not read to its end, or not replaced: `NAME: WHY` and LF
 abbrev pub unread_text : List ℕ → List ℕ → List ℕ
 unread_text name why = displayed_name name ++ (codes ": " ++ (why ++ 10 ∷ []))

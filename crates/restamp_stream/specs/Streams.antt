@@ -8,7 +8,7 @@ use Rattle.restamp_stream.specs.declared.block.TheConstants.{LIMIT}
 use Rattle.restamp_stream.specs.Reports.{Reports, Tally, Refused, Rewritten, Dropped, TailAction, Absent, AllLines, Action, front_text, tail_action_of, passed, IsAllowed, count_action, counted, at_first_line, is_named, report_of, unnamed, more_text, count_unread, unread_text}
 use Rattle.restamp_stream.specs.Causes.{Stream}
 
--- The bytes end with those that are left.
+-- The bytes end with the bytes `left`.
 abbrev pub EndsWith : List ℕ → List ℕ → Type 0
 EndsWith bytes left = (front : List ℕ) × (bytes ≡ front ++ left)
 
@@ -23,12 +23,12 @@ pub record Job : Type 1 where
   pub name : List ℕ
   pub settings : Settings
 
--- the job of those relations for a file of that name
+-- the `Job` of a file of that name, with fronts of at most `LIMIT` bytes
 abbrev pub job_of : (List ℕ → Action → Type 0) → (List ℕ → ℕ → List ℕ → Type 0) → List ℕ → Settings → Job
 job_of is_action is_reason name settings =
     record { is_action = is_action; is_reason = is_reason; limit = LIMIT; name = name; settings = settings }
 
--- the front of a line
+-- the front of a line: the first `limit` bytes of its text, which has no LF; all bytes of a shorter text
 abbrev pub front_of : Job → Line → List ℕ
 front_of job line = take job.limit line.text
 
@@ -39,19 +39,19 @@ text_of job line action =
     front_text job.settings.output job.settings.suffix.now (front_of job line) action
     ++ passed (tail_action_of job.settings.output action) (drop job.limit line.text ++ line.ending)
 
--- The report names a rejected line with that front, which the tally counted last.
+-- The report names the line that the tally counted last: a rejected one with that front.
 abbrev pub IsNaming : Job → Tally → List ℕ → List ℕ → Type 0
 IsNaming job t front report =
     (column : ℕ) × (reason : List ℕ) × job.is_reason front column reason
     × (report ≡ report_of job.name t.line column reason)
 
--- The report of a line with that front and action, which the tally counted last; empty if the log doesn't name the
--- line.
+-- `report` is that of the line that the tally counted last, which has that front and action. It names the line
+-- (`IsNaming`) if that is rejected and the log names it (`is_named`), and is empty otherwise.
 abbrev pub IsReport : Job → Tally → List ℕ → Action → List ℕ → Type 0
 IsReport job t front action report =
     MatchBool (is_named job.settings.reports t action) (IsNaming job t front report) (report ≡ [])
 
--- A line has that action, that text as its output, and that report. It isn't a rejected line at which the work stops.
+-- The line that the tally counted last has that action, output and report. If `strict` is set, it isn't rejected.
 abbrev pub IsAnswered : Job → Tally → Line → Action → List ℕ → List ℕ → Type 0
 IsAnswered job t line action text report =
     job.is_action (front_of job line) action × IsAllowed job.settings.strict action
@@ -73,10 +73,11 @@ pub record State : Type 0 where
   pub log : Option (List ℕ)
   pub tally : Tally
 
+-- the state with those contents of the writer and of the log, and that tally
 abbrev pub state : Option (List ℕ) → Option (List ℕ) → Tally → State
 state out log tally = record { out = out; log = log; tally = tally }
 
--- a state before the first line of a file
+-- a state before the first line of a file: the tally's two counts of the current file are 0
 abbrev pub before_lines : State → State
 before_lines s = state s.out s.log (at_first_line s.tally)
 
@@ -89,7 +90,7 @@ pub record Processed (job : Job) (before after : State) (lines : List Line) (act
   pub reported : Appends before.log after.log reports
   pub tallied : after.tally ≡ counted before.tally actions
 
--- Between the two states the log got a report of how many more lines of a file were rejected than it names.
+-- Between the two states only the log got a report: how many more lines of a file were rejected than it names, if any.
 pub record Closes (name : List ℕ) (reports : Reports) (before after : State) : Type 0 where
   pub same_out : after.out ≡ before.out
   pub reported : Appends before.log after.log (more_text name (unnamed reports before.tally))
@@ -102,11 +103,11 @@ pub record ProcessedAll (job : Job) (before after : State) (bytes : List ℕ) : 
   pub processed : Processed job (before_lines before) between (lines_of bytes) actions
   pub closed : Closes job.name job.settings.reports between after
 
--- the contents of a stream's writer and of its log, and its tally
+-- the contents of a stream's writer, without the buffered bytes, and of its log, and its tally
 abbrev pub state_of : {W L : Type 0} → (W → Option (List ℕ)) → (L → Option (List ℕ)) → Stream W L → State
 state_of contents log_contents s = state (contents s.out.sink) (log_contents s.log) s.tally
 
--- Between the two states a line was processed that has that text so far: at least its front, and no LF.
+-- Between the two states a line was processed whose text so far has a whole front and no LF. `rest` is its tail action.
 pub record IsLong (job : Job) (before after : State) (text : List ℕ) (rest : TailAction) : Type 0 where
   pub action : Action
   pub rests : tail_action_of job.settings.output action ≡ rest
@@ -114,13 +115,13 @@ pub record IsLong (job : Job) (before after : State) (text : List ℕ) (rest : T
   pub long : job.limit ≤ length text
   pub processed : Processed job before after (unended text ∷ []) (action ∷ [])
 
--- a line was processed that has that text so far, or no line has started and the states are equal
+-- for `Absent`, no line has started: the text is empty, and the states are equal; otherwise one has (`IsLong`)
 abbrev pub IsStarted : Job → State → State → List ℕ → TailAction → Type 0
 IsStarted job before after text Absent = (text ≡ []) × (before ≡ after)
 IsStarted job before after text rest = IsLong job before after text rest
 
 -- The bytes read are lines that end, the text so far of a line that has started, and the bytes `held`. Between the two
--- states all of them but `held` were processed.
+-- states all of them but `held` were processed. `rest` is that line's tail action; `Absent` if none has started.
 pub record Answered (job : Job) (before after : State) (read : List ℕ) (rest : TailAction) (held : List ℕ) : Type 0
   where
     pub lines : List Line
@@ -132,12 +133,13 @@ pub record Answered (job : Job) (before after : State) (read : List ℕ) (rest :
     pub processed : Processed job before between lines actions
     pub started : IsStarted job between after text rest
 
--- The bytes that may be buffered before a read: fewer than a front has, and none of a line whose front was processed.
+-- The bytes that may be buffered before a read: fewer than `limit`, with no LF; none if a line was processed by its
+-- front and hasn't ended.
 abbrev pub IsBuffered : Job → TailAction → List ℕ → Type 0
 IsBuffered job Absent held = HasNoLf held × (length held < job.limit)
 IsBuffered job _ held = held ≡ []
 
--- The bytes read were processed, except for the bytes `held`.
+-- The input's unread bytes went from `old` to `new`, and those that were read were processed, except for `held`.
 pub record Served (job : Job) (old new : Option (List ℕ)) (before after : State) (rest : TailAction)
     (held : List ℕ) : Type 0 where
   pub read : List ℕ
@@ -145,7 +147,8 @@ pub record Served (job : Job) (old new : Option (List ℕ)) (before after : Stat
   pub kept : IsBuffered job rest held
   pub answered : Answered job before after read rest held
 
--- Between the two states a line with that front was rejected, reported and counted. Nothing of it was written.
+-- `strict` is set, and between the two states a line with that front was rejected and counted, and reported if the log
+-- names it. Nothing of it was written.
 pub record RefusedAt (job : Job) (before after : State) (front : List ℕ) : Type 0 where
   pub report : List ℕ
   pub strict : IsTrue job.settings.strict
@@ -155,7 +158,7 @@ pub record RefusedAt (job : Job) (before after : State) (front : List ℕ) : Typ
   pub reported : Appends before.log after.log report
   pub tallied : after.tally ≡ count_action before.tally Refused
 
--- Between the two states the lines before a rejected one were processed, and then that one was rejected.
+-- Between the two states those of the lines `all` before a rejected one were processed, and then that one was rejected.
 pub record Stopped (job : Job) (before after : State) (all : List Line) : Type 0 where
   pub lines : List Line
   pub line : Line
@@ -166,14 +169,14 @@ pub record Stopped (job : Job) (before after : State) (all : List Line) : Type 0
   pub processed : Processed job before between lines actions
   pub stopped : RefusedAt job between after (front_of job line)
 
--- Between the two states the log got a report that the file wasn't read to its end, and why.
+-- Between the two states the log got a report why a file wasn't opened or read to its end, and the file was counted.
 pub record Fails (name : List ℕ) (before after : State) : Type 0 where
   pub why : List ℕ
   pub same_out : after.out ≡ before.out
   pub reported : Appends before.log after.log (unread_text name why)
   pub counts : after.tally ≡ count_unread before.tally
 
--- A read of the input failed. All that was read and could be processed was processed, and rejected lines were reported.
+-- A failed read of the input was reported. All that was read and could be processed was, and rejections were reported.
 pub record ProcessedSome (job : Job) (old new : Option (List ℕ)) (before after : State) : Type 0 where
   pub rest : TailAction
   pub held : List ℕ
@@ -203,7 +206,8 @@ abbrev pub ProcessedFile : Job → Option (List ℕ) → ℕ → ℕ → State �
 ProcessedFile job bytes faults faults' before after =
     IfSome bytes (ProcessedAll job before after) ⊎ ProcessedCutOff job bytes faults faults' before after
 
--- each of the files of those names was processed or cut off, one after the other
+-- Each of the files of those names was processed or cut off (`ProcessedFile`), in order; for no files, nothing changed.
+-- The count of failed files went from `faults` to `faults'`. `bytes_of` is the bytes of each file, if they are known.
 abbrev pub ProcessedFiles : (List ℕ → Action → Type 0) → (List ℕ → ℕ → List ℕ → Type 0) → Settings
     → (List ℕ → Option (List ℕ))
     → ℕ → ℕ → State → State → List (List ℕ) → Type 0
@@ -229,7 +233,7 @@ StoppedIn is_action is_reason settings bytes_of faults faults' before after (nam
     × (faults ≤ mid)
     × StoppedIn is_action is_reason settings bytes_of mid faults' between after names)
 
--- Between the two states all lines of each of the files of those names were processed.
+-- Between the two states all lines of each of the named files were processed, in order, if its bytes are known.
 abbrev pub AreProcessed : (List ℕ → Action → Type 0) → (List ℕ → ℕ → List ℕ → Type 0) → Settings
     → (List ℕ → Option (List ℕ))
     → State → State → List (List ℕ) → Type 0
@@ -241,14 +245,14 @@ AreProcessed is_action is_reason settings bytes_of before after (name ∷ names)
 
 -- ---- Laws of the processing of an input
 
--- Lines have one output, one action each, and one text of reports.
+-- After a given tally, lines have one output, one action each, and one text of reports.
 abbrev pub OneAnswer : Job → Type 0
 OneAnswer job =
     (t : Tally) (lines : List Line) (actions others : List Action) (text other reports more : List ℕ)
     → AreAnswered job t lines actions text reports → AreAnswered job t lines others other more
     → (actions ≡ others) × (text ≡ other) × (reports ≡ more)
 
--- An input has one output, one log and one tally.
+-- From given contents of the writer and the log and a given tally, an input has one output, one log and one tally.
 abbrev pub OneResult : Job → Type 0
 OneResult job =
     (bytes out log : List ℕ) (tally : Tally) (after other : State)

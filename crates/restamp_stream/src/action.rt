@@ -8,29 +8,29 @@ use crate::settings::Output;
 /// The action of a line: unchanged, rewritten, dropped or rejected.
 #[derive(Drop)]
 pub enum LineAction<R> {
-    /// It has no place for a time, and is unchanged.
+    /// It has no place for a time. Only `Output::AllLines` writes it, unchanged.
     Without,
-    /// A text replaces the bytes of its front from `begin` to before `end`.
+    /// A new time replaces the bytes from `begin` to before `end` of the line's front, its first `LIMIT` bytes.
     Rewritten { begin: usize, end: usize },
-    /// It is dropped from the output.
+    /// It is dropped: no `Output` writes any of it.
     Dropped,
-    /// It is rejected: it is unchanged, and reported.
+    /// It is rejected, for that reason. Only `Output::AllLines` writes it, unchanged, unless the work stops at it.
     Refused(R),
 }
 
 /// Whether the bytes after the front of a processed line are copied or dropped.
 #[derive(Clone, Copy)]
 pub enum TailAction {
-    /// No front was processed.
+    /// The last processed line has ended, or there was none: the next bytes start a line.
     Absent,
-    /// They are copied unread.
+    /// They are copied unchanged, up to and with the LF.
     Passing,
-    /// They are dropped.
+    /// They are dropped, up to and with the LF.
     Dropping,
 }
 
 impl TailAction {
-    /// Whether the bytes after a front with that action are copied or dropped.
+    /// `Passing` if `output` writes a line with that action, else `Dropping`, as always for `Times`. Never `Absent`.
     pub fn of<R>(output: Output, action: &LineAction<R>) -> TailAction
         ensures { (text : Items) → result ≡ tail_action_of output (action_of action.now text) }
     {
@@ -41,7 +41,7 @@ impl TailAction {
         }
     }
 
-    /// Whether no front was processed.
+    /// Whether it is `Absent`: the next bytes start a line. If not, they continue one whose front was processed.
     pub fn is_absent(&self) -> bool
         ensures absent { IsTrue result → self.now ≡ TailAction.Absent }
         ensures front { result ≡ false → HasFront self.now }

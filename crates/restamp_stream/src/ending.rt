@@ -5,8 +5,8 @@ ghost use Rattle.restamp_stream.specs.Causes.{HasFailed};
 use crate::tally::Tally;
 use byte_streams::Unwritten;
 
-/// The exit status of a program: 2 if the work stopped, a file wasn't read to its end, or a line was rejected and
-/// `strict` is set. Otherwise 0 if a time was rewritten, and 1 if none was.
+/// The exit status of a program: 2 if the work stopped, a file wasn't opened or read to its end, or a line was
+/// rejected and `strict` is set. Otherwise 0 if a time was rewritten, and 1 if none was.
 pub fn status(tally: &Tally, stop: Option<Stop>, strict: bool) -> u8
     ensures failed { HasFailed tally.now stop strict → result ≡ 2 }
     ensures some { ¬ HasFailed tally.now stop strict → 0 < tally.now.rewritten → result ≡ 0 }
@@ -23,7 +23,7 @@ pub fn status(tally: &Tally, stop: Option<Stop>, strict: bool) -> u8
 pub enum Stop {
     /// A read failed, or the input didn't end within 18446744073709551615 reads.
     Unread,
-    /// A write failed.
+    /// A write to the output or to the log failed.
     Unwritten,
     /// A line was rejected, and `strict` is set.
     Refused,

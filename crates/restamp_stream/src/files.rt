@@ -20,10 +20,10 @@ pub trait Opening {
     // The bytes of the file of that name, if they are known.
     ghost bytes_of: { Self → List ℕ → Option (List ℕ) };
 
-    // How many files it failed to open, and how many of those that it closed were cut off, counted together.
+    // The number of files that it failed to open, plus the number of closed files that were cut off.
     ghost faults: { Self → ℕ };
 
-    /// Opens the file of that name. No call of the returned reader has failed yet.
+    /// Opens the file of that name, at its start. No call of the returned reader has failed yet.
     fn open(&mut self, name: &[u8]) -> io::Result<Self::Input>
         ensures bytes { IfOk result (λ input. IfSome (bytes_of self.old name.now) (λ bytes. Self.Input.remaining input ≡ Some bytes)) }
         ensures started { IfOk result (λ input. Self.Input.faults input ≡ 0) }
@@ -38,7 +38,7 @@ pub trait Opening {
         ensures same { bytes_of self.new ≡ bytes_of self.old };
 }
 
-// A file that wasn't read to its end doesn't stop the work.
+// The result with `Unread` replaced by success: a file that wasn't read to its end doesn't stop the work.
 fn go_on(served: Result<(), Stop>) -> Result<(), Stop>
     ensures ok { OnOk result (IfErr served (λ stop. stop ≡ Stop.Unread)) }
     ensures err { IfErr result (λ stop. (served ≡ Err stop) × (stop ≢ Stop.Unread)) }
@@ -50,7 +50,7 @@ fn go_on(served: Result<(), Stop>) -> Result<(), Stop>
 }
 
 impl<W: Sink, L: Sink> Stream<W, L> {
-    // Opens a file, processes all its lines, and closes it. A file that isn't read to its end doesn't stop the work.
+    // Opens a file, processes its lines, and closes it. A failure to open it or to read it doesn't stop the work.
     fn serve_next<T: Rewriting, O: Opening>(
         &mut self,
         rewriting: &T,

@@ -12,7 +12,7 @@ use crate::settings::Settings;
 use crate::stream::Stream;
 use byte_streams::Sink;
 
-/// An input has one output, one log and one tally.
+/// With these settings, an input has one output, one log and one tally, and each of its lines has one action.
 pub fn law_one_result<T: Rewriting>(rewriting: &T, name: &[u8], settings: Settings<'_>)
     ensures lines { OneAnswer (job_of (T.is_action rewriting.now) (T.is_reason rewriting.now) name.now settings.entry) }
     ensures input { OneResult (job_of (T.is_action rewriting.now) (T.is_reason rewriting.now) name.now settings.entry) }
@@ -25,8 +25,8 @@ pub fn law_kept<T: Rewriting>(rewriting: &T, name: &[u8], settings: Settings<'_>
     ensures input { KeptBytes (job_of (T.is_action rewriting.now) (T.is_reason rewriting.now) name.now settings.entry) }
 {}
 
-/// The work stops early only after a failed read or write, or at a rejected line. So if no call of the files, the
-/// writer and the log fails, and no rejected line stops the work, all lines of each file are processed and written.
+/// Processes files as [`Stream::serve_files`] does. The work stops early only after a failed write, or at a rejected
+/// line. If it doesn't, and no file fails to open or is cut off, all lines of each file are processed and written.
 pub fn law_done<T: Rewriting, O: Opening, W: Sink, L: Sink>(
     stream: &mut Stream<W, L>,
     rewriting: &T,

@@ -8,7 +8,7 @@ use byte_streams::{ArrayBuf, Sink, Unwritten};
 use std::io;
 use std::io::Write;
 
-// The character of a digit below 16.
+// The ASCII character of a hexadecimal digit from 0 to 15: `0` to `9`, or `a` to `f`.
 fn hexadecimal(digit: u8) -> u8
     requires { digit < 16 }
     ensures { result ≡ names.hexadecimal digit }
@@ -20,14 +20,14 @@ fn hexadecimal(digit: u8) -> u8
     }
 }
 
-// `\x` and the two digits of a byte.
+// `\x` and the two hexadecimal digits of a byte, with small letters.
 fn escape(byte: u8) -> [u8; 4]
     ensures { result ≡ names.escape byte }
 {
     [b'\\', b'x', hexadecimal(byte / 16), hexadecimal(byte % 16)]
 }
 
-// Whether a byte is escaped.
+// Whether a byte is escaped: an ASCII control character (0 to 31, or 127), or if `ascii` is set, a byte from 128 on.
 fn is_escaped(ascii: bool, byte: u8) -> bool
     ensures { result ≡ names.is_escaped ascii byte }
 {
@@ -48,7 +48,7 @@ fn plain_length(ascii: bool, name: &[u8]) -> usize
     name.len()
 }
 
-// Writes the name's bytes before the first escaped one, or that one if it comes first. Returns their number.
+// Writes the bytes of `name` before the first escaped one, or that one if it is first. Returns their number in `name`.
 #[tactic(auto, using(crate::proofs::LinesLemmas::log_writes))]
 fn write_part<L: Sink>(ascii: bool, name: &[u8], log: &mut L) -> Result<usize, Unwritten>
     requires { 0 < length name.now }
@@ -66,7 +66,8 @@ fn write_part<L: Sink>(ascii: bool, name: &[u8], log: &mut L) -> Result<usize, U
     Ok(plain)
 }
 
-/// Writes a name with each control byte as `\x` and two digits, and if `ascii` is set, each byte beyond ASCII, too.
+/// Writes a name with each ASCII control character (0 to 31, or 127) as `\x` and two hexadecimal digits, and if `ascii`
+/// is set, each byte from 128 on, too. Escapes have small letters, as in `\x1b`. Other bytes are written as they are.
 pub fn write_escaped<L: Sink>(ascii: bool, name: &[u8], log: &mut L) -> Result<(), Unwritten>
     ensures shown { OnOk result (Appends (L.contents log.old) (L.contents log.new) (names.displayed_as ascii name.now)) }
     ensures cause { HasCause result (L.faults log.old) (L.faults log.new) }
@@ -79,7 +80,8 @@ pub fn write_escaped<L: Sink>(ascii: bool, name: &[u8], log: &mut L) -> Result<(
     Ok(())
 }
 
-/// Writes a name with each control byte as `\x` and two digits, so that no name moves a terminal's cursor or ends a line.
+/// Writes a name with each ASCII control character (0 to 31, or 127) as `\x` and two hexadecimal digits (ESC: `\x1b`),
+/// so that no name ends a line or starts an escape sequence with ESC. Other bytes are written as they are.
 pub fn write_name<L: Sink>(name: &[u8], log: &mut L) -> Result<(), Unwritten>
     ensures shown { OnOk result (Appends (L.contents log.old) (L.contents log.new) (names.displayed_name name.now)) }
     ensures cause { HasCause result (L.faults log.old) (L.faults log.new) }
@@ -90,7 +92,7 @@ pub fn write_name<L: Sink>(name: &[u8], log: &mut L) -> Result<(), Unwritten>
 /// The text of an error: at most 256 bytes.
 pub type Message = ArrayBuf<256>;
 
-/// The text of that error.
+/// The text of an error, truncated to 256 bytes.
 pub fn message_of(error: &io::Error) -> Message {
     let mut message = Message::new();
     // A text that doesn't fit in the buffer is cut off.

@@ -12,7 +12,7 @@ use time_values::text::Text;
 pub trait Rewriting {
     ghost use Rattle.restamp_stream.specs.Reports.{Action, Refused};
 
-    /// What is kept of the reason why a line is rejected. A stream doesn't read it.
+    /// The reason why a line is rejected. A stream doesn't read it, as [`Rewriting::write_reason`] writes the reason.
     type Refusal: Drop;
 
     // A line with that front has that action.
@@ -21,13 +21,14 @@ pub trait Rewriting {
     // A front is rejected at that column, from 1, and for that reason.
     ghost is_reason: { Self → List ℕ → ℕ → List ℕ → Type 0 };
 
-    /// The action of a line with that front. If it is rewritten, `text` is its new text, whatever it was before.
+    /// The action of a line with that front. For [`LineAction::Rewritten`] the replaced bytes are in the front, and
+    /// `text` is overwritten with the new time. For other actions `text` may have any value after the call.
     fn action(&self, front: &[u8], text: &mut Text) -> LineAction<Self::Refusal>
         ensures action { is_action self.now front.now (action_of result text.new) }
         ensures within { IsWithin (action_of result text.new) front.now };
 
-    /// Writes the column at which a front is rejected, a colon, a space and the reason, with no LF. It is called only
-    /// if the log names the line.
+    /// Writes the column at which a front is rejected, in decimal from 1, a colon, a space and the reason, with no LF.
+    /// It is called only for a rejected line that the log names.
     fn write_reason<L: Sink>(&self, front: &[u8], log: &mut L) -> Result<(), Unwritten>
         requires { is_action self.now front.now Refused }
         ensures reported { OnOk result (WritesReason (is_reason self.now front.now) (L.contents log.old) (L.contents log.new)) }

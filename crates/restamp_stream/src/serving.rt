@@ -19,8 +19,8 @@ use std::io;
 use std::io::ErrorKind;
 
 impl<W: Sink, L: Sink> Stream<W, L> {
-    // Copies or drops the rest of a line whose front was processed, if there is one. Returns the bytes after the line,
-    // or `None` if the line doesn't end in these bytes.
+    // Copies or drops the rest of a line whose front was processed, and sets `rest` to `Absent` at its LF. Returns the
+    // bytes after the LF (all bytes if `rest` was `Absent`), or `None` if the line doesn't end in these bytes.
     fn end_line<'a>(
         &mut self,
         bytes: &'a [u8],
@@ -46,7 +46,7 @@ impl<W: Sink, L: Sink> Stream<W, L> {
         Ok(Some(after))
     }
 
-    // Processes all lines that end in the bytes. Returns the bytes after them.
+    // Processes all lines that end in the bytes, which start where a line starts. Returns the bytes after the last LF.
     fn answer_lines<'a, T: Rewriting>(
         &mut self,
         file: &File<'_, T>,
@@ -69,7 +69,7 @@ impl<W: Sink, L: Sink> Stream<W, L> {
         Ok(left)
     }
 
-    // Processes as much of the block as possible, and keeps only the bytes after that.
+    // Processes what it can of the block: lines up to their LF, or a front of `LIMIT` bytes. Keeps only the bytes left.
     fn answer_block<T: Rewriting>(
         &mut self,
         file: &File<'_, T>,
@@ -121,7 +121,7 @@ impl<W: Sink, L: Sink> Stream<W, L> {
         answered
     }
 
-    // Processes the bytes that are left at the end of the input, and writes the output. They are a line, unless empty.
+    // Processes the remaining bytes at the end of the input as a line without LF, unless empty, and writes the output.
     fn finish<T: Rewriting>(&mut self, file: &File<'_, T>, block: &Block) -> Result<(), Stop>
         requires none { self.old.out.buffer.items ≡ [] }
         requires started { HasNoLf block.now.items }
@@ -140,7 +140,7 @@ impl<W: Sink, L: Sink> Stream<W, L> {
         Ok(())
     }
 
-    // Processes all lines of a file. All that can be processed is processed and written before the next read.
+    // Processes all lines of a file, and writes all that it can before each read. Counts and reports a failed read.
     fn serve_lines<T: Rewriting, R: Source>(
         &mut self,
         file: &File<'_, T>,
@@ -176,11 +176,11 @@ impl<W: Sink, L: Sink> Stream<W, L> {
 
     /// Processes all lines of a file. All whole lines that were read are processed and written before the next read.
     ///
-    /// A line of any length is processed by its first [`LIMIT`] bytes. An interrupted read is tried again.
+    /// A line is processed by its first [`LIMIT`] bytes. Its later bytes are copied if it is written, or else dropped.
     ///
     /// After [`Stop::Unread`] all that was read and could be processed is processed and written. After
     /// [`Stop::Refused`] all lines before the first rejected one are. After [`Stop::Unwritten`] it is unknown how much
-    /// was written.
+    /// was written. An interrupted read is tried again. Reports start with `name`, and number the file's lines from 1.
     pub fn serve<T: Rewriting, R: Source>(
         &mut self,
         rewriting: &T,

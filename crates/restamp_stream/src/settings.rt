@@ -13,21 +13,21 @@ pub enum Output {
     AllLines,
     /// Those in which a time was rewritten.
     RewrittenLines,
-    /// The new times alone, each with LF.
+    /// The new times alone, each followed by the suffix and LF.
     Times,
 }
 
 /// Which rejected lines the log names.
 #[derive(Clone, Copy)]
 pub enum Reports {
-    /// None. It doesn't report how many there were, either.
+    /// None. The log doesn't report how many there were, either.
     Quiet,
-    /// The first ones of each file, up to this number. A last line reports how many more there were.
+    /// The first ones of each file, up to this number. If there were more, a last line reports how many more.
     First(u64),
 }
 
 impl Reports {
-    /// Whether the log names the line that was counted last, if it has that action.
+    /// Whether the log names the line counted last: for `First(n)`, if `action` is `Refused` and `refused_here` <= n.
     pub fn names<R>(self, tally: &Tally, action: &LineAction<R>) -> bool
         ensures names { (text : Items) → result ≡ is_named self tally.now (action_of action.now text) }
         ensures refused { (text : Items) → IsTrue result → action_of action.now text ≡ Refused }
@@ -38,7 +38,7 @@ impl Reports {
         }
     }
 
-    /// How many rejected lines of the file the log doesn't name; 0 if it doesn't report their number.
+    /// How many rejected lines of the current file the log doesn't name; 0 for `Quiet`, as it reports no number.
     pub fn unnamed(self, tally: &Tally) -> u64
         ensures { result ≡ unnamed self tally.now }
     {
@@ -58,12 +58,12 @@ pub struct Settings<'a> {
     pub suffix: &'a [u8],
     /// Which rejected lines the log names.
     pub reports: Reports,
-    /// Whether the work stops before the first rejected line.
+    /// Whether the work stops at the first rejected line, which is counted, but not written to the output.
     pub strict: bool,
 }
 
 impl Settings<'_> {
-    /// Whether the work stops at a line with that action.
+    /// Whether the work stops at a line with that action: the line is rejected, and `strict` is set.
     pub fn stops_at<R>(&self, action: &LineAction<R>) -> bool
         ensures stops { (text : Items) → IsTrue result → IsTrue self.now.strict × (action_of action.now text ≡ Refused) }
         ensures goes_on { (text : Items) → result ≡ false → IsAllowed self.now.strict (action_of action.now text) }
@@ -72,7 +72,7 @@ impl Settings<'_> {
     }
 }
 
-/// A file that is read.
+/// A file whose lines are processed.
 #[derive(Drop)]
 pub struct File<'a, T> {
     /// Chooses the action of each of its lines.

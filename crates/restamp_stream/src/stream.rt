@@ -21,7 +21,7 @@ use time_values::text::Text;
 
 /// The outputs of a stream: the processed lines in `out`, the reports in `log`, and the counts of lines in `tally`.
 ///
-/// Up to 65536 bytes are buffered before they are written to `out`.
+/// `out` buffers up to 65536 bytes before it writes them to its sink.
 #[derive(Drop)]
 pub struct Stream<W, L> {
     /// The processed lines, buffered.
@@ -33,7 +33,7 @@ pub struct Stream<W, L> {
 }
 
 impl<W: Sink, L: Sink> Stream<W, L> {
-    /// A stream to this writer and this log, with nothing counted yet.
+    /// A stream to this writer and this log, with an empty buffer and all counts 0.
     pub fn new(out: W, log: L) -> Stream<W, L>
         ensures out { result.out.sink ≡ out }
         ensures log { result.log ≡ log }
@@ -46,7 +46,7 @@ impl<W: Sink, L: Sink> Stream<W, L> {
         }
     }
 
-    /// The writer, the log and the counts.
+    /// The writer, the log and the counts. Bytes that are still buffered are dropped.
     pub fn into_parts(self) -> (W, L, Tally)
         ensures out { result.0 ≡ self.out.sink }
         ensures log { result.1 ≡ self.log }
@@ -56,7 +56,7 @@ impl<W: Sink, L: Sink> Stream<W, L> {
         (out.into_sink(), log, tally)
     }
 
-    // Writes bytes after the buffered ones.
+    // Writes bytes to the output, after the buffered ones. They may stay buffered.
     #[inline(always)]
     fn put(&mut self, bytes: &[u8]) -> Result<(), Unwritten>
         ensures { Puts W.contents W.faults self.old self.new result bytes.now }
@@ -64,7 +64,7 @@ impl<W: Sink, L: Sink> Stream<W, L> {
         self.out.write_all(bytes)
     }
 
-    // Writes bytes that come after the front of a line, unless they are dropped.
+    // Writes bytes that come after the front of a line, or drops them if `rest` is `Dropping`.
     #[inline(always)]
     pub(crate) fn pass(&mut self, bytes: &[u8], rest: TailAction) -> Result<(), Unwritten>
         ensures { Puts W.contents W.faults self.old self.new result (passed rest bytes.now) }
@@ -75,7 +75,7 @@ impl<W: Sink, L: Sink> Stream<W, L> {
         }
     }
 
-    // Reports to the log how many more lines of a file were rejected than it names.
+    // Reports to the log that n more lines of a file were rejected than it names; nothing if n is 0.
     fn report_more(&mut self, name: &[u8], n: u64) -> Result<(), Unwritten>
         ensures reported { OnOk result (Appends (L.contents self.old.log) (L.contents self.new.log) (more_text name.now n)) }
         ensures out { self.new.out ≡ self.old.out }
@@ -87,13 +87,13 @@ impl<W: Sink, L: Sink> Stream<W, L> {
         }
         write_name(name, &mut self.log)?;
         if n == 1 {
-            self.log.write_all(b": 1 more line was refused\n")
+            self.log.write_all(b": 1 more line was rejected\n")
         } else {
-            write!(self.log, ": {n} more lines were refused\n")
+            write!(self.log, ": {n} more lines were rejected\n")
         }
     }
 
-    // Ends the reports of a file.
+    // Reports how many rejected lines of a file the log doesn't name (unless 0 or `Quiet`), and flushes the log.
     pub(crate) fn close<T>(&mut self, file: &File<'_, T>) -> Result<(), Unwritten>
         ensures closed { OnOk result (Closes file.now.name.now file.now.settings.reports
             (state_of W.contents L.contents self.old) (state_of W.contents L.contents self.new)) }
@@ -105,7 +105,7 @@ impl<W: Sink, L: Sink> Stream<W, L> {
         self.log.flush()
     }
 
-    // Reports to the log that a file wasn't read to its end, and why.
+    // Logs that a file wasn't opened or read to its end: its name, and up to 256 bytes of the error's text.
     fn report_unread(&mut self, name: &[u8], error: &io::Error) -> Result<(), Unwritten>
         ensures reported { OnOk result ((why : List ℕ) × Appends (L.contents self.old.log) (L.contents self.new.log) (unread_text name.now why)) }
         ensures out { self.new.out ≡ self.old.out }
@@ -118,7 +118,8 @@ impl<W: Sink, L: Sink> Stream<W, L> {
         self.log.write_all(b"\n")
     }
 
-    // Reports to the log that a file wasn't read to its end, and why, and counts the file.
+    // Counts a file that wasn't opened or not read to its end, and reports why. Returns `Unread`, or `Unwritten` if a
+    // write to the log failed.
     pub(crate) fn fail(&mut self, name: &[u8], error: &io::Error) -> Stop
         ensures failed { FailedBy result (Fails name.now (state_of W.contents L.contents self.old) (state_of W.contents L.contents self.new)) }
         ensures cause { IsCounted result (faults_of W.faults L.faults self.old) (faults_of W.faults L.faults self.new) }
@@ -130,7 +131,7 @@ impl<W: Sink, L: Sink> Stream<W, L> {
         }
     }
 
-    // Writes the buffered bytes, and flushes the log.
+    // Writes the buffered bytes to the writer, which it doesn't flush, and flushes the log.
     pub(crate) fn flush_all(&mut self) -> Result<(), Unwritten>
         ensures written { OnOk result (Flushes (buffered_state W.contents L.contents self.old) (state_of W.contents L.contents self.new)) }
         ensures none { OnOk result (self.new.out.buffer.items ≡ []) }
@@ -182,7 +183,8 @@ impl<W: Sink, L: Sink> Stream<W, L> {
         self.put_suffixed(suffix, front, begin, end, text)
     }
 
-    // Writes the output for the front of a line.
+    // Writes the output for the front of a line: the front with the new time and the suffix in it, only these and LF
+    // (`Times`), the unchanged front, or nothing.
     #[inline(always)]
     fn put_front<R>(
         &mut self,
@@ -206,7 +208,7 @@ impl<W: Sink, L: Sink> Stream<W, L> {
         }
     }
 
-    // Writes the report of a rejected line that was counted.
+    // Reports a rejected line, which was counted last: `NAME:LINE:COLUMN: REASON` and LF.
     #[inline(never)]
     fn write_report<T: Rewriting>(
         &mut self,
@@ -226,7 +228,7 @@ impl<W: Sink, L: Sink> Stream<W, L> {
         self.log.write_all(b"\n")
     }
 
-    // Writes the report of a line that was counted, if it is rejected and the log names it.
+    // Reports the line that was counted last, if it is rejected and the log names it. Otherwise it writes nothing.
     #[inline(always)]
     #[tactic(auto, using(crate::proofs::LinesLemmas::log_writes))]
     fn report<T: Rewriting>(
@@ -250,7 +252,7 @@ impl<W: Sink, L: Sink> Stream<W, L> {
         self.write_report(file, front)
     }
 
-    // Processes, reports and counts a line by its front. Returns whether the bytes after it are copied or dropped.
+    // Counts and reports a line. `Refused` if the work stops at it; else calls `put_front` and returns its tail action.
     #[inline(always)]
     pub(crate) fn begin<T: Rewriting>(
         &mut self,

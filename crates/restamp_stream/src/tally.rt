@@ -5,7 +5,7 @@ ghost use Rattle.restamp_stream.specs.Reports.{action_of, nothing_counted, count
 
 use crate::action::LineAction;
 
-/// The counts of lines by action. No count exceeds 18446744073709551615.
+/// The counts of lines by action. Counts saturate at 18446744073709551615.
 #[derive(Clone, Copy, Debug, PartialEq, Eq)]
 pub struct Tally {
     /// The lines of the current file so far.
@@ -43,7 +43,7 @@ impl Tally {
         }
     }
 
-    /// Counts a line with that action.
+    /// Adds 1 to `line`, `lines` and the count of that action; for a rejected line, to `refused` and `refused_here`.
     pub fn count<R>(&mut self, action: &LineAction<R>)
         ensures { (text : Items) → self.new ≡ count_action self.old (action_of action.now text) }
     {
@@ -60,7 +60,7 @@ impl Tally {
         }
     }
 
-    /// Starts the next file, whose lines are numbered from 1.
+    /// Starts the next file: sets `line` and `refused_here` to 0.
     pub fn begin_file(&mut self)
         ensures { self.new ≡ at_first_line self.old }
     {
@@ -68,7 +68,7 @@ impl Tally {
         self.refused_here = 0;
     }
 
-    /// Counts a file that wasn't read to its end.
+    /// Adds 1 to `unread`, for a file that wasn't opened, or not read to its end.
     pub fn count_unread(&mut self)
         ensures { self.new ≡ count_unread self.old }
     {

@@ -18,8 +18,8 @@ impl ZoneFiles for Empty {
     }
 }
 
-/// The rule of Berlin: in 2021 its clocks move forward from 2:00 to 3:00 on 28 March, and back from 3:00 to 2:00 on
-/// 31 October.
+/// The zone of Berlin: in 2021 its clocks move forward from 2:00 to 3:00 on 28 March, and back from 3:00 to 2:00 on 31
+/// October. `None` if it can't be loaded.
 pub(super) fn berlin(alloc: Global) -> Option<NamedZone> {
     let rule = "CET-1CEST,M3.5.0,M10.5.0/3";
     find_zone_in(alloc, &Empty {}, "/zones", Some(rule), "local").ok()
@@ -28,13 +28,18 @@ pub(super) fn berlin(alloc: Global) -> Option<NamedZone> {
 // The result of parsing: the seconds since 1970, or why the local time is no single moment.
 #[derive(Clone, Copy, Debug, PartialEq, Eq)]
 enum Answer {
+    // Parsed, in seconds since 1970.
     At(i64),
+    // No such local time in the zone.
     Nonexistent,
     // Ambiguous, with the two offsets.
     Twice(TwoOffsets),
+    // Another error.
     Otherwise,
 }
 
+// The result of parsing the whole text by the format, in the local time of that zone. A timestamp without a year has
+// the latest year by which it isn't after `latest`.
 fn answer_of(
     format: &[u8],
     text: &[u8],
@@ -58,6 +63,7 @@ fn answer_of(
     }
 }
 
+// Ambiguous: at +02:00 first, and then at +01:00.
 const BOTH: Answer = Answer::Twice(TwoOffsets {
     earlier: OffsetParts {
         is_behind: false,
@@ -69,6 +75,8 @@ const BOTH: Answer = Answer::Twice(TwoOffsets {
     },
 });
 
+// Which moment an ambiguous local time means, a local time in Berlin, and the result. 2021-03-28T00:00:00Z is
+// 1616889600, and 2021-10-31T00:00:00Z is 1635638400.
 type Row = (Fold, &'static [u8], Answer);
 
 static ROWS: [Row; 8] = [
@@ -134,7 +142,8 @@ mod bounds {
     // 2021-01-02T03:04:05Z, in seconds since 1970.
     const NOW: i64 = 1_609_556_645;
 
-    // The meaning of a text: a second since 1970, or why there is no such second.
+    // The meaning of a text: a second since 1970, or why there is no such second: it is out of range, it is a word and
+    // there is no clock, or it is neither a word nor a timestamp.
     #[derive(Clone, Copy, PartialEq, Eq)]
     enum Named {
         At(i64),
@@ -176,7 +185,8 @@ mod bounds {
         ("+00:00", "today-1d", Named::Nothing),
     ];
 
-    // The meaning of a text with that default offset, by the clock at `now`.
+    // The meaning of a text as a lower bound, with that default offset and with `now` as the moment of the clock
+    // (`None`: no clock).
     fn find_named(
         rt: &HostRuntime,
         offset: &str,

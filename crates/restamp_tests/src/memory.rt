@@ -28,11 +28,11 @@ pub struct Faults {
     pub count: u64,
     /// Whether they take effect before they fail, if they have an effect. The kind of the error is then `LATE`.
     pub is_late: bool,
-    /// The kind of the error.
+    /// The kind of the error of a call that fails without taking effect, and of a write that fails.
     pub kind: ErrorKind,
-    /// How many writes to a new file succeed before one fails.
+    /// How many writes to each new file succeed. Each later one fails.
     pub writes: u64,
-    /// Whether another program writes the file before it is checked again.
+    /// Whether another program writes the file before it is checked again: then `is_at` returns false.
     pub is_changed: bool,
 }
 
@@ -48,7 +48,7 @@ pub struct Memory {
 }
 
 impl Memory {
-    /// An empty folder.
+    /// An empty folder, of whose calls and writes those of `faults` fail.
     pub fn new(alloc: Global, faults: Faults) -> Memory
         ensures { result.events.items ≡ [] }
     {
@@ -67,12 +67,13 @@ impl Memory {
         self.events.as_slice()
     }
 
-    /// How many calls were made so far.
+    /// How many calls of [`Folder`] were made so far, also those that failed.
     pub fn calls(&self) -> u64 {
         self.calls.get()
     }
 
-    // Counts a call, and returns whether it is to fail after it takes effect. It is an error if it is to fail before.
+    // Counts a call, and returns whether it is to fail after it takes effect. It is an error if it is to fail without
+    // taking effect.
     fn begin(&self) -> io::Result<bool> {
         let call = self.calls.get();
         self.calls.set(call.saturating_add(1));
@@ -119,7 +120,7 @@ impl Memory {
     }
 }
 
-// Ends a call, with an error if it is to fail after it takes effect.
+// Ends a call that took effect: with an error of the kind `LATE` if it is to fail late.
 fn end(is_late: bool) -> io::Result<()>
     ensures { IfErr result (λ e. error_kind e ≡ ErrorKind.TimedOut) }
 {
@@ -130,7 +131,7 @@ fn end(is_late: bool) -> io::Result<()>
     }
 }
 
-// The state of a file of that number and length.
+// The state of a file of that number and length in bytes. The rest of the state is constant.
 fn original_of(number: u64, length: usize) -> Original
     ensures { result.number ≡ number }
 {
@@ -145,6 +146,7 @@ fn original_of(number: u64, length: usize) -> Original
     }
 }
 
+// The error of a name that leads to no file, or to a file without bytes on the disk.
 fn not_found() -> io::Error {
     io::Error::from(ErrorKind::NotFound)
 }
@@ -256,7 +258,8 @@ pub mod event {
         Synced,
     }
 
-    /// The file that a name leads to after the events, the last first.
+    /// The number of the file that a name leads to after the events, of which the last comes first. `None` if it leads
+    /// to no file.
     pub fn leads(events: &[Event], name: &str) -> Option<u64>
         ensures { result ≡ model.leads (events_of events.now) name.now }
     {
@@ -275,7 +278,8 @@ pub mod event {
         None
     }
 
-    /// The bytes of a file that are on the disk after the events, the last first.
+    /// The bytes that a file has on the disk after the events, of which the last comes first. `None` if none were
+    /// stored.
     pub fn stored(events: &[Event], number: u64) -> Option<&[u8]>
         ensures { option_map (λ bytes. bytes.now) result ≡ model.stored (events_of events.now) number }
     {
@@ -320,7 +324,7 @@ pub mod page {
     use std::io;
     use std::io::{ErrorKind, Write};
 
-    /// Stores what is written, until a write fails.
+    /// Stores what is written, until a write fails. Each later one fails too.
     #[derive(Debug, Drop)]
     pub struct Page {
         pub(crate) bytes: Vec<u8>,
@@ -331,7 +335,7 @@ pub mod page {
     }
 
     impl Page {
-        /// No bytes yet. After `writes` writes, each write fails with an error of that kind.
+        /// No bytes yet. After `writes` writes that succeed, each write fails with an error of that kind.
         pub fn new(alloc: Global, writes: u64, kind: ErrorKind) -> Page
             ensures { result.bytes.items ≡ [] }
         {

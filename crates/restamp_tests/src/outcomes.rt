@@ -96,7 +96,8 @@ fn job_of<'a>(
     }
 }
 
-// Whether both verdicts on a line are equal, and their texts too.
+// Whether the full and the brief verdict on a line are equal: in their action, and in the column of an error or the
+// place and text of a new timestamp.
 fn is_one(job: &Job<'_>, line: &[u8]) -> bool {
     let (mut text, mut other) = (Text::new(), Text::new());
     match (
@@ -117,7 +118,8 @@ fn is_one(job: &Job<'_>, line: &[u8]) -> bool {
     }
 }
 
-// The index of the first byte of a line's front whose change makes the verdicts differ, and its changed value.
+// The index of the first byte of a line, truncated to 32 bytes, whose change makes the verdicts differ, and its changed
+// value. `None` if no change does.
 fn find_difference(job: &Job<'_>, sample: &[u8]) -> Option<(usize, u8)> {
     let many = sample.len().min(32);
     for at in 0..many {
@@ -133,7 +135,7 @@ fn find_difference(job: &Job<'_>, sample: &[u8]) -> Option<(usize, u8)> {
     None
 }
 
-// Changes each byte of a line to each other byte.
+// Changes each of the first 32 bytes of a line to each other byte.
 #[test]
 fn changed(rt: HostRuntime) -> Result<(), Fail> {
     for (place, from, to, sample) in &SAMPLES {
@@ -152,7 +154,8 @@ fn changed(rt: HostRuntime) -> Result<(), Fail> {
     Ok(())
 }
 
-// Values of `latest`: a second before 2021-01-02T03:04:05Z, that moment, and the first and the last second of 2021.
+// Values of `latest`, in seconds since 1970: a second before 2021-01-02T03:04:05Z, that moment, and the first and the
+// last second of 2021.
 static LATEST: [i64; 4] = [1609556644, 1609556645, 1609459200, 1640995199];
 
 // Changes each byte of lines whose timestamps have no year.

@@ -1,7 +1,7 @@
 //! The places of timestamps, and timestamps anywhere in a line or before a text.
 use restamp_place::{Fields, Place, Span, body_of, find_span};
 
-// A place, a line, and the parts of the line before, at and after the place.
+// A place, a line, and the parts of the line before, at and after the place. Fields are counted from 1.
 type Row = (
     Place<'static>,
     &'static [u8],
@@ -10,6 +10,7 @@ type Row = (
     &'static [u8],
 );
 
+// Lines that have the place. A CR at the end of the line is in the part after it.
 static FOUND: [Row; 28] = [
     (Place::Whole, b"now", b"", b"now", b""),
     (Place::Whole, b"now\r", b"", b"now", b"\r"),
@@ -120,7 +121,7 @@ static FOUND: [Row; 28] = [
     (Place::After(b"\r"), b"a\rb\r", b"a\r", b"b", b"\r"),
 ];
 
-// Whether the place splits the line into those parts.
+// Whether the line has the place, which splits it into those parts.
 fn is_cut(place: Place<'_>, line: &[u8], before: &[u8], time: &[u8], after: &[u8]) -> bool {
     let Some(span) = find_span(place, line) else {
         return false;
@@ -137,7 +138,8 @@ fn found(rt: HostRuntime) {
     }
 }
 
-// A place that is missing in a line: too few fields, no such text, an unclosed quote, or text after a closing quote.
+// A place that is missing in a line: field 0, too few fields, no such text before a CR at the end, an unclosed quote,
+// or text after a closing quote.
 static MISSING: [(Place<'static>, &[u8]); 13] = [
     (Place::Field(Fields::Delimited(b','), 0), b"a"),
     (Place::Field(Fields::Delimited(b','), 2), b"a"),
@@ -169,7 +171,8 @@ fn open(rt: HostRuntime) {
 // A line with words longer and shorter than sixteen bytes, and a text whose parts also occur elsewhere.
 const CHANGED: [u8; 64] = *b"level=info\tmsg=\"a long request\"  at id=7 at 2021-01-02T03:04:05Z";
 
-// The word with `number` words before it, found byte by byte.
+// The word with `number` words before it, found byte by byte; `None` if there are fewer words. Blanks and tabs separate
+// words.
 fn plain_word(line: &[u8], number: usize) -> Option<Span> {
     let mut left = number;
     let mut begun = None;
@@ -196,7 +199,7 @@ fn plain_word(line: &[u8], number: usize) -> Option<Span> {
     }
 }
 
-// What follows the text, which is searched at each byte.
+// What follows the first occurrence of the text, which is searched at each byte; `None` if it doesn't occur.
 fn plain_rest(text: &[u8], line: &[u8]) -> Option<Span> {
     for at in 0..line.len() {
         if line[at..].starts_with(text) {
@@ -209,7 +212,7 @@ fn plain_rest(text: &[u8], line: &[u8]) -> Option<Span> {
     None
 }
 
-// Whether `find_span` finds the words and texts that these functions find in the line.
+// Whether `find_span` finds the words and texts that `plain_word` and `plain_rest` find in the line.
 fn is_plain(line: &[u8]) -> bool {
     let body = body_of(line);
     for number in 0..9 {
@@ -256,9 +259,11 @@ mod anywhere {
     use time_formatting::FractionDigits;
     use time_values::text::Text;
 
+    // A timestamp that starts with a day of one or two digits.
     const DAY: &[u8] =
         b"[day padding:none] [month repr:long] [year] [hour]:[minute] [offset_hour sign:mandatory]";
 
+    // No place: the timestamp may be anywhere in the line.
     const ANYWHERE: Option<Place<'static>> = None;
 
     // The verdict on a line whose timestamp may be anywhere, and its new text.
@@ -292,7 +297,7 @@ mod anywhere {
     }
 
     // Whether the first timestamp of a line, by a format, starts at `start` and has `many` bytes, and `seconds` is the
-    // text of its seconds since 1970.
+    // text of its seconds since 1970. If `many` is 0: whether the line has no timestamp.
     fn is_found(format: &[u8], line: &[u8], start: usize, many: usize, seconds: &[u8]) -> bool {
         let Ok(first) = find_reading(format) else {
             return false;
@@ -361,6 +366,7 @@ mod anywhere {
         (b"unix", b"x1 -60 +7 9y"),
     ];
 
+    // No defaults: a timestamp needs its own year and offset.
     const NOTHING_GIVEN: Defaults = Defaults {
         year: None,
         offset: None,
@@ -368,7 +374,8 @@ mod anywhere {
         latest: None,
     };
 
-    // Whether the byte before a place and the byte at it are both letters or digits.
+    // Whether the byte before an index and the byte at it are both letters or digits. `false` at either end of the
+    // line.
     fn is_inside(line: &[u8], place: usize) -> bool {
         0 < place
             && place < line.len()
@@ -376,7 +383,8 @@ mod anywhere {
             && line[place].is_ascii_alphanumeric()
     }
 
-    // The start and the end of the first timestamp of the line, found by trying the format at each byte.
+    // The start and the end of the first timestamp of the line, found by trying the format at each byte; `None` without
+    // one. It neither starts nor ends between two letters or digits.
     fn plain_first(line: &[u8], format: &Reading) -> Option<(usize, usize)> {
         for start in 0..line.len() {
             if is_inside(line, start) {
@@ -395,7 +403,7 @@ mod anywhere {
         None
     }
 
-    // Whether the verdict has the timestamp that `plain_first` finds.
+    // Whether the verdict rewrites the timestamp that `plain_first` finds, or finds none either.
     fn is_plain(line: &[u8], format: &Reading, writing: &Writing) -> bool {
         match verdict_on(line, format, writing).0 {
             LineAction::Rewritten { begin, end } => {
@@ -406,7 +414,7 @@ mod anywhere {
         }
     }
 
-    // Changes each byte of a line to each other byte.
+    // Changes each of the first 32 bytes of a line to each other byte.
     #[test]
     fn changed(rt: HostRuntime) -> Result<(), Fail> {
         let Ok(writing) = find_writing(b"unix") else {
@@ -438,6 +446,7 @@ mod fronts {
     use restamp_formats::{Defaults, Reading, read};
     use time_values::OffsetDateTime;
 
+    // Texts that are changed. The last one is no timestamp before its change.
     static SAMPLES: [&[u8]; 4] = [
         b"2021-01-02T03:04:05Z x",
         b"2016-12-31t23:59:60.5+00:007",
@@ -445,6 +454,7 @@ mod fronts {
         b"0000-02-29_00:00:00.zZ+23:59",
     ];
 
+    // No defaults: a timestamp needs its own year and offset.
     const NOTHING_GIVEN: Defaults = Defaults {
         year: None,
         offset: None,
@@ -452,7 +462,8 @@ mod fronts {
         latest: None,
     };
 
-    // The moment that the bytes parse as, and how many of them match: all, or a prefix if `is_prefix`.
+    // The moment that the text parses as, and how many bytes match: all, or a prefix if `is_prefix`. `None` if it is
+    // rejected.
     fn parse_by(is_prefix: bool, text: &[u8]) -> Option<(OffsetDateTime, usize)> {
         match read(&Reading::Rfc3339, is_prefix, text, &NOTHING_GIVEN) {
             Ok(said) => Some((said.moment, said.start + said.length)),
@@ -460,7 +471,8 @@ mod fronts {
         }
     }
 
-    // The moment of the shortest prefix that is a timestamp by itself, and the length of that prefix.
+    // The moment of the shortest prefix that is a timestamp by itself, and the length of that prefix; `None` without
+    // one.
     fn plain_front(text: &[u8]) -> Option<(OffsetDateTime, usize)> {
         for many in 0..text.len() {
             if let Some(said) = parse_by(false, &text[..many]) {
@@ -470,7 +482,8 @@ mod fronts {
         parse_by(false, text)
     }
 
-    // Changes each byte of a text to each other byte.
+    // Changes each of the first 32 bytes of a text to each other byte. The prefix that is parsed is the shortest
+    // timestamp.
     #[test]
     fn changed(rt: HostRuntime) {
         for sample in &SAMPLES {

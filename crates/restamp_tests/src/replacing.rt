@@ -9,16 +9,19 @@ use std::alloc::Global;
 use std::io;
 use std::io::ErrorKind;
 
-/// The names of the file, of a new file beside it, and of the backup.
+/// The name of the file that is replaced.
 pub const NAME: &str = "f";
 
+/// The first name that is tried for the new file.
 pub const TEMPORARY: &str = ".f.restamp-0";
 
+/// The name of the backup.
 pub const BACKUP: &str = "f.old";
 
-/// The bytes of the file, and the rewritten bytes.
+/// The bytes of the file: a line that is rewritten, and one that isn't.
 pub const OLD: &[u8] = b"@a\nb\n";
 
+/// The bytes of the file once `OLD` is rewritten.
 pub const NEW: &[u8] = b"nowa\nb\n";
 
 /// No call fails.
@@ -34,7 +37,7 @@ pub const NO_FAULTS: Faults = Faults {
 /// How a file was replaced, or why it wasn't.
 pub type Ended = Result<Made, Unreplaced<Stop>>;
 
-/// Adds a file of that number, name and bytes, on the disk.
+/// Adds a file of that number, name and bytes, on the disk, as three events. It is an error if memory is short.
 pub fn add(
     alloc: Global,
     folder: &mut Memory,
@@ -48,14 +51,15 @@ pub fn add(
     folder.note(Event::Synced, false)
 }
 
-/// A folder whose file has those bytes, on the disk.
+/// A folder whose only file has the name `NAME`, the number 1 and those bytes, on the disk.
 pub fn folder_of(alloc: Global, bytes: &[u8], faults: Faults) -> io::Result<Memory> {
     let mut folder = Memory::new(alloc, faults);
     add(alloc, &mut folder, 1, NAME, bytes)?;
     Ok(folder)
 }
 
-/// Replaces the file by its processed lines.
+/// Replaces the file `NAME` by its lines, processed by [`Marks`] and those settings. If there is a name for a backup,
+/// the old file is kept under it.
 pub fn replace_by(
     alloc: Global,
     folder: &mut Memory,
@@ -73,12 +77,13 @@ pub fn replace_by(
     ended
 }
 
-/// Replaces the file by its processed lines, without stopping at a rejected line.
+/// Replaces the file `NAME` by its lines, processed by [`Marks`], without stopping at a rejected line. If there is a
+/// name for a backup, the old file is kept under it.
 pub fn replace(alloc: Global, folder: &mut Memory, backup: Option<&str>) -> Ended {
     replace_by(alloc, folder, ALL, backup)
 }
 
-/// Whether that step failed with an error of that kind.
+/// Whether replacing a file ended at that step, with an error of that kind.
 pub fn is_failed(ended: &Ended, step: Step, kind: ErrorKind) -> bool {
     match ended {
         Err(Unreplaced::Failed(at, error)) => *at == step && error.kind() == kind,
@@ -110,8 +115,10 @@ mod ends {
     use std::io::ErrorKind;
     use std::test::Fail;
 
+    // The bytes of another file.
     const OTHER: &[u8] = b"other";
 
+    // Processing stops at the first rejected line.
     const STRICT: Settings<'static> = Settings {
         output: Output::AllLines,
         suffix: b"",
@@ -119,7 +126,8 @@ mod ends {
         strict: true,
     };
 
-    // Whether the name leads to the old file with those bytes, and no new file is left.
+    // Whether `NAME` leads to the old file, which has the number 1, with those bytes, and the first name for a new file
+    // leads to no file.
     fn is_untouched(events: &[Event], bytes: &[u8]) -> bool {
         leads(events, NAME) == Some(1)
             && has(events, NAME, bytes)
@@ -178,8 +186,8 @@ mod ends {
         Ok(())
     }
 
-    // The result of replacing a file of those bytes, by those settings and with those faults; `None` unless the file is
-    // then unchanged and the backup's name leads to no file.
+    // The result of replacing a file of those bytes, with a backup, by those settings and with those faults; `None`
+    // unless the file is then unchanged and the backup's name leads to no file. It is an error if memory is short.
     fn ended_untouched(
         alloc: Global,
         bytes: &[u8],
@@ -296,8 +304,9 @@ mod failures {
     // How many calls fail from one on, and whether they take effect before they fail.
     static WAYS: [(u64, bool); 4] = [(1, false), (u64::MAX, false), (1, true), (u64::MAX, true)];
 
-    // The file that the name leads to after a crash. The crash loses those events since the last sync whose bits in
-    // `lost` are set; the last event has the lowest bit.
+    // The file that the name leads to after a crash, `None` if it leads to none. The events are those before the crash,
+    // the last first. The crash loses those events since the last sync whose bits in `lost` are set; the last event has
+    // the lowest bit.
     fn left(events: &[Event], lost: u64, name: &str) -> Option<u64> {
         let mut lost = lost;
         for event in events {
@@ -352,7 +361,7 @@ mod failures {
         (0..ways(events)).all(|lost| is_whole(events, lost, backup))
     }
 
-    // Whether a crash after each event, from the third on, leaves the file whole.
+    // Whether a crash after each event, from the third on, leaves the file whole. The first three add the file.
     fn is_always_safe(events: &[Event], backup: Option<&str>) -> bool {
         for past in 0..events.len().saturating_sub(2) {
             if !is_safe(&events[past..], backup) {
@@ -363,7 +372,9 @@ mod failures {
     }
 
     // Whether a run whose call for that step fails ends with that step and error, and leaves the expected files: the
-    // new bytes if they have replaced the old ones, and no temporary name if it could be removed.
+    // new bytes if they have replaced the old ones, no temporary name if it could be removed, and, after a single
+    // failure without effect, the backup only if the old bytes are replaced. A crash after any of its events must leave
+    // the file whole too.
     fn fails_well(
         alloc: Global,
         backup: Option<&str>,
@@ -386,7 +397,8 @@ mod failures {
         )
     }
 
-    // How many of the runs fail as expected if the call for each step fails in turn.
+    // How many of the runs fail as expected if the call for each step fails in turn, or, by `faults`, several from it
+    // on.
     fn count_failing_well(
         alloc: Global,
         backup: Option<&str>,

@@ -5,11 +5,14 @@ use restamp_stream::{Block, LineAction, Rewriting, Stream};
 use std::alloc::Global;
 use time_values::text::Text;
 
+// The line, without an LF.
 static LINE: &[u8] = b"abcdefghijklmnopqrstuvwxyz0123456789ABCDEFGHIJ";
 
+// The text, of 35 bytes, which is the most that a `Text` contains.
 static TEXT: &[u8] = b"KLMNOPQRSTUVWXYZ+-*/=<>()[]{}!?.,:;";
 
-// Replaces the byte at `place` by the text.
+// Replaces the byte at `place` by the text. A line without that byte has no timestamp. A text of more than 35 bytes
+// rejects the line.
 #[derive(Clone, Copy)]
 struct At {
     place: usize,
@@ -55,6 +58,7 @@ impl Rewriting for At {
     }
 }
 
+// The output, the log and the counts of processing `LINE` by `at`.
 fn answer(alloc: Global, at: &At) -> Answer {
     let out = Counted::new(Page::new(alloc, NEVER));
     let log = Counted::new(Page::new(alloc, NEVER));
@@ -64,7 +68,7 @@ fn answer(alloc: Global, at: &At) -> Answer {
     Answer::new(stream, ended)
 }
 
-// Whether `out` is the line with the byte at `place` replaced by the text.
+// Whether `out` is `LINE` with the byte at `place` replaced by the text.
 fn is_spliced(out: &[u8], at: &At) -> bool {
     let (Some(front), Some(behind)) = (LINE.get(..at.place), LINE.get(at.place..)) else {
         return false;

@@ -9,7 +9,8 @@ use std::io::{ErrorKind, Read, Write};
 use time_values::text::Text;
 
 /// The first byte of a line decides its action: `@` is replaced by `now`, `#` drops the line, `!` rejects it, and `=`
-/// inserts `now` after the front.
+/// inserts `now` after the front, which is the first `LIMIT` bytes of the line. A line that is empty or starts with
+/// another byte has no timestamp. The reason of a rejected line is `bad`, at column 1.
 pub struct Marks;
 
 impl Rewriting for Marks {
@@ -57,8 +58,8 @@ impl Rewriting for Marks {
     }
 }
 
-/// Bytes that are read at most `most` at a time. If `interrupts` is true, every second read is interrupted. One read
-/// may fail.
+/// Bytes that are read at most `most` at a time. Reads are counted from 0 in `reads`. If `interrupts` is true, each
+/// read with an odd number is interrupted. The read with the number `fails_at` fails with the text `no read`.
 #[derive(Drop)]
 pub struct Source<'a> {
     bytes: &'a [u8],
@@ -85,9 +86,10 @@ impl Read for Source<'_> {
     }
 }
 
-/// The number of a read or write that is never made.
+/// The number of a read or write that is never made. As the most bytes of a read it is no limit.
 pub const NEVER: usize = 1000000;
 
+/// A source of these bytes, of which a read returns at most `most`. No read fails or is interrupted.
 pub fn make_source(bytes: &[u8], most: usize) -> Source<'_> {
     Source {
         bytes,
@@ -98,7 +100,8 @@ pub fn make_source(bytes: &[u8], most: usize) -> Source<'_> {
     }
 }
 
-/// Stores what is written, until a write fails.
+/// Stores what is written. Writes are counted from 0 in `writes`. The write with the number `fails_at`, and each later
+/// one, fails with the text `no write`.
 #[derive(Drop)]
 pub struct Page {
     text: Vec<u8>,
@@ -107,6 +110,7 @@ pub struct Page {
 }
 
 impl Page {
+    /// No bytes yet. The write with the number `fails_at`, from 0, is the first that fails.
     pub fn new(alloc: Global, fails_at: usize) -> Page {
         Page {
             text: Vec::new(alloc),
@@ -131,6 +135,7 @@ impl Write for Page {
     }
 }
 
+/// All lines are written, and each rejected line is reported. Processing doesn't stop at it.
 pub const ALL: Settings<'static> = Settings {
     output: Output::AllLines,
     suffix: b"",
@@ -138,7 +143,7 @@ pub const ALL: Settings<'static> = Settings {
     strict: false,
 };
 
-/// Only the new timestamps are written.
+/// Only the new timestamps are written, each on a line, and nothing is reported.
 pub const TIMES: Settings<'static> = Settings {
     output: Output::Times,
     suffix: b"",
@@ -146,7 +151,7 @@ pub const TIMES: Settings<'static> = Settings {
     strict: false,
 };
 
-/// What was written, logged and counted, and how it ended.
+/// What was written, logged and counted, and how processing ended.
 #[derive(Drop)]
 pub struct Answer {
     pub out: Vec<u8>,
@@ -171,13 +176,13 @@ impl Answer {
         }
     }
 
-    /// Whether it ended with that result, and those bytes were written and logged.
+    /// Whether processing ended with that result, and those bytes were written and logged.
     pub fn is(&self, ended: Result<(), Stop>, out: &[u8], log: &[u8]) -> bool {
         self.ended == ended && self.out.as_slice() == out && self.log.as_slice() == log
     }
 }
 
-/// Processes the bytes of a source as a file of the name `f`, with those pages for the output and the log.
+/// Processes the bytes of a source by [`Marks`] as a file of the name `f`, with those pages for the output and the log.
 pub fn answer_on(out: Page, log: Page, settings: Settings<'_>, source: Source<'_>) -> Answer {
     let mut stream = Stream::new(Counted::new(out), Counted::new(log));
     let mut source = Counted::new(source);
@@ -185,7 +190,7 @@ pub fn answer_on(out: Page, log: Page, settings: Settings<'_>, source: Source<'_
     Answer::new(stream, ended)
 }
 
-/// Processes the bytes of a source as a file of the name `f`. No write fails.
+/// Processes the bytes of a source by [`Marks`] as a file of the name `f`. No write fails.
 pub fn answer_to(alloc: Global, settings: Settings<'_>, source: Source<'_>) -> Answer {
     let out = Page::new(alloc, NEVER);
     let log = Page::new(alloc, NEVER);
@@ -197,6 +202,7 @@ mod lines {
     use crate::stream::{ALL, NEVER, Source, TIMES, answer_to, make_source};
     use restamp_stream::{Output, Reports, Settings, Tally};
 
+    // Only rewritten lines are written, and nothing is reported.
     const REWRITTEN: Settings<'static> = Settings {
         output: Output::RewrittenLines,
         suffix: b"",
@@ -204,12 +210,13 @@ mod lines {
         strict: false,
     };
 
-    // New timestamps with their zone, in their lines and alone.
+    // All lines are written, with the suffix after each new timestamp.
     const WITH_ZONE: Settings<'static> = Settings {
         suffix: b"[+01:00]",
         ..ALL
     };
 
+    // Only the new timestamps are written, with the suffix after each.
     const ZONE_ALONE: Settings<'static> = Settings {
         suffix: b"[+01:00]",
         ..TIMES
@@ -273,6 +280,7 @@ mod lines {
         }
     }
 
+    // The counts of the seven lines of the test `counts`.
     const COUNTS: Tally = Tally {
         line: 7,
         refused_here: 2,
@@ -415,6 +423,7 @@ mod failures {
     use crate::stream::{ALL, NEVER, Page, Source, answer_on, answer_to, make_source};
     use restamp_stream::{Output, Reports, Settings, Stop};
 
+    // Processing stops at the first rejected line, which is reported and isn't written.
     const STRICT: Settings<'static> = Settings {
         output: Output::AllLines,
         suffix: b"",
@@ -422,8 +431,8 @@ mod failures {
         strict: true,
     };
 
-    // Which read fails, and the output. The reads are `@a`, LF `@`, `b` `!`, LF `#`, `c` LF and `d`: whole lines are
-    // processed before the next read.
+    // Which read fails, from 0, and the output before it. The reads are `@a`, LF `@`, `b` `!`, LF `#`, `c` LF and `d`:
+    // whole lines are processed before the next read.
     static READS: [(usize, &[u8]); 6] = [
         (0, b""),
         (1, b""),
@@ -446,7 +455,8 @@ mod failures {
         }
     }
 
-    // Which write of the output fails, and which of a report: the name, the line's number, the reason and LF.
+    // Which write of the output fails, from 0, and which of a report: the name, the line's number, the reason and LF.
+    // `NEVER` if none does.
     static WRITES: [(usize, usize); 6] = [
         (0, NEVER),
         (1, NEVER),
@@ -506,7 +516,7 @@ mod files {
         }
     }
 
-    // Opens these files, and counts those that were not opened or not read to their end.
+    // Opens the files of `source_of`, and counts in `faults` those that were not opened or not read to their end.
     #[derive(Drop)]
     struct Shelf {
         faults: u64,
@@ -536,8 +546,11 @@ mod files {
         }
     }
 
+    // The names of the files in the order in which they are processed. The second one doesn't exist, and contains a
+    // control byte.
     const NAMES: [&[u8]; 4] = [b"a", b"no\x1bne", b"half", b"b"];
 
+    // The counts of all files. `line` and `refused_here` are those of the last file.
     const COUNTS: Tally = Tally {
         line: 2,
         refused_here: 1,
@@ -628,11 +641,11 @@ mod names {
             ),
             (
                 1,
-                b"a\\x1b\\x0a\xff:1:1: bad\na\\x1b\\x0a\xff: 1 more line was refused\n".as_slice(),
+                b"a\\x1b\\x0a\xff:1:1: bad\na\\x1b\\x0a\xff: 1 more line was rejected\n".as_slice(),
             ),
             (
                 0,
-                b"a\\x1b\\x0a\xff: 2 more lines were refused\n".as_slice(),
+                b"a\\x1b\\x0a\xff: 2 more lines were rejected\n".as_slice(),
             ),
         ] {
             let settings = Settings {
@@ -663,17 +676,17 @@ mod reports {
     use crate::stream::{ALL, answer_to, make_source};
     use restamp_stream::{Reports, Settings, Stop, Tally, status};
 
-    // Which of three rejected lines are reported, and the log.
+    // How many rejected lines are reported at most, and the log of an input with rejected lines 1, 3 and 4.
     static LOGS: [(Reports, &[u8]); 6] = [
         (Reports::Quiet, b""),
-        (Reports::First(0), b"f: 3 more lines were refused\n"),
+        (Reports::First(0), b"f: 3 more lines were rejected\n"),
         (
             Reports::First(1),
-            b"f:1:1: bad\nf: 2 more lines were refused\n",
+            b"f:1:1: bad\nf: 2 more lines were rejected\n",
         ),
         (
             Reports::First(2),
-            b"f:1:1: bad\nf:3:1: bad\nf: 1 more line was refused\n",
+            b"f:1:1: bad\nf:3:1: bad\nf: 1 more line was rejected\n",
         ),
         (Reports::First(3), b"f:1:1: bad\nf:3:1: bad\nf:4:1: bad\n"),
         (

@@ -11,6 +11,7 @@ use time_values::error::{Parse, ParseFromDescription};
 use time_zones::SuffixFault::{self, CriticalKey, OtherOffset, UnknownZone};
 use time_zones::Zones;
 
+// No defaults: a timestamp needs its own year and offset.
 const NOTHING_GIVEN: Defaults = Defaults {
     year: None,
     offset: None,
@@ -18,14 +19,15 @@ const NOTHING_GIVEN: Defaults = Defaults {
     latest: None,
 };
 
-// The format, with the zone Europe/Berlin.
+// RFC 3339 with a suffix of RFC 9557. The only zone is Europe/Berlin. `None` if memory is short.
 fn zoned(alloc: Global) -> Option<Reading> {
     let mut zones = Zones::new(alloc);
     zones.insert("Europe/Berlin", berlin(alloc)?).ok()?;
     Some(Reading::Zoned(zones))
 }
 
-// The result of parsing: the seconds since 1970 and how many bytes match, or why the timestamp is rejected.
+// The result of parsing: the seconds since 1970 and how many bytes match; bytes remain after the timestamp; its suffix
+// is rejected; or another error.
 #[derive(Clone, Copy, Debug, PartialEq, Eq)]
 enum Answer {
     Parses(i64, usize),
@@ -34,6 +36,7 @@ enum Answer {
     Otherwise,
 }
 
+// The result of parsing the text: a prefix of it if `is_prefix`, and otherwise the whole.
 fn answer_of(reading: &Reading, is_prefix: bool, text: &[u8]) -> Answer {
     match read(reading, is_prefix, text, &NOTHING_GIVEN) {
         Ok(said) => Answer::Parses(said.moment.unix_timestamp(), said.start + said.length),
@@ -47,13 +50,16 @@ fn answer_of(reading: &Reading, is_prefix: bool, text: &[u8]) -> Answer {
     }
 }
 
-// Seconds of 2026-11-27T14:00:00Z and 15:00:00Z, and of 2026-07-27T13:00:00Z, as `date` of coreutils counts them.
+// 2026-11-27T14:00:00Z in seconds since 1970, as `date` of coreutils counts them.
 const TWO: i64 = 1_795_788_000;
 
+// 2026-11-27T15:00:00Z in seconds since 1970, as `date` of coreutils counts them.
 const THREE: i64 = 1_795_791_600;
 
+// 2026-07-27T13:00:00Z in seconds since 1970, as `date` of coreutils counts them.
 const SUMMER: i64 = 1_785_157_200;
 
+// Whether a prefix suffices, a text, and the result.
 type Row = (bool, &'static [u8], Answer);
 
 static ROWS: [Row; 18] = [
@@ -155,7 +161,7 @@ fn suffixes(rt: HostRuntime) {
     }
 }
 
-// The column of the error in a line that should be a timestamp as a whole; 0 without an error.
+// The column, from 1, of the error in a line that should be a timestamp as a whole; 0 without an error.
 fn error_column<'a>(reading: &'a Reading, writing: &'a Writing, line: &[u8]) -> usize {
     let job = Job {
         place: Some(Place::Whole),
@@ -179,8 +185,8 @@ fn error_column<'a>(reading: &'a Reading, writing: &'a Writing, line: &[u8]) -> 
     }
 }
 
-// The error of a suffix that rejects its timestamp is at the start of the suffix. The error of bytes after a suffix is
-// at the first of them.
+// A line, and the column of its error, from 1; 0 without an error. The error of a suffix that rejects its timestamp is
+// at the start of the suffix. The error of bytes after a suffix is at the first of them.
 static COLUMNS: [(&'static [u8], usize); 6] = [
     (b"2026-11-27T15:00:00+01:00[Europe/Berlin]", 0),
     (b"2026-11-27T15:00:00+01:00[Europe/Bern]", 26),

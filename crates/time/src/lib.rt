@@ -1,4 +1,4 @@
-//! Parses, formats and computes with dates and times, by the paths of the Rust crate `time`.
+//! Parses, formats and computes with dates and times. Many items have the path that they have in the Rust crate `time`.
 //!
 //! Each item is defined in a crate below, which its `use` line names, and keeps its contract.
 #![tactic(auto)]
@@ -8,8 +8,9 @@ pub use time_values::{
     UtcOffset, Weekday,
 };
 
-/// An item of a description: `item!("-")`, a component with the modifiers that a description need not name as
-/// `item!(Day)`, or one with others as `item!(Hour24 { padding: Padding::None })`.
+/// An item of a description: a literal as `item!("-")`, a component with default modifiers as `item!(Day)`, or one with
+/// some modifiers set as `item!(Hour24 { padding: Padding::None })`. An `Ignore`, which has no default modifiers, can't
+/// be written so.
 ///
 /// It is the macro of `time_components`, which a crate that names only this one can't call.
 #[macro_export]
@@ -36,7 +37,7 @@ macro_rules! item {
     };
 }
 
-/// The traits that give values and formats their calls.
+/// The traits whose methods parse texts, locate errors and inspect items.
 pub mod prelude {
     pub use time_components::Inspect;
     pub use time_locating::Locate;
@@ -44,7 +45,7 @@ pub mod prelude {
     pub use time_record::AnyFormatItem;
 }
 
-/// The errors.
+/// The types of errors.
 pub mod error {
     pub use time_descriptions::{InvalidFormatDescription, OwnedError};
     pub use time_formatting::{Unformattable, Unwritable};
@@ -89,7 +90,7 @@ pub mod describing {
     pub use time_descriptions::{DescriptionText, NoText, description_of, is_described, text_of};
 }
 
-/// Texts of moments. None takes memory: a text is an array and a length.
+/// Texts of moments. None allocates: a text is an array and a length.
 pub mod formatting {
     pub use time_formatting::{
         FractionDigits, format, text_2822, text_3339, text_8601, text_8601_basic,
@@ -97,7 +98,7 @@ pub mod formatting {
     pub use time_values::text::Text;
 }
 
-/// What texts are parsed by, and the record of what was parsed.
+/// Traits and functions that parse texts, and `Parsed`, the record of the components that were parsed.
 pub mod parsing {
     pub use time_components::component;
     pub use time_digits::{Integer, Padding, ParsedItem, Sign};
@@ -126,7 +127,7 @@ pub mod preparing {
     pub use time_preparing::{Prepared, Unprepared, whole};
 }
 
-/// Where a rejected text fails, and what was expected there.
+/// The byte index at which a rejected text fails, and what was expected there.
 pub mod locating {
     pub use time_locating::{Expected, Locate, Located, locate_error};
 }

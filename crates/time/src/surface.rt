@@ -1,8 +1,8 @@
-//! Each exported item by its path here and by that of its own crate. Where a path is missing, or leads to another item, this
-//! doesn't compile. A module that is exported whole is named by one of its items.
+//! Each exported item by its path here and by that of its own crate. Where a path is missing, or leads to another item,
+//! this doesn't compile. A module that is exported whole is named by one of its items.
 use crate as here;
 
-// Values.
+// The types of values are those of `time_values`.
 fn values(
     its: (
         here::Date,
@@ -31,7 +31,7 @@ fn values(
     its
 }
 
-// Errors of values and of parsing.
+// The types of errors of values and of parsing are those of `time_values`.
 fn errors(
     its: (
         here::error::ComponentRange,
@@ -52,7 +52,7 @@ fn errors(
     its
 }
 
-// Errors of descriptions and of writing.
+// The types of errors of descriptions, of preparing and of formatting are those of their crates.
 fn refusals<'a>(
     its: (
         here::error::InvalidFormatDescription<'a>,
@@ -71,12 +71,12 @@ fn refusals<'a>(
     its
 }
 
-// The error of a description that is owned.
+// The type of the error of an owned description is that of `time_descriptions`.
 fn owned_error(its: here::error::OwnedError<'_>) -> time_descriptions::OwnedError<'_> {
     its
 }
 
-// Parts of descriptions.
+// The types of the parts of descriptions are those of `time_components`.
 fn parts<'a>(
     its: (
         here::format_description::BorrowedFormatItem<'a>,
@@ -97,45 +97,46 @@ fn parts<'a>(
     its
 }
 
-// A node of a description. A function that takes one gets no proof, so the two types have one `impl` here.
+// The type of a description's node is that of `time_components`. A function with a parameter of this type gets no
+// proof, so the trait is implemented for it by its path here, and required by its other path.
 trait IsNode {}
 
 impl IsNode for here::format_description::Node<'_, u8> {}
 
 fn is_node<T: IsNode>() {}
 
-// A description that is owned.
+// The type of an owned description is that of `time_components`.
 fn owned(its: here::format_description::OwnedFormatItem) -> time_components::OwnedFormatItem {
     its
 }
 
-// A description of version 3.
+// The type of a description of version 3 is that of `time_components`.
 fn third_version(
     its: here::format_description::FormatDescriptionV3<'_>,
 ) -> time_components::FormatDescriptionV3<'_> {
     its
 }
 
-// The items of one.
+// The type of the items of a description of version 3 is that of `time_components`.
 fn third_items(
     its: here::format_description::FormatDescriptionV3Inner<'_>,
 ) -> time_components::FormatDescriptionV3Inner<'_> {
     its
 }
 
-// A description that was parsed.
+// The type of a parsed description is that of `time_descriptions`.
 fn description(its: here::format_description::Description<8>) -> time_descriptions::Description<8> {
     its
 }
 
-// The text of a description.
+// The type of a description's text is that of `time_descriptions`.
 fn description_text(
     its: here::describing::DescriptionText<8>,
 ) -> time_descriptions::DescriptionText<8> {
     its
 }
 
-// Formats.
+// The types of formats are those of `time_parsing`.
 fn formats(
     its: (
         here::format_description::well_known::Iso8601,
@@ -152,14 +153,14 @@ fn formats(
     its
 }
 
-// What is written of moments.
+// The types for texts of moments are those of `time_formatting` and `time_values`.
 fn writing(
     its: (here::formatting::FractionDigits, here::formatting::Text),
 ) -> (time_formatting::FractionDigits, time_values::text::Text) {
     its
 }
 
-// What is parsed.
+// The types that parsers use are those of their crates.
 fn parsing<'a>(
     its: (
         here::parsing::Items<'a, u8>,
@@ -180,34 +181,34 @@ fn parsing<'a>(
     its
 }
 
-// The record of what was parsed.
+// The type of the record of parsed components is that of `time_record`.
 fn record(its: here::parsing::Parsed) -> time_record::Parsed {
     its
 }
 
-// A count of items.
+// The type of the counter of visited items is that of `time_record`.
 fn tries(its: here::parsing::Tries) -> time_record::Tries {
     its
 }
 
-// A description that was prepared.
+// The type of a prepared description is that of `time_preparing`.
 fn prepared(its: here::preparing::Prepared<8>) -> time_preparing::Prepared<8> {
     its
 }
 
-// Places.
+// The types of the locations of errors are those of `time_locating`.
 fn places<'a>(
     its: (here::locating::Expected<'a>, here::locating::Located<'a>),
 ) -> (time_locating::Expected<'a>, time_locating::Located<'a>) {
     its
 }
 
-// A zone.
+// The type of a time zone is that of `time_zones`.
 fn zone(its: here::zones::TimeZone<'_>) -> time_zones::TimeZone<'_> {
     its
 }
 
-// What is read of zones.
+// The types of suffixes, and of the error of a local time, are those of `time_zones`.
 fn suffixes<'a>(
     its: (
         here::zones::NotOne,
@@ -224,7 +225,7 @@ fn suffixes<'a>(
     its
 }
 
-// Traits: what has one by its path here has it by that of its crate.
+// Traits: a type that implements one by its path here implements it by the path of its crate.
 mod traits {
     use crate as here;
 
@@ -276,7 +277,7 @@ mod traits {
     }
 }
 
-// Functions. Both paths lead to one of a type of its own.
+// Functions. Each has a type of its own, so `are_one` compiles only if both paths lead to one function.
 mod functions {
     use crate as here;
 

@@ -7,10 +7,12 @@ use time_values::{Date, OffsetDateTime, PlainDateTime, Time, Timestamp, UtcDateT
 
 /// A type of value that a text is parsed for.
 pub trait Answer: Copy {
-    /// Parses a text for such a value, without defaults.
+    /// Parses a whole text for such a value, without defaults (for `Staged` with an empty record as defaults).
     fn parse<F: Parsable>(format: &F, text: &[u8]) -> Result<Self, Parse>;
 
-    /// What the value adds to a sum.
+    /// What the value adds to a sum: the sum of its parts (year, month, day, hour, minute, second, nanosecond, and the
+    /// signed hours, minutes and seconds of an offset), or for a timestamp its nanoseconds `% 1_000_000_007`: at most 0
+    /// before 1970.
     fn weight(self) -> i64;
 }
 
@@ -100,7 +102,7 @@ impl Answer for Timestamp {
     }
 }
 
-/// A date, time and offset that are read over an empty record.
+/// A date, time and offset that are parsed with an empty record as defaults, instead of without defaults.
 #[derive(Clone, Copy)]
 pub struct Staged(OffsetDateTime);
 

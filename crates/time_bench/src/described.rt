@@ -10,7 +10,8 @@ use time_record::Parsed;
 use time_values::error::{Parse, TryFromParsed};
 use time_values::{Date, OffsetDateTime, PlainDateTime, Time};
 
-// Parses a description.
+// Parses a description: a text with a `%` as strftime's, and any other as one of version 2. `None` if it is malformed
+// or has more than 64 steps.
 fn description(text: &[u8]) -> Option<Description<64>> {
     if text.contains(&b'%') {
         return parse_strftime::<64>(text).ok();
@@ -18,7 +19,8 @@ fn description(text: &[u8]) -> Option<Description<64>> {
     parse_borrowed::<2, 64>(text).ok()
 }
 
-// A record with that year, or none for `-`.
+// A record with only that year set, or `Some(None)`, no record, for `-`. `None`: the year is no `i32`, or not from
+// -999999 to 999999.
 fn defaults(year: &str) -> Option<Option<Parsed>> {
     if year == "-" {
         return Some(None);
@@ -29,9 +31,9 @@ fn defaults(year: &str) -> Option<Option<Parsed>> {
     Some(Some(known))
 }
 
-/// A type of value that a text is parsed for over a record.
+/// A type of value for which a text is parsed over a record of defaults.
 pub trait AnswerOver: Answer + TryFrom<Parsed, Error = TryFromParsed> {
-    /// Parses a text for such a value by a prepared description, over the record.
+    /// Parses a whole text for such a value by a prepared description, with the record as defaults.
     fn parse_over(format: &Prepared<64>, text: &[u8], known: Parsed) -> Result<Self, Parse>;
 }
 
@@ -67,13 +69,13 @@ impl AnswerOver for OffsetDateTime {
     }
 }
 
-/// A description that parses a text over a record.
+/// A description that parses a text over a record of defaults.
 trait Over: Parsable {
-    /// The value of the text over the record.
+    /// The value of the whole text, parsed with the record as defaults, or the error.
     fn value_over<V: AnswerOver>(&self, text: &[u8], known: Parsed) -> Result<V, Parse>;
 }
 
-// Parses into the record, so that each parse without a record has a single call, which is then inlined.
+// It calls `parse_into`, so that each of `parse_date` and its like has a single call, which is then inlined.
 impl Over for Description<64> {
     fn value_over<V: AnswerOver>(&self, text: &[u8], known: Parsed) -> Result<V, Parse> {
         let mut record = known;
@@ -88,7 +90,8 @@ impl Over for Prepared<64> {
     }
 }
 
-// The sum over this many parses over the record.
+// The sum over this many parses of the text and its copy in turn, with the record as defaults. A value adds its weight,
+// and an error 1. The sum wraps.
 fn sum_over<V: AnswerOver, F: Over>(
     format: &F,
     known: Parsed,
@@ -111,8 +114,8 @@ fn sum_over<V: AnswerOver, F: Over>(
     sum
 }
 
-// The sum over this many parses for the target with that name, over the record if there is one. `None`: no target has
-// the name.
+// The sum over this many parses for the target with that name, with the record as defaults if there is one. `None`: no
+// target has the name. With a record the targets are only `date`, `time`, `plain` and `datetime`.
 fn sum_with<F: Over>(
     format: &F,
     known: Option<Parsed>,
@@ -135,17 +138,20 @@ fn sum_with<F: Over>(
 /// How a text is parsed.
 #[derive(Clone, Copy)]
 pub struct Case<'a> {
-    /// `prepared`, or `steps`.
+    /// `steps` to parse by the steps of the description; any other word, as `prepared`, to prepare it first.
     pub way: &'a str,
-    /// A description: with a `%` one of strftime, and any other of version 2.
+    /// A description: a text with a `%` is strftime's, and any other of version 2.
     pub description: &'a str,
-    /// The default year, or `-`.
+    /// The default year in decimal digits, from -999999 to 999999, or `-` for no defaults.
     pub year: &'a str,
-    /// The name of the target.
+    /// The name of the type that the text is parsed for, as `sum_for` lists them; with a default year only `date`,
+    /// `time`, `plain` or `datetime`.
     pub target: &'a str,
 }
 
-/// The sum over this many parses. `None`: the case is invalid.
+/// The sum over this many parses of the text and its copy in turn; a value adds its weight, and an error 1. The sum
+/// wraps. `None`: the description is malformed or has more than 64 steps, the year is neither `-` nor from -999999 to
+/// 999999, or no target has the name; with a default year only `date`, `time`, `plain` and `datetime` are targets.
 pub fn sum_of(case: Case<'_>, times: u64, texts: Texts<'_>) -> Option<i64> {
     let description = description(case.description.as_bytes())?;
     let known = defaults(case.year)?;

@@ -1,25 +1,28 @@
-//! The descriptions among the formats, equal to those of the program of lines.
+//! The descriptions that have a name as a format of `time_bench`.
 
 use time_readers::{
     BorrowedFormatItem, Component, FormatDescriptionV3, FormatDescriptionV3Inner, Padding,
     SubsecondDigits, modifier,
 };
 
-// A component that a description parses.
+// The item of a component with these modifiers.
 macro_rules! item {
     ($name:ident, $($field:ident: $value:expr),*) => {
         BorrowedFormatItem::Component(Component::$name(modifier::$name { $($field: $value),* }))
     };
 }
 
+// A year of four digits, with an optional sign.
 const YEAR: BorrowedFormatItem<'static> =
     item!(CalendarYearFullStandardRange, padding: Padding::Zero, sign_is_mandatory: false);
 
+// A second of two digits.
 const SECOND: BorrowedFormatItem<'static> = item!(Second, padding: Padding::Zero);
 
+// A minute of two digits.
 const MINUTE: BorrowedFormatItem<'static> = item!(Minute, padding: Padding::Zero);
 
-/// `2021-03-04`.
+/// The items of a date, as `2021-03-04`, with an optional sign before the year.
 pub const DATE_ITEMS: [BorrowedFormatItem<'static>; 5] = [
     YEAR,
     BorrowedFormatItem::StringLiteral("-"),
@@ -28,7 +31,7 @@ pub const DATE_ITEMS: [BorrowedFormatItem<'static>; 5] = [
     item!(Day, padding: Padding::Zero),
 ];
 
-/// `2021-01-02 03:04:05 -00:30`.
+/// The items of a date, time and offset, as `2021-01-02 03:04:05 -00:30`.
 pub const DATE_TIME_ITEMS: [BorrowedFormatItem<'static>; 15] = [
     YEAR,
     BorrowedFormatItem::StringLiteral("-"),
@@ -47,20 +50,20 @@ pub const DATE_TIME_ITEMS: [BorrowedFormatItem<'static>; 15] = [
     item!(OffsetMinute, padding: Padding::Zero),
 ];
 
-/// `2020-366`.
+/// The items of a year and a day of the year, as `2020-366`.
 pub const ORDINAL_ITEMS: [BorrowedFormatItem<'static>; 3] = [
     YEAR,
     BorrowedFormatItem::StringLiteral("-"),
     item!(Ordinal, padding: Padding::Zero),
 ];
 
-/// `.25`.
+/// The items of a dot and the one or more digits of a fraction, as `.25`.
 pub const FRACTION_ITEMS: [BorrowedFormatItem<'static>; 2] = [
     BorrowedFormatItem::StringLiteral("."),
     item!(Subsecond, digits: SubsecondDigits::OneOrMore),
 ];
 
-/// `:09`, with an optional fraction.
+/// The items of a colon and a second of two digits, as `:09`, and then `fraction`, which is made optional.
 pub fn second_items<'a>(fraction: &'a BorrowedFormatItem<'a>) -> [BorrowedFormatItem<'a>; 3] {
     [
         BorrowedFormatItem::StringLiteral(":"),
@@ -69,7 +72,8 @@ pub fn second_items<'a>(fraction: &'a BorrowedFormatItem<'a>) -> [BorrowedFormat
     ]
 }
 
-/// `1:05 PM`, with an optional second before the space.
+/// The items of a time such as `1:05 PM`, with `seconds`, which is made optional, before the space. The hour needs no
+/// padding, and `AM` or `PM` may be in any case.
 pub fn clock_items<'a>(seconds: &'a BorrowedFormatItem<'a>) -> [BorrowedFormatItem<'a>; 6] {
     [
         item!(Hour12, padding: Padding::None),
@@ -81,7 +85,7 @@ pub fn clock_items<'a>(seconds: &'a BorrowedFormatItem<'a>) -> [BorrowedFormatIt
     ]
 }
 
-/// Seconds since 1970-01-01T00:00:00Z.
+/// A description of version 3: the whole seconds since 1970-01-01T00:00:00Z, with an optional sign.
 pub const UNIX: FormatDescriptionV3<'static> = FormatDescriptionV3 {
     inner: FormatDescriptionV3Inner::Component(Component::UnixTimestampSecond(
         modifier::UnixTimestampSecond {

@@ -1,11 +1,13 @@
 //! Parses a text, or writes moments, many times, so that the instructions of one parse or text can be counted.
 //!
 //! - `time_bench FORMAT TARGET TIMES TEXT` parses by a named format, or by a description.
-//! - `time_bench describe WAY DESCRIPTION YEAR TARGET TIMES TEXT` parses by a description, `prepared` or as its `steps`. One
-//!   with a `%` is of strftime, and any other of version 2. YEAR is the default year, or `-`.
-//! - `time_bench write CASE TIMES DAY` writes moments of that day of a month.
+//! - `time_bench describe WAY DESCRIPTION YEAR TARGET TIMES TEXT` parses by a description, `prepared` or as
+//!   its `steps`. One with a `%` is of strftime, and any other of version 2. YEAR is the default year, or `-`.
+//! - `time_bench write CASE TIMES DAY` writes moments from that day of March 2021 on. DAY is from 1 to 23, and CASE is
+//!   a name that `writing::sum_of` lists.
 //!
-//! Each prints a sum that depends on each value or text.
+//! Each prints a sum to which each value or text adds a number, and each error 1. With invalid arguments it prints how
+//! it is used to standard error, and exits with 2.
 #![tactic(auto)]
 
 mod answers;
@@ -24,7 +26,8 @@ const USAGE: &str = "usage: time_bench FORMAT TARGET TIMES TEXT
        time_bench describe WAY DESCRIPTION YEAR TARGET TIMES TEXT
        time_bench write CASE TIMES DAY";
 
-// The sum of the requested texts, if the words request any.
+// The sum for the words after `write`: a case, how many texts, and a day. `None` if the words aren't three, or
+// `writing::sum_of` rejects them.
 fn written(words: &[String]) -> Option<i64> {
     let [case, times, day] = words else {
         return None;
@@ -32,7 +35,8 @@ fn written(words: &[String]) -> Option<i64> {
     writing::sum_of(case.as_str(), times.as_str(), day.as_str())
 }
 
-// The sum of the requested parses by a description, of the text and its copy, if the words request any.
+// The sum of the parses for the words after `describe`: WAY, DESCRIPTION, YEAR, TARGET, TIMES and TEXT; `copy` is a
+// copy of TEXT. `None` if the words aren't six, TIMES is no `u64`, or `described::sum_of` rejects them.
 fn parsed_by_description(words: &[String], copy: &[u8]) -> Option<i64> {
     let [way, description, year, target, times, text] = words else {
         return None;
@@ -50,7 +54,8 @@ fn parsed_by_description(words: &[String], copy: &[u8]) -> Option<i64> {
     described::sum_of(case, times.as_str().parse::<u64>().ok()?, texts)
 }
 
-// The sum of the requested parses by a named format or a description, if the words request any.
+// The sum of the parses for these words: a named format or a description, a target, how many parses, and the text;
+// `copy` is a copy of the text. `None` if the words aren't four, the number is no `u64`, or `sum_by_name` rejects them.
 fn parsed(words: &[String], copy: &[u8]) -> Option<i64> {
     let [format, target, times, text] = words else {
         return None;
@@ -63,7 +68,8 @@ fn parsed(words: &[String], copy: &[u8]) -> Option<i64> {
     sum_by_name(format.as_bytes(), target.as_bytes(), times, texts)
 }
 
-// The sum that the words request, if they do. The copy is that of the last word.
+// The sum for all words after the program's name. `None` if they are invalid, as without words. `copy` is a copy of the
+// last word.
 fn sum_of_words(words: &[String], copy: &[u8]) -> Option<i64> {
     let [first, others @ ..] = words else {
         return None;
@@ -75,7 +81,7 @@ fn sum_of_words(words: &[String], copy: &[u8]) -> Option<i64> {
     }
 }
 
-// A copy of the last word, elsewhere in memory.
+// A copy of the last word, elsewhere in memory, or an empty text if there are no words. `Err` if memory runs out.
 fn last_copied(alloc: Global, words: &[String]) -> io::Result<String> {
     match words {
         [.., last] => Ok(last.clone()?),
@@ -83,6 +89,7 @@ fn last_copied(alloc: Global, words: &[String]) -> io::Result<String> {
     }
 }
 
+// Prints the sum for the command line; or with invalid words the usage to standard error, and exits with 2.
 fn main(rt: HostRuntime) -> io::Result<ExitCode> {
     let words: Vec<String> = env::args(&rt)?.skip(1).collect(rt.alloc())?;
     let copy = last_copied(rt.alloc(), words.as_slice())?;
@@ -105,7 +112,7 @@ mod tests {
     use crate::writing;
     use std::test::Fail;
 
-    // Three texts end in `Z`, which is 90.
+    // Each of three texts ends in `Z`, the byte 90.
     #[test]
     fn written_sums(rt: HostRuntime) -> Result<(), Fail> {
         assert_eq!(rt; writing::sum_of("z", "3", "5"), Some(270));

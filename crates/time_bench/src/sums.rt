@@ -19,7 +19,8 @@ pub struct Texts<'a> {
     pub copy: &'a [u8],
 }
 
-// The sum over this many parses.
+// The sum over this many parses of the text and its copy in turn. A value adds its weight, and an error 1. The sum
+// wraps.
 fn sum<V: Answer, F: Parsable>(format: &F, times: u64, texts: Texts<'_>) -> i64 {
     let mut sum = 0i64;
     for time in 0..times {
@@ -37,7 +38,8 @@ fn sum<V: Answer, F: Parsable>(format: &F, times: u64, texts: Texts<'_>) -> i64 
     sum
 }
 
-/// The sum over this many parses for the target with that name. `None`: no target has it.
+/// The sum over this many parses of the text and its copy in turn; a value adds its weight, and an error 1. The sum
+/// wraps. `None`: the target is none of `date`, `time`, `offset`, `plain`, `utc`, `datetime`, `staged` and `timestamp`.
 pub fn sum_for<F: Parsable>(
     format: &F,
     target: &[u8],
@@ -57,7 +59,8 @@ pub fn sum_for<F: Parsable>(
     }
 }
 
-// The sum by the description of a time on a clock of 12 hours.
+// The sum, as by `sum_for`, by the description of a time of the 12-hour clock, as `1:05:09.25 PM`; the second and its
+// fraction are optional. `None`: no target has that name.
 fn sum_of_clocks(target: &[u8], times: u64, texts: Texts<'_>) -> Option<i64> {
     let fraction = BorrowedFormatItem::Compound(&FRACTION_ITEMS);
     let seconds = second_items(&fraction);
@@ -66,7 +69,8 @@ fn sum_of_clocks(target: &[u8], times: u64, texts: Texts<'_>) -> Option<i64> {
     sum_for(&BorrowedFormatItem::Compound(&items), target, times, texts)
 }
 
-// The sum by the description of a date, time and offset, or of a year and its day.
+// The sum, as by `sum_for`, by the description of a date, time and offset, or else of a year and a day of the year.
+// `None`: no target has that name.
 fn sum_of_local(target: &[u8], times: u64, texts: Texts<'_>) -> Option<i64> {
     let lists = [
         BorrowedFormatItem::Compound(&DATE_TIME_ITEMS),
@@ -75,14 +79,16 @@ fn sum_of_local(target: &[u8], times: u64, texts: Texts<'_>) -> Option<i64> {
     sum_for(&BorrowedFormatItem::First(&lists), target, times, texts)
 }
 
-// The sum by a description of version 2. `None`: it is malformed, or no target has that name.
+// The sum, as by `sum_for`, by a description of version 2. `None`: it is malformed or has more than 64 steps, or no
+// target has that name.
 fn sum_of_text(description: &[u8], target: &[u8], times: u64, texts: Texts<'_>) -> Option<i64> {
     let description = parse_borrowed::<2, 64>(description).ok()?;
     sum_for(&description, target, times, texts)
 }
 
-/// The sum over this many parses of the text and its copy in turn. A format that isn't a name is a description. `None`:
-/// it is malformed, or no target has that name.
+/// The sum over this many parses of the text and its copy in turn. A format that is none of `rfc3339`, `rfc2822`,
+/// `iso8601`, `ymd`, `clock`, `unix` and `local` is a description of version 2. `None`: it is malformed or has more
+/// than 64 steps, or no target has that name.
 ///
 /// A value adds its parts, a timestamp its nanoseconds modulo 1,000,000,007, and an error 1. The sum wraps.
 pub fn sum_by_name(format: &[u8], target: &[u8], times: u64, texts: Texts<'_>) -> Option<i64> {

@@ -1,4 +1,4 @@
-//! Sums over the texts of four moments that are written in turn.
+//! Sums over the texts, or the seconds or days, of four moments in turn.
 //!
 //! The day is an argument, and the moments are in an array, so that the compiler can't hoist a part of a text out of
 //! the loop.
@@ -6,7 +6,8 @@
 use time_formatting::{FractionDigits, Text, Unwritable, text_2822, text_3339};
 use time_values::{Date, Month, OffsetDateTime, Time, UtcOffset};
 
-// The moment, or `None` where a number is out of range.
+// The moment on that day of March 2021, at 4 minutes, 5 seconds and these nanoseconds past the hour `day`, with an
+// offset of these minutes. `None` if a number is out of range.
 fn moment(day: u8, nanosecond: u32, minutes: i8) -> Option<OffsetDateTime> {
     let Ok(date) = Date::from_calendar_date(2021, Month::March, day) else {
         return None;
@@ -20,7 +21,8 @@ fn moment(day: u8, nanosecond: u32, minutes: i8) -> Option<OffsetDateTime> {
     Some(OffsetDateTime::new_in_offset(date, time, offset))
 }
 
-// Four moments, or `None` where a number is out of range.
+// Four moments as by `moment`, from `day` on: each is a day and an hour after the one before, or equal to it from day
+// 20 on. `None` if a number is out of range.
 fn moments(day: u8, nanosecond: u32, minutes: i8) -> Option<[OffsetDateTime; 4]> {
     let second = if day < 20 { day + 1 } else { day };
     let third = if second < 20 { second + 1 } else { second };
@@ -33,7 +35,8 @@ fn moments(day: u8, nanosecond: u32, minutes: i8) -> Option<[OffsetDateTime; 4]>
     ])
 }
 
-// What a text adds to the sum. It isn't inlined, so that the whole text is written.
+// What a text adds to the sum: the value of its last byte, 0 for an empty text, or 1 for an error. It isn't inlined, so
+// that the whole text is written.
 #[inline(never)]
 fn weight(text: Result<Text, Unwritable>) -> i64 {
     match text {
@@ -42,7 +45,8 @@ fn weight(text: Result<Text, Unwritable>) -> i64 {
     }
 }
 
-// The sum over this many texts of RFC 3339.
+// The sum of the weights of this many RFC 3339 texts with these digits of the fraction, of the moments in turn. It
+// wraps.
 #[inline(never)]
 fn sum(times: u64, values: &[OffsetDateTime; 4], digits: FractionDigits) -> i64 {
     let mut sum = 0i64;
@@ -53,7 +57,7 @@ fn sum(times: u64, values: &[OffsetDateTime; 4], digits: FractionDigits) -> i64 
     sum
 }
 
-// The sum over this many mail dates.
+// The sum of the weights of this many RFC 2822 texts, of the moments in turn. It wraps.
 #[inline(never)]
 fn mail_sum(times: u64, values: &[OffsetDateTime; 4]) -> i64 {
     let mut sum = 0i64;
@@ -64,7 +68,7 @@ fn mail_sum(times: u64, values: &[OffsetDateTime; 4]) -> i64 {
     sum
 }
 
-// The sum of seconds since 1970.
+// The sum of the whole seconds since 1970-01-01T00:00:00Z of this many moments in turn. It wraps.
 #[inline(never)]
 fn second_sum(times: u64, values: &[OffsetDateTime; 4]) -> i64 {
     let mut sum = 0i64;
@@ -75,7 +79,7 @@ fn second_sum(times: u64, values: &[OffsetDateTime; 4]) -> i64 {
     sum
 }
 
-// The sum of days alone: the cost of the loop and of building the moments.
+// The sum of the days of the month of this many moments in turn. It costs what the loop and the moments alone cost.
 #[inline(never)]
 fn day_sum(times: u64, values: &[OffsetDateTime; 4]) -> i64 {
     let mut sum = 0i64;
@@ -86,6 +90,9 @@ fn day_sum(times: u64, values: &[OffsetDateTime; 4]) -> i64 {
     sum
 }
 
+// The sum for the case of this name, over `times` moments. `mail` writes RFC 2822, `none` adds days and `unix` seconds,
+// and the others write RFC 3339 with various fractions and offsets. `None`: there is no such case, or `day` isn't from
+// 1 to 23.
 fn sum_by_name(name: &[u8], times: u64, day: u8) -> Option<i64> {
     match name {
         b"none" => Some(day_sum(times, &moments(day, 0, 0)?)),
@@ -117,7 +124,10 @@ fn sum_by_name(name: &[u8], times: u64, day: u8) -> Option<i64> {
     }
 }
 
-/// The sum over this many texts of that case, of moments on that day of a month. `None`: there is no such case.
+/// The sum over `times` moments, four from that day of March 2021 on in turn: of the last bytes of their texts (1 for
+/// an error), for `unix` of their Unix seconds, and for `none` of their days of the month. The cases are these two,
+/// `mail` for RFC 2822, and `z`, `auto`, `nine`, `micro`, `behind` and `exact0` for RFC 3339. The sum wraps. `None`:
+/// there is no such case, `times` is no `u64`, or `day` isn't from 1 to 23.
 pub fn sum_of(case: &str, times: &str, day: &str) -> Option<i64> {
     let times = times.parse::<u64>().ok()?;
     let day = day.parse::<u8>().ok()?;

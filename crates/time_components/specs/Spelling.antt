@@ -27,12 +27,13 @@ period_name true Pm = codes "PM"
 period_name false Am = codes "am"
 period_name false Pm = codes "pm"
 
--- The text is the name: letter by letter if the case matters, and otherwise in any ASCII case.
+-- The text is the whole name: byte by byte if the case matters (the flag), and otherwise in any ASCII case.
 abbrev pub IsNamed : Bool → List ℕ → List ℕ → Type 0
 IsNamed true name text = text ≡ name
 IsNamed false name text = str_to_ascii_lowercase text ≡ str_to_ascii_lowercase name
 
--- the value of a component's text
+-- The value that a component's text spells, `nothing` for `Ignore` and `End`. Fractions of a second and timestamps are
+-- in nanoseconds.
 pub data Value : Type 0 where
   number : ℕ → Value
   signed : ℤ → Value
@@ -47,11 +48,11 @@ pub data Value : Type 0 where
 abbrev pub signed_value : Sign × ℕ → Value
 signed_value v = signed (signed_by (is_negative v.0) (pos v.1))
 
--- the number with that sign, and whether the sign is a minus
+-- the value of a sign and a number: the number with that sign, and whether the sign is `-`
 abbrev pub flagged_value : Sign × ℕ → Value
 flagged_value v = flagged (signed_by (is_negative v.0) (pos v.1)) (is_negative v.0)
 
--- the number of units with that sign
+-- the value of a sign and a number: the number times `unit`, with that sign
 abbrev pub scaled_value : ℕ → Sign × ℕ → Value
 scaled_value unit v = signed (signed_by (is_negative v.0) (pos (v.1 * unit)))
 
@@ -59,7 +60,7 @@ scaled_value unit v = signed (signed_by (is_negative v.0) (pos (v.1 * unit)))
 abbrev pub positive : ℕ → Value
 positive n = signed (pos n)
 
--- The text spells something in the form, and the value is what the function maps it to.
+-- The text spells some `a` of type `A` by the relation `S`, and the value is `says a`.
 abbrev pub HasMappedValue : {A : Type 0} → (A → Value) → Form A → Form Value
 HasMappedValue {A} says S text rest value = (a : A) × (value ≡ says a) × S text rest a
 
@@ -69,52 +70,56 @@ IsSigned mandatory behind alone text rest v =
     ((tail : List ℕ) × (text ≡ sign_byte v.0 ∷ tail) × behind tail rest v.1)
     ⊎ ((mandatory ≡ false) × (v.0 ≡ Positive) × alone text rest v.1)
 
--- four digits, or a sign and four to `most` digits, with the padding
+-- The text is a year: four digits, unless a sign is mandatory, or a sign and four to `most` digits, both with the
+-- padding. The value is the number, negative after `-`.
 abbrev pub SpellsYear : Bool → Padding → ℕ → Form Value
 SpellsYear mandatory padding most =
     HasMappedValue signed_value (IsSigned mandatory (IsPaddedRun padding 4 most) (IsPaddedRun padding 4 4))
 
--- one or two digits, or a sign and two to `most` digits with the padding
+-- The text is a century: one or two digits, whatever the padding, unless a sign is mandatory, or a sign and two to
+-- `most` digits with the padding. The value is the number, negative after `-`, and whether the sign is `-`.
 abbrev pub SpellsCentury : Bool → Padding → ℕ → Form Value
 SpellsCentury mandatory padding most =
     HasMappedValue flagged_value (IsSigned mandatory (IsPaddedRun padding 2 most) (IsDigitRun 1 2))
 
--- two digits with the padding, with or without a sign
+-- The text is two digits with the padding, after a sign, or without one unless it is mandatory. The value is the
+-- number, negative after `-`, and whether the sign is `-`.
 abbrev pub SpellsOffsetHour : Bool → Padding → Form Value
 SpellsOffsetHour mandatory padding =
     HasMappedValue flagged_value (IsSigned mandatory (IsPaddedRun padding 2 2) (IsPaddedRun padding 2 2))
 
--- up to `most` digits, with or without a sign, in units of `unit` nanoseconds
+-- The text is 1 to `most` digits, after a sign, or without one unless it is mandatory. The value is the number times
+-- `unit`, negative after `-`: a time in nanoseconds, of a number in units of `unit` nanoseconds.
 abbrev pub SpellsTimestamp : ℕ → Bool → ℕ → Form Value
 SpellsTimestamp unit mandatory most =
     HasMappedValue (scaled_value unit) (IsSigned mandatory (IsDigitRun 1 most) (IsDigitRun 1 most))
 
--- a run of exactly `places` places with the padding, whose value isn't 0
+-- The text is a number in `places` places with the padding (1 to `places` digits without padding), and isn't 0.
 abbrev pub IsPositiveRun : Padding → ℕ → Form ℕ
 IsPositiveRun padding places text rest n = IsPaddedRun padding places places text rest n × (0 < n)
 
--- the whole name of a value
+-- The text is the whole name of the value, in any ASCII case unless the case matters.
 abbrev pub IsNameOf : {A : Type 0} → Bool → (A → List ℕ) → Form A
 IsNameOf case_sensitive name text rest a = IsNamed case_sensitive (name a) text
 
--- the first three letters of the name of a value
+-- The text is the first three letters of the value's name, in any ASCII case unless the case matters.
 abbrev pub IsShortOf : {A : Type 0} → Bool → (A → List ℕ) → Form A
 IsShortOf case_sensitive name text rest a = IsNamed case_sensitive (take 3 (name a)) text
 
--- the number of a value, in two places with the padding
+-- The text is the number of the value, in two places with the padding (one or two digits without padding).
 abbrev pub IsNumberOf : {A : Type 0} → Padding → (A → ℕ) → Form A
 IsNumberOf padding number_of text rest a = IsPaddedRun padding 2 2 text rest (number_of a)
 
--- the digit of the number 0: `1` if numbers are one-indexed, and otherwise `0`
+-- the byte of the digit for the number 0: `1` if numbers are one-indexed, and otherwise `0`
 abbrev pub first_digit : Bool → ℕ
 first_digit true = 49
 first_digit false = 48
 
--- the digit of the number of a value
+-- The text is one digit: the number of the value, plus 1 if numbers are one-indexed.
 abbrev pub IsDigitOf : {A : Type 0} → Bool → (A → ℕ) → Form A
 IsDigitOf one_indexed number_of text rest a = text ≡ (first_digit one_indexed + number_of a) ∷ []
 
--- the number of days from Sunday to the weekday
+-- the number of days from Sunday to the weekday, 0 to 6
 abbrev pub days_from_sunday : Weekday → ℕ
 days_from_sunday day = (days_from_monday day + 1) % 7
 
@@ -144,36 +149,38 @@ most_digits Eight = 8
 most_digits Nine = 9
 most_digits OneOrMore = 32
 
--- a fraction of a second as a run of digits, in nanoseconds
+-- The text is the longest run of `least` to `most` digits, and n is that fraction of a second in nanoseconds,
+-- rounded down.
 abbrev pub IsFractionRun : ℕ → ℕ → Form ℕ
 IsFractionRun least most text rest n =
     IsDigitRun least most text rest (digits_value text) × (n ≡ fraction_nanoseconds text)
 
--- the allowed trailing input: none, or any
+-- The text is allowed as trailing input: only the empty text if it is prohibited, and any if it is discarded.
 abbrev pub EndsBy : TrailingInput → List ℕ → Type 0
 EndsBy Prohibit text = text ≡ []
 EndsBy Discard text = Unit {0}
 
--- the whole remaining input, if it is allowed as trailing input
+-- The text is the whole remaining input, it is allowed as trailing input, and the value is `nothing`.
 abbrev pub IsEnd : TrailingInput → Form Value
 IsEnd trailing_input text rest value = (value ≡ nothing) × (rest ≡ []) × EndsBy trailing_input text
 
--- The first byte, if there is one, begins a character (RFC 3629, section 3).
+-- The first byte, if there is one, isn't a UTF-8 continuation byte, 128 to 191 (RFC 3629, section 3).
 abbrev pub BeginsCharacter : List ℕ → Type 0
 BeginsCharacter [] = Unit {0}
 BeginsCharacter (c ∷ cs) = (c < 128) ⊎ (192 ≤ c)
 
--- the fact, if whole characters are required
+-- the fact p if whole characters are required (the flag), and otherwise a fact that always holds
 abbrev pub OnWhole : Bool → Type 0 → Type 0
 OnWhole true p = p
 OnWhole false p = Unit {0}
 
--- `count` bytes, which end between characters if `whole` is true
+-- The text is any `count` bytes, which end between UTF-8 characters if `whole` is true, and the value is `nothing`.
 abbrev pub IsIgnored : Bool → ℕ → Form Value
 IsIgnored whole count text rest value =
     (value ≡ nothing) × (length text ≡ count) × OnWhole whole (BeginsCharacter rest)
 
--- The text, followed by that rest, spells the value. If `whole` is true, an `Ignore` ends between characters.
+-- The text, followed by that rest, spells the value of the component, by its modifiers. If `whole` is true, an `Ignore`
+-- ends between UTF-8 characters.
 abbrev pub Spells : Bool → Component → Form Value
 Spells whole (component.Day m) = HasMappedValue number (IsPositiveRun m.padding 2)
 Spells whole (component.MonthShort m) = HasMappedValue month (IsShortOf m.case_sensitive month_name)
@@ -202,7 +209,8 @@ Spells whole (component.Hour24 m) = HasMappedValue number (IsPaddedRun m.padding
 Spells whole (component.Minute m) = HasMappedValue number (IsPaddedRun m.padding 2 2)
 Spells whole (component.Period m) = HasMappedValue period (IsNameOf m.case_sensitive (period_name m.is_uppercase))
 Spells whole (component.Second m) = HasMappedValue number (IsPaddedRun m.padding 2 2)
-Spells whole (component.Subsecond m) = HasMappedValue number (IsFractionRun (least_digits m.digits) (most_digits m.digits))
+Spells whole (component.Subsecond m) =
+    HasMappedValue number (IsFractionRun (least_digits m.digits) (most_digits m.digits))
 Spells whole (component.OffsetHour m) = SpellsOffsetHour m.sign_is_mandatory m.padding
 Spells whole (component.OffsetMinute m) = HasMappedValue positive (IsPaddedRun m.padding 2 2)
 Spells whole (component.OffsetSecond m) = HasMappedValue positive (IsPaddedRun m.padding 2 2)
@@ -215,6 +223,7 @@ Spells whole (component.End m) = IsEnd m.trailing_input
 
 -- ---- Laws of the definitions, each the contract of a function of module `laws`, which proves it
 
--- at most one cut of an input spells a component
+-- For each component, whether or not whole characters are required, at most one prefix of an input spells a value, and
+-- only one value.
 abbrev pub OneSpelling : Type 0
 OneSpelling = (whole : Bool) (c : Component) → AtMostOneCut (Spells whole c)

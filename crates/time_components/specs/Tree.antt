@@ -18,10 +18,11 @@ use Rattle.time_components.specs.declared.inspect.Step.{Step}
 use Rattle.time_components.specs.declared.inspect.Step.TheVariants as step
 
 mutual
+  -- a description, whatever its type
   pub data Tree : Type 0 where
     -- literal bytes
     literal : List ℕ → Tree
-    -- a component, and whether an `Ignore` must end between characters
+    -- a component, and whether an `Ignore` must end between UTF-8 characters
     component : Bool → Component → Tree
     -- all trees in sequence
     sequence : Trees → Tree
@@ -30,6 +31,7 @@ mutual
     -- alternatives: the first tree that matches
     first_of : Trees → Tree
 
+  -- a list of trees
   pub data Trees : Type 0 where
     none : Trees
     more : Tree → Trees → Trees
@@ -52,6 +54,7 @@ node_tree f (node.First items) = first_of (trees (map f items.now))
 
 -- ---- The tree of each type of description
 
+-- the tree of a borrowed item, given the trees of the items in it
 abbrev pub borrowed_step : borrowed.BorrowedFormatItem-F Tree → Tree
 borrowed_step (borrowed.Literal x) = literal x.now
 borrowed_step (borrowed.StringLiteral x) = literal x.now
@@ -64,6 +67,7 @@ borrowed_step (borrowed.First xs) = first_of (trees xs.now)
 abbrev pub borrowed_shape : BorrowedFormatItem → Tree
 borrowed_shape = fold-BorrowedFormatItem Tree borrowed_step
 
+-- the tree of an owned item, given the trees of the items in it
 abbrev pub owned_step : owned.OwnedFormatItem-F Tree → Tree
 owned_step (owned.Literal x) = literal x.items
 owned_step (owned.StringLiteral x) = literal (string_bytes x)
@@ -76,6 +80,7 @@ owned_step (owned.First xs) = first_of (trees xs.items)
 abbrev pub owned_shape : OwnedFormatItem → Tree
 owned_shape = fold-OwnedFormatItem Tree owned_step
 
+-- the tree of a version-3 item, given the trees of the items in it
 abbrev pub v3_step : v3.FormatDescriptionV3Inner-F Tree → Tree
 v3_step (v3.Component c) = component true c
 v3_step (v3.BorrowedLiteral x) = literal x.now
@@ -93,39 +98,40 @@ v3_shape = fold-FormatDescriptionV3Inner Tree v3_step
 
 -- ---- The trees of a row of steps. Every row has a tree: a group that is cut short has the steps that are there.
 
--- the tree of a group, given the trees in it
+-- the tree of a group, given the trees in it: an optional group is an optional sequence of them
 abbrev pub group_tree : Group → Trees → Tree
 group_tree groups.Optional ts = optional (sequence ts)
 group_tree groups.First ts = first_of ts
 group_tree groups.List ts = sequence ts
 
--- the further bytes of a literal
+-- the bytes of the leading `More` steps, which are the further bytes of a literal
 abbrev pub further : List Step → List ℕ
 further (step.More b ∷ steps) = b ∷ further steps
 further _ = []
 
--- the tree of a step and of the steps after it that belong to it, given the trees of fewer steps
+-- the tree of a step and of the steps behind it that belong to it, given a function for the trees of fewer steps
 abbrev pub tree_at : (List Step → Trees) → Step → List Step → Tree
 tree_at trees (step.Literal b) steps = literal (b ∷ further steps)
 tree_at trees (step.More b) steps = literal (b ∷ further steps)
 tree_at trees (step.Component c) steps = component false c
 tree_at trees (step.Group g len) steps = group_tree g (trees (take len steps))
 
--- how many of the steps behind a step belong to it
+-- how many of the steps behind a step belong to it: the leading `More` steps for a literal, none for a component, and
+-- for a group as many as it counts, or all if there are fewer
 abbrev pub item_length : Step → List Step → ℕ
 item_length (step.Literal b) behind = length (further behind)
 item_length (step.More b) behind = length (further behind)
 item_length (step.Component c) behind = 0
 item_length (step.Group g len) behind = min len (length behind)
 
--- the steps after a step and those that belong to it
+-- the steps behind a step without those that belong to it, which `item_length` counts
 abbrev pub steps_after : Step → List Step → List Step
 steps_after (step.Literal b) steps = drop (length (further steps)) steps
 steps_after (step.More b) steps = drop (length (further steps)) steps
 steps_after (step.Component c) steps = steps
 steps_after (step.Group g len) steps = drop len steps
 
--- the first trees of a row of steps, at most n
+-- the trees of a row of steps, in a recursion of at most n levels: all of them if n is at least the number of steps
 unfoldable pub trees_in : ℕ → List Step → Trees
 trees_in zero steps = none
 trees_in (suc n) [] = none
@@ -135,6 +141,6 @@ trees_in (suc n) (s ∷ steps) = more (tree_at (trees_in n) s steps) (trees_in n
 abbrev pub steps_trees : List Step → Trees
 steps_trees steps = trees_in (length steps) steps
 
--- the tree of a row of steps
+-- the tree of a row of steps: all its items in sequence
 abbrev pub steps_shape : List Step → Tree
 steps_shape steps = sequence (steps_trees steps)

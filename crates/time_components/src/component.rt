@@ -1,7 +1,7 @@
 //! Parsers of the components, one for each variant of [`Component`](crate::Component).
 //!
 //! A parser returns the unread rest and the value if a prefix of its input spells a value, and `None` otherwise. A run
-//! of digits is as long as its greatest length allows, and no parser backtracks.
+//! of digits is as long as its greatest length allows, further digits begin the rest, and no parser backtracks.
 ghost use Rattle.std.specs.Prelude.{◌≤◌, false};
 ghost use Rattle.time_digits.specs.Digits.{Finds};
 ghost use Rattle.time_components.specs.Spelling.{SpellsOffsetHour, SpellsYear, Spells, number, signed, flagged, month, weekday, period, nothing};
@@ -19,7 +19,7 @@ use time_values::{Month, Weekday};
 
 // Parsers that try the fast path in `fast` before the plain parser in `numbers`.
 
-// A year of four digits, or of a sign and four to `MOST` digits.
+// Parses a year: four digits, or a sign and four to `MOST` digits, both with the padding. It is negative after `-`.
 #[inline(always)]
 fn full_year<const MOST: u8>(
     input: &[u8],
@@ -36,7 +36,7 @@ fn full_year<const MOST: u8>(
     }
 }
 
-// The hours of an offset. The bool is whether the sign is a minus.
+// Parses the hours of an offset, two digits with the padding, negative after `-`. The bool is whether the sign is `-`.
 #[inline(always)]
 fn offset_hour(
     input: &[u8],
@@ -51,10 +51,11 @@ fn offset_hour(
     }
 }
 
-/// Parses a calendar year, in the range that a sign extends.
+/// Parses a calendar year, -999999 to 999999, negative after `-`.
 ///
-/// The text is four digits, or a sign and four to six digits, with the given padding. Returns `None` if the input
-/// doesn't begin with such a text, or if a mandatory sign is missing.
+/// The text is four ASCII digits, or a sign and four to six digits. `Padding::Space` also allows up to three spaces in
+/// place of the first digits, and `Padding::None` one to three digits. Returns `None` if the input doesn't begin with
+/// such a text, or if a mandatory sign is missing.
 #[inline]
 pub fn parse_calendar_year_full_extended_range(
     input: &[u8],
@@ -69,10 +70,11 @@ pub fn parse_calendar_year_full_extended_range(
     full_year::<6>(input, padding, sign_is_mandatory)
 }
 
-/// Parses a calendar year of four digits.
+/// Parses a calendar year, -9999 to 9999, negative after `-`.
 ///
-/// The text is four digits with the given padding, with or without a sign. Returns `None` if the input doesn't begin
-/// with such a text, or if a mandatory sign is missing.
+/// The text is four ASCII digits, with or without a sign. `Padding::Space` also allows up to three spaces in place of
+/// the first digits, and `Padding::None` one to three digits. Returns `None` if the input doesn't begin with such a
+/// text, or if a mandatory sign is missing.
 #[inline]
 pub fn parse_calendar_year_full_standard_range(
     input: &[u8],
@@ -87,10 +89,11 @@ pub fn parse_calendar_year_full_standard_range(
     full_year::<4>(input, padding, sign_is_mandatory)
 }
 
-/// Parses an ISO week year, in the range that a sign extends.
+/// Parses an ISO week year, -999999 to 999999, negative after `-`.
 ///
-/// The text is four digits, or a sign and four to six digits, with the given padding. Returns `None` if the input
-/// doesn't begin with such a text, or if a mandatory sign is missing.
+/// The text is four ASCII digits, or a sign and four to six digits. `Padding::Space` also allows up to three spaces in
+/// place of the first digits, and `Padding::None` one to three digits. Returns `None` if the input doesn't begin with
+/// such a text, or if a mandatory sign is missing.
 #[inline]
 pub fn parse_iso_year_full_extended_range(
     input: &[u8],
@@ -105,10 +108,11 @@ pub fn parse_iso_year_full_extended_range(
     full_year::<6>(input, padding, sign_is_mandatory)
 }
 
-/// Parses an ISO week year of four digits.
+/// Parses an ISO week year, -9999 to 9999, negative after `-`.
 ///
-/// The text is four digits with the given padding, with or without a sign. Returns `None` if the input doesn't begin
-/// with such a text, or if a mandatory sign is missing.
+/// The text is four ASCII digits, with or without a sign. `Padding::Space` also allows up to three spaces in place of
+/// the first digits, and `Padding::None` one to three digits. Returns `None` if the input doesn't begin with such a
+/// text, or if a mandatory sign is missing.
 #[inline]
 pub fn parse_iso_year_full_standard_range(
     input: &[u8],
@@ -123,11 +127,12 @@ pub fn parse_iso_year_full_standard_range(
     full_year::<4>(input, padding, sign_is_mandatory)
 }
 
-/// Parses a calendar year without its last two digits, in the range that a sign extends.
+/// Parses a calendar year without its last two digits, -9999 to 9999, negative after `-`.
 ///
-/// The text is a sign and two to four digits with the given padding, or one or two digits without a sign, whatever the
-/// padding. The bool is whether the sign is a minus. Returns `None` if the input doesn't begin with such a text, or if
-/// a mandatory sign is missing.
+/// The text is one or two ASCII digits without a sign, whatever the padding, or a sign and two to four digits. After a
+/// sign, `Padding::Space` also allows a space in place of the first digit, and `Padding::None` one digit. The bool is
+/// whether the sign is `-`, which the number 0 can't show. Returns `None` if the input doesn't begin with such a text,
+/// or if a mandatory sign is missing.
 #[inline]
 pub fn parse_calendar_year_century_extended_range(
     input: &[u8],
@@ -143,10 +148,11 @@ pub fn parse_calendar_year_century_extended_range(
     century::<4>(input, padding, sign_is_mandatory)
 }
 
-/// Parses a calendar year without its last two digits.
+/// Parses a calendar year without its last two digits, -99 to 99, negative after `-`.
 ///
-/// The text is a sign and two digits with the given padding, or one or two digits without a sign, whatever the padding.
-/// The bool is whether the sign is a minus. Returns `None` if the input doesn't begin with such a text, or if a
+/// The text is one or two ASCII digits without a sign, whatever the padding, or a sign and two digits. After a sign,
+/// `Padding::Space` also allows a space in place of the first digit, and `Padding::None` one digit. The bool is whether
+/// the sign is `-`, which the number 0 can't show. Returns `None` if the input doesn't begin with such a text, or if a
 /// mandatory sign is missing.
 #[inline]
 pub fn parse_calendar_year_century_standard_range(
@@ -163,11 +169,12 @@ pub fn parse_calendar_year_century_standard_range(
     century::<2>(input, padding, sign_is_mandatory)
 }
 
-/// Parses an ISO week year without its last two digits, in the range that a sign extends.
+/// Parses an ISO week year without its last two digits, -9999 to 9999, negative after `-`.
 ///
-/// The text is a sign and two to four digits with the given padding, or one or two digits without a sign, whatever the
-/// padding. The bool is whether the sign is a minus. Returns `None` if the input doesn't begin with such a text, or if
-/// a mandatory sign is missing.
+/// The text is one or two ASCII digits without a sign, whatever the padding, or a sign and two to four digits. After a
+/// sign, `Padding::Space` also allows a space in place of the first digit, and `Padding::None` one digit. The bool is
+/// whether the sign is `-`, which the number 0 can't show. Returns `None` if the input doesn't begin with such a text,
+/// or if a mandatory sign is missing.
 #[inline]
 pub fn parse_iso_year_century_extended_range(
     input: &[u8],
@@ -183,10 +190,11 @@ pub fn parse_iso_year_century_extended_range(
     century::<4>(input, padding, sign_is_mandatory)
 }
 
-/// Parses an ISO week year without its last two digits.
+/// Parses an ISO week year without its last two digits, -99 to 99, negative after `-`.
 ///
-/// The text is a sign and two digits with the given padding, or one or two digits without a sign, whatever the padding.
-/// The bool is whether the sign is a minus. Returns `None` if the input doesn't begin with such a text, or if a
+/// The text is one or two ASCII digits without a sign, whatever the padding, or a sign and two digits. After a sign,
+/// `Padding::Space` also allows a space in place of the first digit, and `Padding::None` one digit. The bool is whether
+/// the sign is `-`, which the number 0 can't show. Returns `None` if the input doesn't begin with such a text, or if a
 /// mandatory sign is missing.
 #[inline]
 pub fn parse_iso_year_century_standard_range(
@@ -203,8 +211,8 @@ pub fn parse_iso_year_century_standard_range(
     century::<2>(input, padding, sign_is_mandatory)
 }
 
-/// Parses the last two digits of a calendar year, 0 to 99. Returns `None` if the input doesn't begin with such a
-/// number.
+/// Parses the last two digits of a calendar year, 0 to 99: two ASCII digits; `Padding::Space` also allows a space and a
+/// digit, and `Padding::None` one digit. Returns `None` if the input doesn't begin with such a number.
 #[inline]
 pub fn parse_calendar_year_last_two(
     input: &[u8],
@@ -216,8 +224,8 @@ pub fn parse_calendar_year_last_two(
     two_places(input, padding)
 }
 
-/// Parses the last two digits of an ISO week year, 0 to 99. Returns `None` if the input doesn't begin with such a
-/// number.
+/// Parses the last two digits of an ISO week year, 0 to 99: two ASCII digits; `Padding::Space` also allows a space and
+/// a digit, and `Padding::None` one digit. Returns `None` if the input doesn't begin with such a number.
 #[inline]
 pub fn parse_iso_year_last_two(
     input: &[u8],
@@ -229,7 +237,8 @@ pub fn parse_iso_year_last_two(
     two_places(input, padding)
 }
 
-/// Parses the first three letters of a month's English name. Returns `None` if the input doesn't begin with them.
+/// Parses the first three letters of a month's English name, in this case (`Jan`) if `case_sensitive`, otherwise in any
+/// ASCII case. Returns `None` if the input doesn't begin with them.
 #[inline(always)]
 pub fn parse_month_short(
     input: &[u8],
@@ -244,7 +253,8 @@ pub fn parse_month_short(
     }
 }
 
-/// Parses a month's whole English name. Returns `None` if the input doesn't begin with one.
+/// Parses a month's whole English name, in this case (`January`) if `case_sensitive`, otherwise in any ASCII case.
+/// Returns `None` if the input doesn't begin with one.
 #[inline]
 pub fn parse_month_long(
     input: &[u8],
@@ -258,7 +268,8 @@ pub fn parse_month_long(
     Some(ParsedItem(ending.0, short.1))
 }
 
-/// Parses the number of a month, 1 to 12, in two places. Returns `None` if the input doesn't begin with such a number.
+/// Parses the number of a month, 1 to 12: two ASCII digits; `Padding::Space` also allows a space and a digit, and
+/// `Padding::None` one digit. Returns `None` if the input doesn't begin with such a number.
 #[inline]
 pub fn parse_month_numerical(
     input: &[u8],
@@ -274,8 +285,8 @@ pub fn parse_month_numerical(
     }
 }
 
-/// Parses the number of an ISO week, in two places, 0 to 99. Returns `None` if the input doesn't begin with such a
-/// number.
+/// Parses the number of an ISO week, 0 to 99: two ASCII digits; `Padding::Space` also allows a space and a digit, and
+/// `Padding::None` one digit. Returns `None` if the input doesn't begin with such a number.
 #[inline]
 pub fn parse_week_number_iso(
     input: &[u8],
@@ -287,8 +298,8 @@ pub fn parse_week_number_iso(
     two_places(input, padding)
 }
 
-/// Parses the number of a week that begins on Sunday, in two places, 0 to 99. Returns `None` if the input doesn't begin
-/// with such a number.
+/// Parses the number of a week that begins on Sunday, 0 to 99: two ASCII digits; `Padding::Space` also allows a space
+/// and a digit, and `Padding::None` one digit. Returns `None` if the input doesn't begin with such a number.
 #[inline]
 pub fn parse_week_number_sunday(
     input: &[u8],
@@ -300,8 +311,8 @@ pub fn parse_week_number_sunday(
     two_places(input, padding)
 }
 
-/// Parses the number of a week that begins on Monday, in two places, 0 to 99. Returns `None` if the input doesn't begin
-/// with such a number.
+/// Parses the number of a week that begins on Monday, 0 to 99: two ASCII digits; `Padding::Space` also allows a space
+/// and a digit, and `Padding::None` one digit. Returns `None` if the input doesn't begin with such a number.
 #[inline]
 pub fn parse_week_number_monday(
     input: &[u8],
@@ -313,7 +324,8 @@ pub fn parse_week_number_monday(
     two_places(input, padding)
 }
 
-/// Parses the first three letters of a weekday's English name. Returns `None` if the input doesn't begin with them.
+/// Parses the first three letters of a weekday's English name, in this case (`Mon`) if `case_sensitive`, otherwise in
+/// any ASCII case. Returns `None` if the input doesn't begin with them.
 #[inline(always)]
 pub fn parse_weekday_short(
     input: &[u8],
@@ -328,7 +340,8 @@ pub fn parse_weekday_short(
     }
 }
 
-/// Parses a weekday's whole English name. Returns `None` if the input doesn't begin with one.
+/// Parses a weekday's whole English name, in this case (`Monday`) if `case_sensitive`, otherwise in any ASCII case.
+/// Returns `None` if the input doesn't begin with one.
 #[inline]
 pub fn parse_weekday_long(
     input: &[u8],
@@ -370,7 +383,9 @@ pub fn parse_weekday_monday(
     Some(ParsedItem(digit.0, Weekday::from_days_from_monday(digit.1)))
 }
 
-/// Parses the day of the year, in three places, 1 to 999. Returns `None` if the input doesn't begin with such a number.
+/// Parses the day of the year, 1 to 999: three ASCII digits; `Padding::Space` also allows up to two spaces in place of
+/// the first digits, and `Padding::None` one or two digits. Returns `None` if the input doesn't begin with such a
+/// number.
 #[inline]
 pub fn parse_ordinal(
     input: &[u8],
@@ -385,7 +400,8 @@ pub fn parse_ordinal(
     }
 }
 
-/// Parses the day of the month, in two places, 1 to 99. Returns `None` if the input doesn't begin with such a number.
+/// Parses the day of the month, 1 to 99: two ASCII digits; `Padding::Space` also allows a space and a digit, and
+/// `Padding::None` one digit. Returns `None` if the input doesn't begin with such a number.
 #[inline]
 pub fn parse_day(input: &[u8], modifiers: modifier::Day) -> Option<ParsedItem<'_, NonZero<u8>>>
     ensures { Finds (Spells false (component.Day modifiers)) (λ n. number n.value) input.now result }
@@ -395,8 +411,8 @@ pub fn parse_day(input: &[u8], modifiers: modifier::Day) -> Option<ParsedItem<'_
     Some(ParsedItem(day.0, NonZero::<u8>::new(day.1)?))
 }
 
-/// Parses the hour of a 12-hour clock, in two places, 0 to 99. Returns `None` if the input doesn't begin with such a
-/// number.
+/// Parses the hour of a 12-hour clock, 0 to 99: two ASCII digits; `Padding::Space` also allows a space and a digit, and
+/// `Padding::None` one digit. Returns `None` if the input doesn't begin with such a number.
 #[inline]
 pub fn parse_hour_12(input: &[u8], modifiers: modifier::Hour12) -> Option<ParsedItem<'_, u8>>
     ensures { Finds (Spells false (component.Hour12 modifiers)) number input.now result }
@@ -405,8 +421,8 @@ pub fn parse_hour_12(input: &[u8], modifiers: modifier::Hour12) -> Option<Parsed
     two_places(input, padding)
 }
 
-/// Parses the hour of a 24-hour clock, in two places, 0 to 99. Returns `None` if the input doesn't begin with such a
-/// number.
+/// Parses the hour of a 24-hour clock, 0 to 99: two ASCII digits; `Padding::Space` also allows a space and a digit, and
+/// `Padding::None` one digit. Returns `None` if the input doesn't begin with such a number.
 #[inline]
 pub fn parse_hour_24(input: &[u8], modifiers: modifier::Hour24) -> Option<ParsedItem<'_, u8>>
     ensures { Finds (Spells false (component.Hour24 modifiers)) number input.now result }
@@ -415,7 +431,8 @@ pub fn parse_hour_24(input: &[u8], modifiers: modifier::Hour24) -> Option<Parsed
     two_places(input, padding)
 }
 
-/// Parses the minute, in two places, 0 to 99. Returns `None` if the input doesn't begin with such a number.
+/// Parses the minute, 0 to 99: two ASCII digits; `Padding::Space` also allows a space and a digit, and `Padding::None`
+/// one digit. Returns `None` if the input doesn't begin with such a number.
 #[inline]
 pub fn parse_minute(input: &[u8], modifiers: modifier::Minute) -> Option<ParsedItem<'_, u8>>
     ensures { Finds (Spells false (component.Minute modifiers)) number input.now result }
@@ -424,7 +441,8 @@ pub fn parse_minute(input: &[u8], modifiers: modifier::Minute) -> Option<ParsedI
     two_places(input, padding)
 }
 
-/// Parses the second, in two places, 0 to 99. Returns `None` if the input doesn't begin with such a number.
+/// Parses the second, 0 to 99: two ASCII digits; `Padding::Space` also allows a space and a digit, and `Padding::None`
+/// one digit. Returns `None` if the input doesn't begin with such a number.
 #[inline]
 pub fn parse_second(input: &[u8], modifiers: modifier::Second) -> Option<ParsedItem<'_, u8>>
     ensures { Finds (Spells false (component.Second modifiers)) number input.now result }
@@ -433,8 +451,8 @@ pub fn parse_second(input: &[u8], modifiers: modifier::Second) -> Option<ParsedI
     two_places(input, padding)
 }
 
-/// Parses the half of the day. If the case matters, the text is `AM` or `PM`, or it is `am` or `pm`, by `is_uppercase`;
-/// otherwise it is either pair of letters in any case. Returns `None` if the input doesn't begin with such a text.
+/// Parses the half of the day. If the case matters, the text is `AM` or `PM` with `is_uppercase`, and `am` or `pm`
+/// without; otherwise it is `AM` or `PM` in any ASCII case. Returns `None` if the input doesn't begin with such a text.
 #[inline]
 pub fn parse_period(input: &[u8], modifiers: modifier::Period) -> Option<ParsedItem<'_, Period>>
     ensures { Finds (Spells false (component.Period modifiers)) period input.now result }
@@ -445,8 +463,9 @@ pub fn parse_period(input: &[u8], modifiers: modifier::Period) -> Option<ParsedI
     }
 }
 
-/// Parses a fraction of a second, in nanoseconds. The text is exactly the given number of digits, or one or more (at
-/// most 32 are read, and the first nine count). Returns `None` if the input begins with too few digits.
+/// Parses the digits of a fraction of a second, without a separator, as nanoseconds, 0 to 999999999. The text is
+/// exactly the given number of ASCII digits. With `OneOrMore` it is all leading digits, at most 32, and those after the
+/// ninth are dropped. Returns `None` if the input begins with too few digits.
 pub fn parse_subsecond(input: &[u8], modifiers: modifier::Subsecond) -> Option<ParsedItem<'_, u32>>
     ensures { Finds (Spells false (component.Subsecond modifiers)) number input.now result }
 {
@@ -465,8 +484,9 @@ pub fn parse_subsecond(input: &[u8], modifiers: modifier::Subsecond) -> Option<P
     }
 }
 
-/// Parses the hours of an offset from UTC, in two places, with or without a sign. The bool is whether the sign is a
-/// minus. Returns `None` if the input doesn't begin with such a text, or if a mandatory sign is missing.
+/// Parses the hours of an offset from UTC, -99 to 99, negative after `-`, with or without a sign: two ASCII digits;
+/// `Padding::Space` also allows a space and a digit, and `Padding::None` one digit. The bool is whether the sign is
+/// `-`. Returns `None` if the input doesn't begin with such a text, or if a mandatory sign is missing.
 #[inline(always)]
 pub fn parse_offset_hour(
     input: &[u8],
@@ -481,8 +501,8 @@ pub fn parse_offset_hour(
     offset_hour(input, padding, sign_is_mandatory)
 }
 
-/// Parses the minutes of an offset from UTC, in two places and without a sign, 0 to 99. Returns `None` if the input
-/// doesn't begin with such a number.
+/// Parses the minutes of an offset from UTC, 0 to 99, without a sign: two ASCII digits; `Padding::Space` also allows a
+/// space and a digit, and `Padding::None` one digit. Returns `None` if the input doesn't begin with such a number.
 #[inline]
 pub fn parse_offset_minute(
     input: &[u8],
@@ -494,8 +514,8 @@ pub fn parse_offset_minute(
     offset_part(input, padding)
 }
 
-/// Parses the seconds of an offset from UTC, in two places and without a sign, 0 to 99. Returns `None` if the input
-/// doesn't begin with such a number.
+/// Parses the seconds of an offset from UTC, 0 to 99, without a sign: two ASCII digits; `Padding::Space` also allows a
+/// space and a digit, and `Padding::None` one digit. Returns `None` if the input doesn't begin with such a number.
 #[inline]
 pub fn parse_offset_second(
     input: &[u8],
@@ -507,7 +527,7 @@ pub fn parse_offset_second(
     offset_part(input, padding)
 }
 
-/// Skips the given number of bytes. Returns `None` if the input has fewer.
+/// Skips the given number of bytes, even if that ends inside a character. Returns `None` if the input has fewer.
 #[inline]
 pub fn parse_ignore(input: &[u8], modifiers: modifier::Ignore) -> Option<ParsedItem<'_, ()>>
     ensures { Finds (Spells false (component.Ignore modifiers)) (λ unit. nothing) input.now result }
@@ -517,8 +537,9 @@ pub fn parse_ignore(input: &[u8], modifiers: modifier::Ignore) -> Option<ParsedI
     Some(ParsedItem(rest, ()))
 }
 
-/// Parses seconds since 1970-01-01T00:00:00Z, in up to 14 digits, with or without a sign, and returns them in
-/// nanoseconds. Returns `None` if the input doesn't begin with such a text, or if a mandatory sign is missing.
+/// Parses seconds since 1970-01-01T00:00:00Z, in 1 to 14 ASCII digits, with or without a sign, and returns them in
+/// nanoseconds, negative after `-`. Returns `None` if the input doesn't begin with such a text, or if a mandatory sign
+/// is missing.
 #[inline]
 pub fn parse_unix_timestamp_second(
     input: &[u8],
@@ -530,8 +551,9 @@ pub fn parse_unix_timestamp_second(
     timestamp::<14>(input, 1_000_000_000, sign_is_mandatory)
 }
 
-/// Parses milliseconds since 1970-01-01T00:00:00Z, in up to 17 digits, with or without a sign, and returns them in
-/// nanoseconds. Returns `None` if the input doesn't begin with such a text, or if a mandatory sign is missing.
+/// Parses milliseconds since 1970-01-01T00:00:00Z, in 1 to 17 ASCII digits, with or without a sign, and returns them in
+/// nanoseconds, negative after `-`. Returns `None` if the input doesn't begin with such a text, or if a mandatory sign
+/// is missing.
 #[inline]
 pub fn parse_unix_timestamp_millisecond(
     input: &[u8],
@@ -543,8 +565,9 @@ pub fn parse_unix_timestamp_millisecond(
     timestamp::<17>(input, 1_000_000, sign_is_mandatory)
 }
 
-/// Parses microseconds since 1970-01-01T00:00:00Z, in up to 20 digits, with or without a sign, and returns them in
-/// nanoseconds. Returns `None` if the input doesn't begin with such a text, or if a mandatory sign is missing.
+/// Parses microseconds since 1970-01-01T00:00:00Z, in 1 to 20 ASCII digits, with or without a sign, and returns them in
+/// nanoseconds, negative after `-`. Returns `None` if the input doesn't begin with such a text, or if a mandatory sign
+/// is missing.
 #[inline]
 pub fn parse_unix_timestamp_microsecond(
     input: &[u8],
@@ -556,8 +579,8 @@ pub fn parse_unix_timestamp_microsecond(
     timestamp::<20>(input, 1_000, sign_is_mandatory)
 }
 
-/// Parses nanoseconds since 1970-01-01T00:00:00Z, in up to 23 digits, with or without a sign. Returns `None` if the
-/// input doesn't begin with such a text, or if a mandatory sign is missing.
+/// Parses nanoseconds since 1970-01-01T00:00:00Z, in 1 to 23 ASCII digits, with or without a sign, and returns them,
+/// negative after `-`. Returns `None` if the input doesn't begin with such a text, or if a mandatory sign is missing.
 #[inline]
 pub fn parse_unix_timestamp_nanosecond(
     input: &[u8],
@@ -569,8 +592,8 @@ pub fn parse_unix_timestamp_nanosecond(
     timestamp::<23>(input, 1, sign_is_mandatory)
 }
 
-/// Parses the end of the input, and skips all trailing bytes if they are discarded. Returns `None` if there are
-/// trailing bytes and they are prohibited.
+/// Parses the end of the input. `Discard` skips all trailing bytes, so that the rest is empty. Returns `None` if there
+/// are trailing bytes and they are prohibited.
 #[inline]
 pub fn parse_end(input: &[u8], modifiers: modifier::End) -> Option<ParsedItem<'_, ()>>
     ensures { Finds (Spells false (component.End modifiers)) (λ unit. nothing) input.now result }

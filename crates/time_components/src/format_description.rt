@@ -2,10 +2,10 @@
 use crate::modifier;
 use std::fmt::{self, Debug};
 
-/// A part of a date, a time or an offset, with its form in a text.
+/// A part of a date, a time or an offset, a Unix timestamp, skipped bytes, or the end of the input, with modifiers.
 #[derive(Clone, Copy, Debug, PartialEq, Eq)]
 pub enum Component {
-    /// Day of the month.
+    /// Day of the month, from 1.
     Day(modifier::Day),
     /// First three letters of a month's name.
     MonthShort(modifier::MonthShort),
@@ -13,37 +13,37 @@ pub enum Component {
     MonthLong(modifier::MonthLong),
     /// Number of a month, from 1 for January.
     MonthNumerical(modifier::MonthNumerical),
-    /// Day of the year.
+    /// Day of the year, from 1 for January 1.
     Ordinal(modifier::Ordinal),
     /// First three letters of a weekday's name.
     WeekdayShort(modifier::WeekdayShort),
     /// Whole name of a weekday.
     WeekdayLong(modifier::WeekdayLong),
-    /// Number of a weekday, counted from Sunday.
+    /// Number of a weekday, one digit, counted from Sunday.
     WeekdaySunday(modifier::WeekdaySunday),
-    /// Number of a weekday, counted from Monday.
+    /// Number of a weekday, one digit, counted from Monday.
     WeekdayMonday(modifier::WeekdayMonday),
     /// Week of the ISO week date.
     WeekNumberIso(modifier::WeekNumberIso),
-    /// Week of the year, with weeks that begin on Sunday.
+    /// Week of the year. Week 1 begins on the first Sunday, and the days before are week 0.
     WeekNumberSunday(modifier::WeekNumberSunday),
-    /// Week of the year, with weeks that begin on Monday.
+    /// Week of the year. Week 1 begins on the first Monday, and the days before are week 0.
     WeekNumberMonday(modifier::WeekNumberMonday),
-    /// Calendar year of four digits, or of up to six after a sign.
+    /// Calendar year: four digits, or a sign and four to six digits.
     CalendarYearFullExtendedRange(modifier::CalendarYearFullExtendedRange),
-    /// Calendar year of four digits.
+    /// Calendar year: four digits, with or without a sign.
     CalendarYearFullStandardRange(modifier::CalendarYearFullStandardRange),
-    /// ISO week year of four digits, or of up to six after a sign.
+    /// ISO week year: four digits, or a sign and four to six digits.
     IsoYearFullExtendedRange(modifier::IsoYearFullExtendedRange),
-    /// ISO week year of four digits.
+    /// ISO week year: four digits, with or without a sign.
     IsoYearFullStandardRange(modifier::IsoYearFullStandardRange),
-    /// Calendar year without its last two digits, of up to four digits after a sign.
+    /// Calendar year without its last two digits: one or two digits, or a sign and two to four digits.
     CalendarYearCenturyExtendedRange(modifier::CalendarYearCenturyExtendedRange),
-    /// Calendar year without its last two digits, of two digits.
+    /// Calendar year without its last two digits: one or two digits, or a sign and two digits.
     CalendarYearCenturyStandardRange(modifier::CalendarYearCenturyStandardRange),
-    /// ISO week year without its last two digits, of up to four digits after a sign.
+    /// ISO week year without its last two digits: one or two digits, or a sign and two to four digits.
     IsoYearCenturyExtendedRange(modifier::IsoYearCenturyExtendedRange),
-    /// ISO week year without its last two digits, of two digits.
+    /// ISO week year without its last two digits: one or two digits, or a sign and two digits.
     IsoYearCenturyStandardRange(modifier::IsoYearCenturyStandardRange),
     /// Last two digits of the calendar year.
     CalendarYearLastTwo(modifier::CalendarYearLastTwo),
@@ -55,27 +55,27 @@ pub enum Component {
     Hour24(modifier::Hour24),
     /// Minute of the hour.
     Minute(modifier::Minute),
-    /// Half of the day, `AM` or `PM`.
+    /// Half of the day, `AM` or `PM`, or `am` or `pm`.
     Period(modifier::Period),
     /// Second of the minute.
     Second(modifier::Second),
-    /// Fraction of the second, after its separator.
+    /// Fraction of the second: its digits, without a separator.
     Subsecond(modifier::Subsecond),
-    /// Hours of the UTC offset, with its sign.
+    /// Hours of the UTC offset, with or without a sign.
     OffsetHour(modifier::OffsetHour),
     /// Minutes of the UTC offset, without a sign.
     OffsetMinute(modifier::OffsetMinute),
     /// Seconds of the UTC offset, without a sign.
     OffsetSecond(modifier::OffsetSecond),
-    /// Bytes that are skipped.
+    /// A number of bytes that are skipped, whatever they are.
     Ignore(modifier::Ignore),
-    /// Seconds since 1970-01-01T00:00:00Z.
+    /// Seconds since 1970-01-01T00:00:00Z: 1 to 14 digits, with or without a sign.
     UnixTimestampSecond(modifier::UnixTimestampSecond),
-    /// Milliseconds since 1970-01-01T00:00:00Z.
+    /// Milliseconds since 1970-01-01T00:00:00Z: 1 to 17 digits, with or without a sign.
     UnixTimestampMillisecond(modifier::UnixTimestampMillisecond),
-    /// Microseconds since 1970-01-01T00:00:00Z.
+    /// Microseconds since 1970-01-01T00:00:00Z: 1 to 20 digits, with or without a sign.
     UnixTimestampMicrosecond(modifier::UnixTimestampMicrosecond),
-    /// Nanoseconds since 1970-01-01T00:00:00Z.
+    /// Nanoseconds since 1970-01-01T00:00:00Z: 1 to 23 digits, with or without a sign.
     UnixTimestampNanosecond(modifier::UnixTimestampNanosecond),
     /// End of the input.
     End(modifier::End),
@@ -90,7 +90,7 @@ pub enum Period {
     Pm,
 }
 
-/// A description that borrows its parts.
+/// An item of a description, with borrowed parts. Its `Ignore` may end inside a UTF-8 character.
 #[derive(Clone, Copy)]
 pub enum BorrowedFormatItem<'a> {
     /// Literal bytes.
@@ -107,8 +107,9 @@ pub enum BorrowedFormatItem<'a> {
     First(&'a [Self]),
 }
 
-/// An item of a description: a literal, `item!("-")`; a component with its default modifiers, `item!(Day)`; or one with
-/// other modifiers, `item!(Hour24 { padding: Padding::None })`.
+/// A borrowed item of a description: a literal, `item!("-")`; a component with its default modifiers, `item!(Day)`; or
+/// one with other modifiers, `item!(Hour24 { padding: Padding::None })`. An `Ignore`, which has no default modifiers,
+/// can't be written so.
 #[macro_export]
 macro_rules! item {
     ($text:literal) => {
@@ -127,7 +128,7 @@ macro_rules! item {
     };
 }
 
-/// A description that owns its parts.
+/// An item of a description, with owned parts. Its `Ignore` may end inside a UTF-8 character.
 #[derive(Debug, Drop)]
 pub enum OwnedFormatItem {
     /// Literal bytes.
@@ -144,14 +145,15 @@ pub enum OwnedFormatItem {
     First(Vec<Self>),
 }
 
-/// A description of version 3, in which skipped bytes must end between characters.
+/// A format description of version 3. Its `Ignore` matches only bytes that end between UTF-8 characters: the byte after
+/// them, if there is one, is no continuation byte, 0x80 to 0xBF.
 #[derive(Drop)]
 pub struct FormatDescriptionV3<'a> {
-    /// The items.
+    /// The item that it consists of, such as a sequence of items.
     pub inner: FormatDescriptionV3Inner<'a>,
 }
 
-/// The items of a description of version 3, each borrowed or owned.
+/// An item of a description of version 3, with borrowed or owned parts.
 #[derive(Drop)]
 pub enum FormatDescriptionV3Inner<'a> {
     /// A part of a date, a time or an offset.
@@ -162,7 +164,7 @@ pub enum FormatDescriptionV3Inner<'a> {
     BorrowedCompound(&'a [Self]),
     /// An optional item.
     BorrowedOptional {
-        /// Whether a formatter writes the item.
+        /// Whether a formatter writes the item. Parsers ignore it.
         format: bool,
         /// The item.
         item: &'a Self,
@@ -175,7 +177,7 @@ pub enum FormatDescriptionV3Inner<'a> {
     OwnedCompound(Vec<Self>),
     /// An optional item.
     OwnedOptional {
-        /// Whether a formatter writes the item.
+        /// Whether a formatter writes the item. Parsers ignore it.
         format: bool,
         /// The item.
         item: Box<Self>,
@@ -198,7 +200,7 @@ impl Debug for BorrowedFormatItem<'_> {
     }
 }
 
-// Writes a variant that has no item, as a derived `Debug` would.
+// Writes a variant whose one field is no item, as a derived `Debug` would: `Name(value)`.
 fn write_field<T: Debug, W: fmt::Write>(
     name: &str,
     value: &T,
@@ -207,7 +209,7 @@ fn write_field<T: Debug, W: fmt::Write>(
     f.debug_tuple(name).field(value).finish()
 }
 
-// Writes the variant of an optional item, as a derived `Debug` would.
+// Writes the variant of an optional item, as a derived `Debug` would: `Optional(item)`.
 #[cycle(debug_borrowed)]
 fn write_borrowed_optional<W: fmt::Write>(
     item: &BorrowedFormatItem<'_>,
@@ -218,7 +220,7 @@ fn write_borrowed_optional<W: fmt::Write>(
     f.write_str(")")
 }
 
-// Writes a variant that has a list of items, as a derived `Debug` would.
+// Writes a variant that has a list of items, as a derived `Debug` would: `Name([item, item])`.
 #[cycle(debug_borrowed)]
 fn write_borrowed_list<W: fmt::Write>(
     name: &str,
@@ -279,7 +281,7 @@ impl Debug for FormatDescriptionV3Inner<'_> {
     }
 }
 
-// Writes a variant that has a list of items, as a derived `Debug` would.
+// Writes a variant that has a list of items, as a derived `Debug` would: `Name([item, item])`.
 #[cycle(debug_v3)]
 fn write_v3_list<W: fmt::Write>(
     name: &str,
@@ -297,7 +299,7 @@ fn write_v3_list<W: fmt::Write>(
     f.write_str("])")
 }
 
-// Writes a variant of an optional item, as a derived `Debug` would.
+// Writes a variant of an optional item, as a derived `Debug` would: `Name { format: true, item: .. }`.
 #[cycle(debug_v3)]
 fn write_v3_optional<W: fmt::Write>(
     name: &str,

@@ -1,18 +1,18 @@
 //! A uniform view of the items of any description, and the steps that a parsed description is stored as.
-ghost use Rattle.std.specs.Prelude.{◌≡◌, ◌≤◌, length};
+ghost use Rattle.std.specs.Prelude.{◌≡◌, ◌≤◌, ◌+◌, length, drop};
 ghost use Rattle.time_components.specs.Tree as spec;
 ghost use Rattle.time_components.specs.Tree.{borrowed_shape, further, owned_shape, v3_shape, Tree, node_tree};
 
 use crate::{BorrowedFormatItem, Component, FormatDescriptionV3Inner, OwnedFormatItem};
 
-/// An item of a description, in terms of other items of its type.
+/// The kind of a description's item and its parts, which are items of type `I`.
 #[derive_where(Clone, Copy)]
 pub enum Node<'a, I> {
-    /// Literal bytes.
+    /// Literal bytes, or the bytes of a literal text.
     Literal(&'a [u8]),
-    /// A component.
+    /// A component; an `Ignore` may end inside a UTF-8 character.
     Component(&'a Component),
-    /// A component; an `Ignore` must end between characters.
+    /// A component of a version-3 description; an `Ignore` matches only bytes that end between UTF-8 characters.
     WholeComponent(&'a Component),
     /// Items in sequence.
     List(&'a [I]),
@@ -83,7 +83,7 @@ impl Inspect for FormatDescriptionV3Inner<'_> {
     }
 }
 
-/// How the steps of a group combine.
+/// How the items of a group combine.
 #[derive(Clone, Copy, Debug, PartialEq, Eq)]
 pub enum Group {
     /// All of them in sequence, or nothing.
@@ -94,7 +94,7 @@ pub enum Group {
     List,
 }
 
-/// A step of a description.
+/// A step of a parsed description. Each item is stored as one step, followed by the other steps that belong to it.
 #[derive(Clone, Copy, Debug, PartialEq, Eq)]
 pub enum Step {
     /// The first byte of a literal.
@@ -103,10 +103,11 @@ pub enum Step {
     More(u8),
     /// A component.
     Component(Component),
-    /// A group, with the number of steps after this one that belong to it.
+    /// A group, with the number of steps after this one that belong to it, those of nested items included.
     Group(Group, usize),
 }
 
+// The default is a placeholder: a literal of the byte 0.
 impl Default for Step {
     ghost is_default = { λ step. Unit {0} };
 
@@ -116,38 +117,47 @@ impl Default for Step {
     }
 }
 
-/// How many of the steps behind a step belong to it: the further bytes of a literal, or the steps of a group.
+/// How many steps of `behind`, the steps after `step`, belong to it: for a `Literal` or a `More`, the leading `More`
+/// steps; for a component, none; for a group, as many as it counts, or all of `behind` if that is fewer.
 #[inline(always)]
 pub fn item_len(step: &Step, behind: &[Step]) -> usize
     ensures len { result ≡ spec.item_length step.now behind.now }
     ensures within { result ≤ length behind.now }
 {
     match *step {
-        Step::Literal(_) | Step::More(_) => further_len(behind),
+        Step::Literal(_) | Step::More(_) => behind.len() - after_further(behind).len(),
         Step::Component(_) => 0,
         Step::Group(_, len) => len.min(behind.len()),
     }
 }
 
-/// The steps after those that belong to a step.
+/// The steps of `behind` after those that belong to `step`, as [`item_len`] counts them.
+//
+// It doesn't split at `item_len`, since a component, the most frequent step, needs no split.
 #[inline(always)]
 pub fn steps_after<'s>(step: &Step, behind: &'s [Step]) -> &'s [Step]
     ensures after { result.now ≡ spec.steps_after step.now behind.now }
     ensures fewer { length result.now ≤ length behind.now }
 {
-    let (_, after) = behind.split_at(item_len(step, behind));
-    after
+    match *step {
+        Step::Literal(_) | Step::More(_) => after_further(behind),
+        Step::Component(_) => behind,
+        Step::Group(_, len) => {
+            let (_, after) = behind.split_at(len.min(behind.len()));
+            after
+        }
+    }
 }
 
-// How many further bytes of a literal are at the front. Not inlined, so that a loop over leaves needs fewer registers.
+// The steps after the leading `More` steps. Not inlined, so that a loop over leaves needs fewer registers.
 #[inline(never)]
-fn further_len(steps: &[Step]) -> usize
-    ensures len { result ≡ length (further steps.now) }
-    ensures within { result ≤ length steps.now }
+fn after_further(steps: &[Step]) -> &[Step]
+    ensures after { result.now ≡ drop (length (further steps.now)) steps.now }
+    ensures len { length result.now + length (further steps.now) ≡ length steps.now }
 {
     let mut left = steps;
     while let [Step::More(_), behind @ ..] = left {
         left = behind;
     }
-    steps.len() - left.len()
+    left
 }

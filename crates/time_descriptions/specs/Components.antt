@@ -13,30 +13,33 @@ use Rattle.time_descriptions.specs.declared.values.Modifier.{Modifier}
 use Rattle.time_descriptions.specs.Modifiers as chosen
 use Rattle.time_descriptions.specs.Values.{component_names, modifier_keys, modifier_value, is_space, is_of_word, look_up}
 
--- what a text begins with, and the bytes after it; or the first fault
+-- the result of a parser: what the text begins with, and the remaining bytes; or the first fault
 abbrev pub Read : Type 0 → Type 0
 Read A = Result (A × List ℕ) Fault
 
+-- the function's result for the value, or the fault
 infixl 10 ◌>>=◌
 abbrev pub ◌>>=◌ : {A B : Type 0} → Result A Fault → (A → Result B Fault) → Result B Fault
 (Ok x) >>= f = f x
 (Err e) >>= f = Err e
 
--- the value of an option, or else the fault
+-- the value of the option, or the fault for `None`
 abbrev pub or_fault : {A : Type 0} → Fault → Option A → Result A Fault
 or_fault e (Some x) = Ok x
 or_fault e None = Err e
 
--- The result of a function, mapped by view, is the result of reading.
+-- The result of a function, its value mapped by `view`, is the result of a parser: equal values, or equal faults.
 abbrev pub Returns : {X Y : Type 0} → (X → Y) → Result X Fault → Result Y Fault → Type 0
 Returns view (Ok x) read = read ≡ Ok (view x)
 Returns view (Err e) read = read ≡ Err e
 
--- the number of bytes before the first colon, or of all bytes without a colon
+-- the number of bytes before the first colon, or of all bytes if there is no colon
 abbrev pub colon : List ℕ → ℕ
 colon text = prefix_len (λ b. not (b == 58)) text
 
--- modifier = key , ":" , value; `left` counts the bytes from it to the end of the whole text
+-- modifier = key , ":" , value, of the component with that name; `text` is exactly the modifier, and `left` counts the
+-- bytes from it to the end of the whole text. Without a colon the fault quotes all of it, for an unknown key the key,
+-- and for an invalid value the value.
 unfoldable pub modifier : ComponentName → List ℕ → ℕ → Result Modifier Fault
 modifier name text left =
     let at = colon text in
@@ -45,7 +48,8 @@ modifier name text left =
     >>= λ key. or_fault (fault.InvalidModifier (left - at - 1) (length (drop (at + 1) text)))
     (modifier_value name key (drop (at + 1) text)))
 
--- { space , modifier } , [ space ], with at most n modifiers: the values so far, updated by these
+-- { space , modifier } , [ space ], with at most n modifiers of the component with that name: the values so far,
+-- updated by these in order, and the text after them; or the first fault
 unfoldable pub modifiers : ComponentName → ℕ → Modifiers → List ℕ → Read Modifiers
 modifiers name zero values text = Ok (values, text)
 modifiers name (suc n) values text =
@@ -55,8 +59,9 @@ modifiers name (suc n) values text =
     else (modifier name (take len begun) (length begun)
     >>= λ made. modifiers name n (chosen.with_modifier values made) (drop len begun))
 
--- the text after a component's closing bracket; `opening` counts the bytes from its opening bracket to the end of the
--- whole text
+-- the text after the component's closing bracket, which the given text begins with; an opening bracket instead is the
+-- fault that a modifier is expected there, and the end or another byte is the fault that the component's bracket isn't
+-- closed; `opening` counts the bytes from the component's opening bracket to the end of the whole text
 abbrev pub after_component : ℕ → List ℕ → Result (List ℕ) Fault
 after_component opening [] = Err (fault.UnclosedOpeningBracket opening)
 after_component opening (b ∷ rest) =
@@ -64,7 +69,8 @@ after_component opening (b ∷ rest) =
     else (if b == 91 then Err (fault.Expected expected.Modifier (length (b ∷ rest)))
     else Err (fault.UnclosedOpeningBracket opening))
 
--- component = "[" , [ space ] , name , { space , modifier } , [ space ] , "]"
+-- component = "[" , [ space ] , name , { space , modifier } , [ space ] , "]", of a text that begins with the bracket:
+-- the component, and the text after its closing bracket; a missing count of `ignore` is a fault only after that bracket
 unfoldable pub bracketed : List ℕ → Read Component
 bracketed text =
     let inside = drop 1 text in
@@ -80,9 +86,10 @@ bracketed text =
 
 -- ---- How a parser of items appends steps
 
--- A text starts steps after the old ones, with room for n in all. If they fit, they are appended, as the steps of what
--- was read, and the result is the rest; or the result is the first fault. If they don't fit, the result is that there
--- is no room. The appended steps and the remaining bytes together are at most `bytes`.
+-- A text starts `begun` steps after the old ones, with room for n in all. If they fit, they are appended, as the steps
+-- of what was read, and the result is the remaining text; or the result is the first fault. If they don't fit, the
+-- result is `NoRoom`, and then n is less than the old steps and `bytes` together. The appended steps and the remaining
+-- bytes together are at most `bytes`. After an error, the new steps are unspecified.
 abbrev pub Adds : {A : Type 0} → (A → List Step) → ℕ → Read A → ℕ → ℕ
     → List Step → Result (Bor (List ℕ)) Fault → List Step → Type 0
 Adds {A} steps n read begun bytes old (Ok rest) new =

@@ -9,6 +9,8 @@ use Rattle.time_components.specs.declared.format_description.Component.TheVarian
 use Rattle.time_components.specs.Tree.{Tree}
 use Rattle.time_descriptions.specs.Writing.{padding_text, sign_text, case_sensitive_text, one_indexed_text, digits_text, trailing_input_text, tree_text}
 
+-- the component's name, and its modifiers `repr`, `range`, `base`, `precision` and `case` unless they have their
+-- defaults; for `Ignore`, the key of its count follows
 abbrev pub name_part : Component → List ℕ
 name_part (component.Day m) = codes "day"
 name_part (component.MonthShort m) = codes "month repr:short"
@@ -48,6 +50,7 @@ name_part (component.UnixTimestampMicrosecond m) = codes "unix_timestamp precisi
 name_part (component.UnixTimestampNanosecond m) = codes "unix_timestamp precision:nanosecond"
 name_part (component.End m) = codes "end"
 
+-- the modifier of the component's padding, with a space before it; empty if it has no padding or pads with zeros
 abbrev pub padding_part : Component → List ℕ
 padding_part (component.Day m) = padding_text m.padding
 padding_part (component.MonthNumerical m) = padding_text m.padding
@@ -74,6 +77,8 @@ padding_part (component.OffsetMinute m) = padding_text m.padding
 padding_part (component.OffsetSecond m) = padding_text m.padding
 padding_part _ = []
 
+-- the component's modifier after the padding, with a space before it; empty if the modifier has its default, or if the
+-- component has no such modifier
 abbrev pub modifier_part : Component → List ℕ
 modifier_part (component.MonthShort m) = case_sensitive_text m.case_sensitive
 modifier_part (component.MonthLong m) = case_sensitive_text m.case_sensitive
@@ -99,6 +104,7 @@ modifier_part (component.UnixTimestampNanosecond m) = sign_text m.sign_is_mandat
 modifier_part (component.End m) = trailing_input_text m.trailing_input
 modifier_part _ = []
 
+-- the decimal count of an `Ignore`, or nothing for another component
 abbrev pub count_part : Component → List ℕ
 count_part (component.Ignore m) = decimal m.count.value
 count_part _ = []
@@ -109,12 +115,12 @@ parts_of c = name_part c ++ (padding_part c ++ (modifier_part c ++ count_part c)
 
 -- ---- The effect of a writer on the bytes written so far
 
--- These bytes are appended to the old ones, if there is room for n in all; if there isn't, the bytes afterwards are
--- unspecified.
+-- After `Ok`, the new bytes are the old ones followed by `bytes`. An error means that these are more than n bytes, and
+-- then the new ones are unspecified.
 abbrev pub Puts : {A E : Type 0} → ℕ → List ℕ → List ℕ → Result A E → List ℕ → Type 0
 Puts n bytes old (Ok x) new = new ≡ old ++ bytes
 Puts n bytes old (Err e) new = n < length old + length bytes
 
--- a list of a choice, with the space before it
+-- the text of a list of a choice: its text in brackets, after a space
 abbrev pub list_text : Tree → List ℕ
 list_text t = codes " [" ++ (tree_text t ++ codes "]")

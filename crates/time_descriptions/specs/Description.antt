@@ -13,16 +13,16 @@ use Rattle.time_descriptions.specs.Items.{Item, literal, items_of, trees_of, fla
 use Rattle.time_descriptions.specs.Strftime.{meaning, flags, flagged_meaning, row_of, DescribesStrftime, Fits, IsRefusedStrftime}
 use Rattle.time_descriptions.specs.Writing.{tree_text}
 
--- the tree of a description
+-- the tree of a description: the sequence of the items of its steps
 abbrev pub shape : {N : ℕ} → Description N → Tree
 shape d = steps_shape d.steps.items
 
--- the version with that number
+-- version 1 for the number 1, and version 2 for any other number
 abbrev pub version_of : ℕ → Version
 version_of number = if number == 1 then versions.One else versions.Two
 
--- The error of a rejected text, with room for n steps: it is too long exactly if it starts more than n steps, and then
--- it also has more than n bytes.
+-- The error of a rejected text, with room for n steps: `too_long` exactly if the text starts more than n steps up to
+-- its first fault or its end, and then it also has more than n bytes; otherwise its first fault.
 abbrev pub IsRefused : ℕ → Version → List ℕ → Refusal → Type 0
 IsRefused n version text refusal =
     ((refusal ≡ too_long) × (n < length text) × StartsMoreThan n version text)
@@ -30,6 +30,7 @@ IsRefused n version text refusal =
 
 -- ---- A description in strftime's syntax, piece by piece
 
+-- a piece of a text in strftime's syntax
 pub data Piece : Type 0 where
   -- a literal byte
   byte : ℕ → Piece
@@ -38,18 +39,20 @@ pub data Piece : Type 0 where
   -- a conversion with a flag, by the flag and the letter
   flagged : ℕ → ℕ → Piece
 
+-- the bytes of a piece: a byte, or a `%`, the flag if there is one, and the letter
 abbrev pub piece_text : Piece → List ℕ
 piece_text (byte b) = b ∷ []
 piece_text (conversion letter) = 37 ∷ letter ∷ []
 piece_text (flagged flag letter) = 37 ∷ flag ∷ letter ∷ []
 
--- the items of a piece, by the tables of letters and flags
+-- the items of a piece, by the tables of letters and flags; `None` for a lone `%`, an unknown letter or flag, and a
+-- letter that can't have the flag
 abbrev pub piece_items : Piece → Option (List Item)
 piece_items (byte b) = if b == 37 then None else Some (literal b [] ∷ [])
 piece_items (conversion letter) = meaning letter
 piece_items (flagged flag letter) = option_and_then (λ f. flagged_meaning f letter) (row_of flags flag)
 
--- the items of pieces in order, if each piece has a meaning
+-- the items of pieces in order, or `None` if some piece has no meaning
 abbrev pub all_items : List Piece → Option (List Item)
 all_items [] = Some []
 all_items (piece ∷ pieces) =
@@ -77,7 +80,8 @@ unfoldable pub has_no_escape : List ℕ → Bool
 has_no_escape [] = true
 has_no_escape (b ∷ rest) = not (b == 92) && not (b == 91 && begins_with 91 rest) && has_no_escape rest
 
--- versions 1 and 2 agree on such a text: it describes equal trees, and it has equal errors
+-- versions 1 and 2 agree on a text with neither a backslash nor two opening brackets in a row: it describes equal
+-- trees, and it has equal errors, whatever the room for steps
 abbrev pub VersionsAgree : Type 0
 VersionsAgree = (text : List ℕ) → has_no_escape text ≡ true
     → ((tree : Tree) → (Describes versions.One text tree ↔ Describes versions.Two text tree))
@@ -88,23 +92,24 @@ abbrev pub DescribedBack : Type 0
 DescribedBack = (text : List ℕ) (tree : Tree) → Describes versions.Two text tree
     → Describes versions.Two (tree_text tree) tree
 
--- A text of strftime that is rejected, with room for n steps, has one error, and describes no tree of at most n steps.
+-- A text that is rejected in strftime's syntax, with room for n steps, has exactly one error, and describes no tree of
+-- at most n steps.
 abbrev pub OneStrftimeOutcome : Type 0
 OneStrftimeOutcome = (n : ℕ) (text : List ℕ) (r : Refusal) → IsRefusedStrftime n text r
     → ((s : Refusal) → IsRefusedStrftime n text s → r ≡ s)
     × ((tree : Tree) → DescribesStrftime text tree → Fits n text → ⊥)
 
--- A text that is rejected, with room for n steps, has one error, and describes no tree in at most n steps.
+-- A text that is rejected, with room for n steps, has exactly one error, and describes no tree in at most n steps.
 abbrev pub OneOutcome : Type 0
 OneOutcome = (n : ℕ) (version : Version) (text : List ℕ) (r : Refusal) → IsRefused n version text r
     → ((s : Refusal) → IsRefused n version text s → r ≡ s)
     × ((tree : Tree) → Describes version text tree → StartsAtMost n version text → ⊥)
 
--- A text that is parsed starts exactly the steps of its items.
+-- A text that parses to its end starts exactly as many steps as its items have.
 abbrev pub StepsOfRead : Type 0
 StepsOfRead = (version : Version) (text : List ℕ) (is : List Item) → description version text ≡ Ok (is, [])
     → steps_count version text ≡ length (flat is)
 
--- A text of strftime describes the tree of its pieces, whose items the tables define, and no other tree.
+-- A text describes a tree in strftime's syntax exactly if it splits into pieces that give the tree's items in order.
 abbrev pub StrftimePieces : Type 0
 StrftimePieces = (text : List ℕ) (tree : Tree) → (DescribesStrftime text tree ↔ HasPieces text tree)

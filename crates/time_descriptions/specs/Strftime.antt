@@ -29,11 +29,11 @@ use Rattle.time_descriptions.specs.Refusal.{Refusal, refusal_at, too_long}
 
 -- ---- The letters of strftime, with their meanings
 
--- letters, each with a value
+-- a table: letters as ASCII codes, each with a value
 abbrev pub Rows : Type 0 → Type 0
 Rows V = List (ℕ × V)
 
--- the value of the first row with that letter
+-- the value of the first row with that letter, or `None` if there is no such row
 unfoldable pub row_of : {V : Type 0} → Rows V → ℕ → Option V
 row_of [] letter = None
 row_of (r ∷ rows) letter = if r.0 == letter then Some r.1 else row_of rows letter
@@ -73,7 +73,8 @@ components =
     ∷ (87, component.WeekNumberMonday (record { padding = padding.Zero }))
     ∷ []
 
--- the other letters except "z", with the bytes that they abbreviate: D x F R T X r c n t %
+-- the other letters except "z", with the bytes that they abbreviate: D x F R T X r c n t %; a byte that is a letter of
+-- `components` abbreviates its component, and another byte is literal
 unfoldable pub shorthands : Rows (List ℕ)
 shorthands =
     (68, codes "m/d/y")
@@ -93,24 +94,25 @@ shorthands =
 abbrev pub item_of_byte : ℕ → Item
 item_of_byte b = by_option (literal b []) component_item (row_of components b)
 
--- the step of a byte in a shorthand
+-- the step of a byte in a shorthand: the component of that letter, or else the byte as a literal
 abbrev pub step_of_byte : ℕ → Step
 step_of_byte b = by_option (step.Literal b) step.Component (row_of components b)
 
--- the meaning of "z"
+-- the meaning of "z": the hours with a mandatory sign, then the minutes, both padded with zeros
 abbrev pub offset : List Item
 offset =
     component_item (component.OffsetHour (record { padding = padding.Zero; sign_is_mandatory = true }))
     ∷ component_item (component.OffsetMinute (record { padding = padding.Zero })) ∷ []
 
--- the meaning of a letter
+-- the meaning of a letter without a flag: the offset for "z", its component, or the items of its shorthand; `None` if
+-- it has no meaning
 abbrev pub meaning : ℕ → Option (List Item)
 meaning letter =
     if letter == 122 then Some offset
     else by_option (option_map (map item_of_byte) (row_of shorthands letter)) (λ c. Some (component_item c ∷ []))
     (row_of components letter)
 
--- the flags: - _ 0 3 6 9 . :
+-- the flags by their bytes: - _ 0 3 6 9 . :
 unfoldable pub flags : Rows Flag
 flags =
     (45, flag.Padding padding.None)
@@ -123,7 +125,7 @@ flags =
     ∷ (58, flag.Colon)
     ∷ []
 
--- the component with that padding, if it has a padding and some letter means it
+-- the component with that padding instead of its own; `None` if it has no padding, or if no letter means it alone
 unfoldable pub with_padding : Padding → Component → Option Component
 with_padding p (component.Day m) = Some (component.Day (record m { padding = p }))
 with_padding p (component.MonthNumerical m) = Some (component.MonthNumerical (record m { padding = p }))
@@ -145,23 +147,26 @@ with_padding p (component.Minute m) = Some (component.Minute (record m { padding
 with_padding p (component.Second m) = Some (component.Second (record m { padding = p }))
 with_padding p _ = None
 
--- the component of a letter with that padding, if it has one
+-- the component of the letter with that padding instead of its own; `None` if the letter means no component, or one
+-- without a padding
 abbrev pub padded : Padding → ℕ → Option Component
 padded p letter = option_and_then (with_padding p) (row_of components letter)
 
--- the fraction of a second after a point, or nothing
+-- a point and a fraction of a second of one or more digits, as an optional item
 abbrev pub pointed_fraction : List Item
 pointed_fraction =
-    group groups.Optional (items_of (literal 46 [] ∷ component_item (component.Subsecond (record { digits = digits.OneOrMore })) ∷ []))
+    group groups.Optional
+    (items_of (literal 46 [] ∷ component_item (component.Subsecond (record { digits = digits.OneOrMore })) ∷ []))
     ∷ []
 
--- the offset with a colon between its hours and its minutes
+-- the offset as "z" means it, with a colon between its hours and its minutes
 abbrev pub colon_offset : List Item
 colon_offset =
     component_item (component.OffsetHour (record { padding = padding.Zero; sign_is_mandatory = true })) ∷ literal 58 []
     ∷ component_item (component.OffsetMinute (record { padding = padding.Zero })) ∷ []
 
--- the meaning of a letter after a flag, if it has one
+-- the meaning of a letter after a flag; `None` if the letter can't have the flag: a padding requires a component with a
+-- padding, digits and a point require "f", and a colon requires "z"
 abbrev pub flagged_meaning : Flag → ℕ → Option (List Item)
 flagged_meaning (flag.Padding p) letter = option_map (λ c. component_item c ∷ []) (padded p letter)
 flagged_meaning (flag.Digits d) letter =
@@ -169,34 +174,38 @@ flagged_meaning (flag.Digits d) letter =
 flagged_meaning flag.Point letter = if letter == 102 then Some pointed_fraction else None
 flagged_meaning flag.Colon letter = if letter == 122 then Some colon_offset else None
 
--- conversions of strftime without a component
+-- whether the letter is E, O or Z, whose conversions aren't supported
 abbrev pub is_unsupported : ℕ → Bool
 is_unsupported letter = letter == 69 || letter == 79 || letter == 90
 
--- the fault of a letter without a meaning; `percent` counts the bytes from its "%" to the end of the text, and `left`
--- those from the letter
+-- the fault of a letter without a meaning, at its "%" if the conversion isn't supported, and otherwise at the letter;
+-- `percent` counts the bytes from the "%" to the end of the text, and `left` those from the letter
 abbrev pub letter_fault : ℕ → ℕ → ℕ → Fault
 letter_fault percent left letter =
     if is_unsupported letter then fault.NotSupported unsupported.Conversion percent
     else fault.InvalidComponentName left 1
 
--- the meaning of a letter
+-- the meaning of a letter without a flag, or its fault; `percent` counts the bytes from its "%" to the end of the text,
+-- and `left` those from the letter
 abbrev pub letter_items : ℕ → ℕ → ℕ → Result (List Item) Fault
 letter_items percent left letter = or_fault (letter_fault percent left letter) (meaning letter)
 
--- the meaning of a letter after a flag, or the fault
+-- the meaning of a letter after a flag; or the fault of the letter if it has no meaning even without a flag, and else
+-- the fault at the flag if the letter can't have it; `left` counts the bytes from the letter to the end of the text
 abbrev pub flagged_items : Flag → ℕ → ℕ → Result (List Item) Fault
 flagged_items f left letter =
-    letter_items (left + 2) left letter >>= λ is. or_fault (fault.InvalidModifier (left + 1) 1) (flagged_meaning f letter)
+    letter_items (left + 2) left letter >>= λ is.
+    or_fault (fault.InvalidModifier (left + 1) 1) (flagged_meaning f letter)
 
--- items, and the fault after them, if there is one
+-- the items of a text up to its first fault or its end, and then that fault, or `None` if there is no fault
 abbrev pub Found : Type 0
 Found = List Item × Option Fault
 
+-- no items, and the fault
 abbrev pub failed : Fault → Found
 failed e = ([], Some e)
 
--- the given items, followed by what is found after them
+-- the given items, followed by the items and the fault that are found after them
 abbrev pub followed : List Item → Found → Found
 followed is found = (is ++ found.0, found.1)
 
@@ -211,19 +220,21 @@ unfoldable mutual
   strftime [] = ([], None)
   strftime (b ∷ text) = if b == 37 then conversion text else followed (literal b [] ∷ []) (strftime text)
 
-  -- likewise of a text after a "%"
+  -- the items of a text that begins after a "%", and the fault; an empty text has the fault that the letter is missing
   pub conversion : List ℕ → Found
   conversion [] = failed (fault.InvalidComponentName 0 0)
   conversion (b ∷ text) =
       by_option (started (letter_items (length (b ∷ text) + 1) (length (b ∷ text)) b) (strftime text))
       (λ f. flagged f text) (row_of flags b)
 
-  -- likewise of a text after a flag
+  -- the items of a text that begins after that flag, and the fault; an empty text has the fault that the letter is
+  -- missing
   pub flagged : Flag → List ℕ → Found
   flagged f [] = failed (fault.InvalidComponentName 0 0)
   flagged f (b ∷ text) = started (flagged_items f (length (b ∷ text)) b) (strftime text)
 
--- The text describes the tree.
+-- The text has no fault in strftime's syntax, and its items in order have that tree, a sequence; an empty text
+-- describes the empty sequence.
 unfoldable pub DescribesStrftime : List ℕ → Tree → Type 0
 DescribesStrftime text tree =
     ((strftime text).1 ≡ None) × (tree ≡ sequence (trees_of (items_of (strftime text).0)))
@@ -232,11 +243,12 @@ DescribesStrftime text tree =
 abbrev pub Exceeds : ℕ → List ℕ → Type 0
 Exceeds n text = n < length (flat (strftime text).0)
 
--- The text describes at most n steps.
+-- The text up to its first fault or its end describes at most n steps.
 abbrev pub Fits : ℕ → List ℕ → Type 0
 Fits n text = length (flat (strftime text).0) ≤ n
 
--- The error of a rejected text, with room for n steps: it is too long exactly if it exceeds them.
+-- The error of a rejected text, with room for n steps: `too_long` exactly if the text up to its first fault or its end
+-- describes more than n steps, and otherwise the first fault.
 abbrev pub IsRefusedStrftime : ℕ → List ℕ → Refusal → Type 0
 IsRefusedStrftime n text refusal =
     ((refusal ≡ too_long) × Exceeds n text)

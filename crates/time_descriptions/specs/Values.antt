@@ -24,29 +24,30 @@ use Rattle.time_descriptions.specs.declared.values.Modifier.TheVariants as modif
 
 -- ---- White space and words inside brackets, and tables of words
 
--- white space: a space, TAB, LF, FF or CR
+-- whether the byte is white space: a space, TAB, LF, FF or CR
 abbrev pub is_space : ℕ → Bool
 is_space b = is_ascii_whitespace b
 
--- bytes of a word: all except white space and brackets
+-- whether the byte can be in a word: it is neither white space nor `[` nor `]`
 abbrev pub is_of_word : ℕ → Bool
 is_of_word b = not (is_ascii_whitespace b) && not (b == 91) && not (b == 93)
 
--- names, each with its meaning
+-- a table: names as bytes, each with its meaning
 abbrev pub Rows : Type 0 → Type 0
 Rows V = List (List ℕ × V)
 
--- the value of the first row with that name, ignoring the case of letters
+-- the value of the first row with that name, ignoring the case of ASCII letters; `None` if there is no such row
 unfoldable pub look_up : {V : Type 0} → Rows V → List ℕ → Option V
 look_up [] name = None
 look_up (r ∷ rows) name = if str_eq_ignore_ascii_case r.0 name then Some r.1 else look_up rows name
 
--- the component that skips n bytes, unless n is 0
+-- the `Ignore` that skips n bytes, or `None` if n is 0
 abbrev pub ignored : ℕ → Option Ignore
 ignored zero = None
 ignored (suc n) = Some (record { count = record { value = suc n; ok = zero-lt-suc n } })
 
--- the component that skips the number of bytes whose digits so far are n, and the next digits, if that is 1 to 65535
+-- the `Ignore` whose count is n followed by these decimal digits (n itself for no digits); `None` if a byte isn't an
+-- ASCII digit, if a digit makes the count exceed 65535, or if the count is 0
 abbrev pub count_on : ℕ → List ℕ → Option Ignore
 count_on n [] = ignored n
 count_on n (b ∷ bytes) =
@@ -54,11 +55,12 @@ count_on n (b ∷ bytes) =
     then (if nat_lt 65535 (n * 10 + (b - 48)) then None else count_on (n * 10 + (b - 48)) bytes)
     else None
 
--- the component that skips the number of bytes given by the digits, if that is 1 to 65535
+-- the `Ignore` whose count has these ASCII digits, which may begin with zeros; `None` if there are no digits, if
+-- another byte occurs, or if the count isn't 1 to 65535
 abbrev pub ignore_count : List ℕ → Option Ignore
 ignore_count = count_on 0
 
--- the forms of a component
+-- the values of `repr` for the component, each with its meaning; empty for a component without `repr`
 unfoldable pub representations : ComponentName → Rows Representation
 representations name.Hour = (codes "24", form.Default) ∷ (codes "12", form.Twelve) ∷ []
 representations name.Month = (codes "numerical", form.Default) ∷ (codes "long", form.Long) ∷
@@ -72,25 +74,31 @@ representations name.Year = (codes "full", form.Default) ∷ (codes "century", f
     (codes "last_two", form.LastTwo) ∷ []
 representations _ = []
 
--- of two names, the second means true
+-- the values of `base`: whether a year is that of an ISO week date
 unfoldable pub bases : Rows Bool
 bases = (codes "calendar", false) ∷ (codes "iso_week", true) ∷ []
 
+-- the values of `case`: whether the letters of a period (AM or PM) are capitals
 unfoldable pub cases : Rows Bool
 cases = (codes "lower", false) ∷ (codes "upper", true) ∷ []
 
+-- the values of `case_sensitive` and of `one_indexed`
 unfoldable pub bools : Rows Bool
 bools = (codes "false", false) ∷ (codes "true", true) ∷ []
 
+-- the values of `range`: whether a year can have more than four digits, after a sign
 unfoldable pub ranges : Rows Bool
 ranges = (codes "standard", false) ∷ (codes "extended", true) ∷ []
 
+-- the values of `sign`: whether a sign is required
 unfoldable pub signs : Rows Bool
 signs = (codes "automatic", false) ∷ (codes "mandatory", true) ∷ []
 
+-- the values of `padding`: what fills a number up to its width
 unfoldable pub paddings : Rows Padding
 paddings = (codes "zero", padding.Zero) ∷ (codes "space", padding.Space) ∷ (codes "none", padding.None) ∷ []
 
+-- the values of `precision`: the unit of a timestamp
 unfoldable pub precisions : Rows Precision
 precisions =
     (codes "second", precision.Second)
@@ -99,9 +107,11 @@ precisions =
     ∷ (codes "nanosecond", precision.Nanosecond)
     ∷ []
 
+-- the values of `trailing_input`: whether `end` rejects or discards the remaining input
 unfoldable pub trailing_inputs : Rows TrailingInput
 trailing_inputs = (codes "prohibit", trailing.Prohibit) ∷ (codes "discard", trailing.Discard) ∷ []
 
+-- the values of `digits`: how many digits a fraction of a second has, where `1+` is one or more
 unfoldable pub digits : Rows SubsecondDigits
 digits =
     (codes "1+", digits_.OneOrMore)
@@ -116,7 +126,8 @@ digits =
     ∷ (codes "9", digits_.Nine)
     ∷ []
 
--- the value of a modifier of a component
+-- the modifier with that key and that value (the bytes after the colon), or `None` if the key has no such value; only
+-- the values of `repr` depend on the component
 abbrev pub modifier_value : ComponentName → ModifierKey → List ℕ → Option Modifier
 modifier_value n key.Base value = option_map modifier.Base (look_up bases value)
 modifier_value n key.Case value = option_map modifier.Case (look_up cases value)
@@ -133,7 +144,7 @@ modifier_value n key.TrailingInput value = option_map modifier.TrailingInput (lo
 
 -- ---- The names of components, and the keys of their modifiers
 
--- the components
+-- the names of all components
 unfoldable pub component_names : Rows ComponentName
 component_names =
     (codes "year", name.Year)
@@ -155,19 +166,23 @@ component_names =
     ∷ (codes "end", name.End)
     ∷ []
 
+-- the row of the key `padding`
 abbrev pub padding_key : List ℕ × ModifierKey
 padding_key = (codes "padding", key.Padding)
 
+-- the row of the key `repr`
 abbrev pub repr_key : List ℕ × ModifierKey
 repr_key = (codes "repr", key.Representation)
 
+-- the row of the key `sign`
 abbrev pub sign_key : List ℕ × ModifierKey
 sign_key = (codes "sign", key.Sign)
 
+-- the row of the key `case_sensitive`
 abbrev pub case_sensitive_key : List ℕ × ModifierKey
 case_sensitive_key = (codes "case_sensitive", key.CaseSensitive)
 
--- the modifiers of a component
+-- the keys of the modifiers that the component can have
 unfoldable pub modifier_keys : ComponentName → Rows ModifierKey
 modifier_keys name.Day = padding_key ∷ []
 modifier_keys name.End = (codes "trailing_input", key.TrailingInput) ∷ []

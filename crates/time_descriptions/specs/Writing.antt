@@ -11,33 +11,39 @@ use Rattle.time_components.specs.declared.modifier.TrailingInput.{TrailingInput}
 use Rattle.time_components.specs.declared.modifier.TrailingInput.TheVariants as trailing
 use Rattle.time_components.specs.Tree.{Tree, Trees, literal as literal_tree, component as component_tree, sequence, optional, first_of, none, more}
 
+-- a space and the padding's modifier, or nothing for the default, zeros
 abbrev pub padding_text : Padding → List ℕ
 padding_text padding.Zero = []
 padding_text padding.Space = codes " padding:space"
 padding_text padding.None = codes " padding:none"
 
--- a modifier that is written if it is true
+-- the modifier if the flag is true, and otherwise nothing
 abbrev pub where_true : List ℕ → Bool → List ℕ
 where_true modifier true = modifier
 where_true modifier false = []
 
--- a modifier that is written if it is false
+-- the modifier if the flag is false, and otherwise nothing
 abbrev pub where_false : List ℕ → Bool → List ℕ
 where_false modifier true = []
 where_false modifier false = modifier
 
+-- the sign's modifier if a sign is mandatory, and otherwise nothing
 abbrev pub sign_text : Bool → List ℕ
 sign_text = where_true (codes " sign:mandatory")
 
+-- the modifier that ignores the case of letters, or nothing if the case matters
 abbrev pub case_sensitive_text : Bool → List ℕ
 case_sensitive_text = where_false (codes " case_sensitive:false")
 
+-- the modifier that numbers weekdays from 0, or nothing if they are numbered from 1
 abbrev pub one_indexed_text : Bool → List ℕ
 one_indexed_text = where_false (codes " one_indexed:false")
 
+-- the modifier for small letters if the flag is false, or nothing for capitals
 abbrev pub case_text : Bool → List ℕ
 case_text = where_false (codes " case:lower")
 
+-- a space and the modifier of the number of digits, or nothing for the default, one or more
 abbrev pub digits_text : SubsecondDigits → List ℕ
 digits_text digits.One = codes " digits:1"
 digits_text digits.Two = codes " digits:2"
@@ -50,11 +56,13 @@ digits_text digits.Eight = codes " digits:8"
 digits_text digits.Nine = codes " digits:9"
 digits_text digits.OneOrMore = []
 
+-- a space and the modifier that discards trailing input, or nothing for the default, which rejects it
 abbrev pub trailing_input_text : TrailingInput → List ℕ
 trailing_input_text trailing.Prohibit = []
 trailing_input_text trailing.Discard = codes " trailing_input:discard"
 
--- the text inside a component's brackets
+-- the text inside a component's brackets: its name, its modifiers that differ from their defaults, and the count of an
+-- `Ignore`, which has no default
 abbrev pub words_of : Component → List ℕ
 words_of (component.Day m) = codes "day" ++ padding_text m.padding
 words_of (component.MonthShort m) = codes "month repr:short" ++ case_sensitive_text m.case_sensitive
@@ -105,16 +113,18 @@ words_of (component.UnixTimestampNanosecond m) =
     codes "unix_timestamp precision:nanosecond" ++ sign_text m.sign_is_mandatory
 words_of (component.End m) = codes "end" ++ trailing_input_text m.trailing_input
 
--- whether a byte that is a whole literal is written with a backslash
+-- whether the byte is `[`, `\` or `]`, which is written after a backslash if it is a whole literal
 abbrev pub is_escaped : ℕ → Bool
 is_escaped b = b == 91 || b == 92 || b == 93
 
+-- the text of a literal: its bytes, after a backslash if they are one bracket or one backslash; the bytes of another
+-- literal are never escaped
 abbrev pub literal_text : List ℕ → List ℕ
 literal_text (b ∷ []) = if is_escaped b then 92 ∷ b ∷ [] else b ∷ []
 literal_text bytes = bytes
 
 abbrev mutual
-  -- the text of a tree
+  -- the canonical text of a tree; it ignores the flag that an `Ignore` must end between UTF-8 characters
   pub tree_text : Tree → List ℕ
   tree_text (literal_tree bytes) = literal_text bytes
   tree_text (component_tree ends c) = codes "[" ++ (words_of c ++ codes "]")
@@ -122,12 +132,12 @@ abbrev mutual
   tree_text (optional t) = codes "[optional [" ++ (tree_text t ++ codes "]]")
   tree_text (first_of ts) = codes "[first" ++ (lists_text ts ++ codes "]")
 
-  -- of trees in order
+  -- the texts of the trees in order, without anything between them; empty for no trees
   pub trees_text : Trees → List ℕ
   trees_text none = []
   trees_text (more t ts) = tree_text t ++ trees_text ts
 
-  -- of the lists of a choice
+  -- the texts of the lists of a choice in order, each in brackets after a space; empty for no lists
   pub lists_text : Trees → List ℕ
   lists_text none = []
   lists_text (more t ts) = codes " [" ++ (tree_text t ++ (codes "]" ++ lists_text ts))

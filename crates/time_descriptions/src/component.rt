@@ -20,7 +20,9 @@ fn colon(text: &[u8]) -> usize
     text.iter().take_while(|byte| **byte != b':').count()
 }
 
-// The modifier that a word gives. `left` counts the bytes from the word to the end of the whole text.
+// The modifier of the component that a word, `key:value`, gives. The error is `InvalidModifier`: with the word if it
+// has no colon, with the key if the component has no such key, or with the value if the key has no such value. `left`
+// counts the bytes from the word to the end of the whole text.
 #[tactic(auto, unfolding(crate::specs::Components::modifier))]
 fn read_modifier(name: ComponentName, text: &[u8], left: usize) -> Result<Modifier, Fault>
     requires { length text.now ≤ left }
@@ -46,7 +48,9 @@ fn read_modifier(name: ComponentName, text: &[u8], left: usize) -> Result<Modifi
     }
 }
 
-// The values of the modifiers at the start of the text, and the text after them and white space.
+// The values of the component's modifiers at the start of the text, and the text after them and white space; or the
+// error of the first invalid one. A later modifier replaces an earlier one of its key, and a value without a modifier
+// has its default.
 fn read_modifiers(name: ComponentName, text: &[u8]) -> Result<(Modifiers, &[u8]), Fault>
     ensures within { IfOk result (λ x. length x.1.now ≤ length text.now) }
     ensures reads { Returns (λ x. (x.0, x.1.now)) result
@@ -68,8 +72,9 @@ fn read_modifiers(name: ComponentName, text: &[u8]) -> Result<(Modifiers, &[u8])
     }
 }
 
-// The text after the closing bracket that it begins with. `opening` counts the bytes from the opening bracket to the
-// end of the whole text.
+// The text after the closing bracket at its start. If it begins with an opening bracket, the error is `Expected` there;
+// if it is empty or begins with another byte, `UnclosedOpeningBracket`. `opening` counts the bytes from the component's
+// bracket to the end of the whole text.
 fn after_component(text: &[u8], opening: usize) -> Result<&[u8], Fault>
     ensures reads { Returns (λ x. x.now) result (components.after_component opening text.now) }
     ensures shorter { IfOk result (λ x. length x.now < length text.now) }
@@ -84,7 +89,9 @@ fn after_component(text: &[u8], opening: usize) -> Result<&[u8], Fault>
     }
 }
 
-/// The component in the brackets at the start of the text, and the rest. The text begins with the opening bracket.
+/// The component in the brackets at the start of the text, and the text after its closing bracket; or the first fault.
+/// The first byte must be the opening bracket, and isn't checked. The missing `count` of an `ignore` is the fault only
+/// if its brackets have no other fault.
 #[tactic(auto, unfolding(crate::specs::Components::bracketed))]
 pub fn bracketed(text: &[u8]) -> Result<(Component, &[u8]), Fault>
     requires { 1 ≤ length text.now }

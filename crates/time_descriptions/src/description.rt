@@ -9,21 +9,22 @@ use crate::items::add_items;
 use crate::leaf::{Step, Version};
 use arrayvec::ArrayVec;
 
-/// How deep lists may nest.
+/// How deep lists may nest, with the outermost lists as the first level.
 pub(crate) const MOST_LISTS: usize = 8;
 
 /// A description of the text of a date, a time or an offset, of at most `N` steps.
 ///
 /// A component is one step, and so is each byte of a literal, an optional item, a choice, and each list of a choice. So
-/// a description of up to `N` bytes always fits.
+/// a text of up to `N` bytes always fits in version 1 or 2. In strftime's syntax it may not: a conversion of two bytes
+/// can be several steps.
 #[derive(Debug, Drop)]
 pub struct Description<const N: usize> {
     pub(crate) steps: ArrayVec<Step, N>,
 }
 
 impl<const N: usize> Description<N> {
-    /// The steps, at most `N`, in the order of the text. A group contains as many of the steps after it as its length
-    /// states.
+    /// The steps, at most `N`, in the order of the text; none for an empty text. A group contains as many of the steps
+    /// after it as its length states.
     pub fn steps(&self) -> &[Step]
         ensures steps { result.now ≡ self.now.steps.items }
         ensures bound { length result.now ≤ N }
@@ -32,7 +33,7 @@ impl<const N: usize> Description<N> {
     }
 }
 
-// The version with that number.
+// Version 1 for the number 1, and version 2 for any other number.
 pub(crate) fn version_of(number: usize) -> Version
     ensures { result ≡ version_of number }
 {
@@ -43,7 +44,10 @@ pub(crate) fn version_of(number: usize) -> Version
     }
 }
 
-/// Parses a description of version 1 or 2.
+/// Parses a description of version 1 or 2: components in brackets, literal bytes, `[optional [..]]`, and
+/// `[first [..] [..]]` with one list or more. A literal `[` is `[[` in version 1; in version 2 a backslash escapes a
+/// bracket or a backslash. The names of components, and the keys and the values of modifiers, are in any ASCII case,
+/// `optional` and `first` in lowercase. An empty text is a description without steps.
 ///
 /// # Errors
 ///

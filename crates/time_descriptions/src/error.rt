@@ -7,62 +7,65 @@ ghost use Rattle.time_descriptions.specs.Refusal.{refusal_at, refusal_of, refusa
 use crate::names::{after, front};
 use std::fmt;
 
-/// Why a text isn't a description. An index counts bytes of the text from 0.
+/// Why a text isn't a description. An index counts bytes of the text from 0; it equals the text's length if the error
+/// is at its end.
 #[derive(Clone, Copy, Debug, PartialEq, Eq)]
 pub enum InvalidFormatDescription<'a> {
     /// An opening bracket is never closed, or something else is found instead of its closing bracket.
     UnclosedOpeningBracket {
-        /// The index of the bracket.
+        /// The index of the bracket; for a list inside `optional` or `first`, that of the bracket before this word.
         index: usize,
     },
-    /// No component has the name.
+    /// No component has the name; or in strftime's syntax, the letter of a conversion is unknown or missing.
     InvalidComponentName {
-        /// The name.
+        /// The name, or the letter, which is empty if it is missing.
         name: &'a [u8],
-        /// The index of the name.
+        /// The index of the name or the letter; the text's length if the letter is missing.
         index: usize,
     },
-    /// The component has no such modifier, or the modifier no such value.
+    /// A modifier has no colon, an unknown key or an invalid value; or in strftime's syntax, a letter can't have its
+    /// flag.
     InvalidModifier {
-        /// The modifier, its key or its value.
+        /// The modifier without a colon, the unknown key, the invalid value or the flag.
         value: &'a [u8],
-        /// The index of the value.
+        /// The index of these bytes.
         index: usize,
     },
-    /// Brackets without a name.
+    /// No name follows an opening bracket.
     MissingComponentName {
-        /// The index of the bracket, or of the white space after it.
+        /// The index of the bracket; if white space follows it, the index of this white space.
         index: usize,
     },
-    /// A modifier that the component requires is missing.
+    /// A modifier that the component requires is missing: the `count` of `ignore`.
     MissingRequiredModifier {
         /// The name of the modifier.
         name: &'static str,
         /// The index of the component's name.
         index: usize,
     },
-    /// Something else is expected here.
+    /// Something else is expected here: an escaped byte, white space or a list after `optional` or `first`, or a
+    /// modifier or a closing bracket.
     Expected {
-        /// What is expected here.
+        /// What is expected here, in English.
         what: &'static str,
         /// The index where it is expected.
         index: usize,
     },
-    /// The text has something that isn't supported here.
+    /// A list is in more than seven others; or in strftime's syntax, the letter of a conversion is `E`, `O` or `Z`.
     NotSupported {
-        /// What isn't supported.
+        /// What isn't supported, in English.
         what: &'static str,
-        /// Where it isn't supported.
+        /// The kind of description that doesn't support it, in English.
         context: &'static str,
-        /// The index of its first byte.
+        /// The index of the bracket before the list's `optional` or `first`, or of the conversion's `%`.
         index: usize,
     },
-    /// The description has more steps than there is room for.
+    /// The text, up to its first fault or its end, starts more steps than there is room for.
     TooLong,
 }
 
 impl InvalidFormatDescription<'_> {
-    /// The index of the first fault in the text, or `None` for a description that is too long.
+    /// The byte index of the first fault in the text, or `None` for [`TooLong`](Self::TooLong).
     pub fn index(self) -> Option<usize>
         ensures { result ≡ refusal.index_of (refusal_of self.entry) }
     {
@@ -79,14 +82,14 @@ impl InvalidFormatDescription<'_> {
     }
 }
 
-// Writes an error and its index.
+// Writes an error, ` at byte index `, and the index.
 fn write_at<W: fmt::Write>(f: &mut fmt::Formatter<W>, what: &str, index: usize) -> fmt::Result
     ensures { DisplaysOnOk W.write_str_gives f.old result (Some (what.now ++ (codes " at byte index " ++ decimal index))) f.new }
 {
     write!(f, "{what} at byte index {index}")
 }
 
-// Writes which word is invalid.
+// Writes what kind of word is invalid, the word with bytes escaped as in Rust's byte strings, and its index.
 fn write_invalid<W: fmt::Write>(
     f: &mut fmt::Formatter<W>,
     what: &str,
@@ -100,7 +103,7 @@ fn write_invalid<W: fmt::Write>(
     )
 }
 
-// Writes which modifier of a component is missing.
+// Writes that a component's required modifier is missing, with the modifier's name and the component's byte index.
 fn write_missing<W: fmt::Write>(f: &mut fmt::Formatter<W>, name: &str, index: usize) -> fmt::Result
     ensures { DisplaysOnOk W.write_str_gives f.old result (refusal_text (refusal.missing_modifier name.now index)) f.new }
 {
@@ -110,7 +113,7 @@ fn write_missing<W: fmt::Write>(f: &mut fmt::Formatter<W>, name: &str, index: us
     )
 }
 
-// Writes what isn't supported, and where.
+// Writes what isn't supported, in which kind of description, and its index.
 fn write_not_supported<W: fmt::Write>(
     f: &mut fmt::Formatter<W>,
     what: &str,
@@ -152,7 +155,7 @@ impl fmt::Display for InvalidFormatDescription<'_> {
 
 impl std::error::Error for InvalidFormatDescription<'_> {}
 
-// The index from which `left` bytes remain.
+// The index from which `left` bytes of the text remain, or 0 if the text has fewer bytes.
 fn index_of(text: &[u8], left: usize) -> usize
     ensures value { result ≡ length text.now - left }
     ensures within { result ≤ length text.now }
@@ -173,7 +176,7 @@ fn word_at(text: &[u8], index: usize, len: usize) -> &[u8]
     }
 }
 
-// What is expected.
+// The words that name what is expected.
 fn expectation_text(what: Expectation) -> &'static str
     ensures { result.now ≡ refusal.expectation_text what }
 {
@@ -186,7 +189,7 @@ fn expectation_text(what: Expectation) -> &'static str
     }
 }
 
-// What isn't supported.
+// The words that name what isn't supported.
 fn unsupported_text(what: Unsupported) -> &'static str
     ensures { result.now ≡ refusal.unsupported_text what }
 {
@@ -196,7 +199,7 @@ fn unsupported_text(what: Unsupported) -> &'static str
     }
 }
 
-// Where it isn't supported.
+// The words that name the kind of description that doesn't support it.
 fn context_text(what: Unsupported) -> &'static str
     ensures { result.now ≡ refusal.context_text what }
 {
@@ -252,55 +255,57 @@ impl<'a> InvalidFormatDescription<'a> {
     }
 }
 
-/// What is expected instead of what the text has.
+/// What is expected where the text has something else, or ends.
 #[derive(Clone, Copy)]
 pub enum Expectation {
-    /// A bracket or a backslash after a backslash.
+    /// A bracket or a backslash after a backslash, in version 2.
     EscapedByte,
     /// White space after `optional`.
     SpaceAfterOptional,
     /// White space after `first`.
     SpaceAfterFirst,
-    /// An opening bracket.
+    /// The opening bracket of a list, after `optional` or `first` and white space.
     OpeningBracket,
-    /// A modifier or a closing bracket.
+    /// A modifier or the closing bracket of a component, instead of an opening bracket.
     Modifier,
 }
 
-/// What no description supports.
+/// What isn't supported, although its syntax is known.
 #[derive(Clone, Copy)]
 pub enum Unsupported {
-    /// Lists that nest too deep.
+    /// A list in more than seven others.
     DeepList,
-    /// A conversion of strftime without a component.
+    /// A conversion of strftime with the letter `E`, `O` or `Z`.
     Conversion,
 }
 
-/// The first fault from the left, with how many bytes remain from its place on.
+/// The first fault from the left, with the number of bytes from its place to the end of the text. A parser that sees
+/// only the remaining text knows this number, and the index follows from it.
 #[derive(Clone, Copy)]
 pub enum Fault {
-    /// A bracket is never closed.
+    /// An opening bracket is never closed, or something else is found instead of its closing bracket.
     UnclosedOpeningBracket {
-        /// Bytes from the bracket to the end of the text.
+        /// Bytes from the bracket to the end of the text; for a list of a group, from the group's bracket.
         left: usize,
     },
-    /// No component has the name.
+    /// No component has the name; or in strftime's syntax, the letter is unknown or missing.
     InvalidComponentName {
-        /// Bytes from the name to the end of the text.
+        /// Bytes from the name or the letter to the end of the text, 0 if the letter is missing.
         left: usize,
-        /// The name's length.
+        /// The length of the name or the letter in bytes, 0 if the letter is missing.
         len: usize,
     },
-    /// The component has no such modifier, or the modifier no such value.
+    /// A modifier has no colon, an unknown key or an invalid value; or in strftime's syntax, a letter can't have its
+    /// flag.
     InvalidModifier {
-        /// Bytes from the key or the value to the end of the text.
+        /// Bytes from the modifier without a colon, the key, the value or the flag to the end of the text.
         left: usize,
-        /// The length of the key or the value.
+        /// The length of this modifier, key, value or flag in bytes.
         len: usize,
     },
-    /// Brackets without a name.
+    /// No name follows an opening bracket.
     MissingComponentName {
-        /// Bytes from the place to the end of the text.
+        /// Bytes from the bracket or, if white space follows it, from this white space to the end of the text.
         left: usize,
     },
     /// `ignore` without its `count`.
@@ -312,14 +317,14 @@ pub enum Fault {
     Expected {
         /// What is expected.
         what: Expectation,
-        /// Bytes from the place to the end of the text.
+        /// Bytes from where it is expected to the end of the text.
         left: usize,
     },
     /// This is not supported.
     NotSupported {
         /// What isn't supported.
         what: Unsupported,
-        /// Bytes from the place to the end of the text.
+        /// Bytes from the opening bracket of the list's group, or from the conversion's `%`, to the end of the text.
         left: usize,
     },
     /// There is no room for one more step.

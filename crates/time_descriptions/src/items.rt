@@ -13,7 +13,7 @@ use crate::leaf::{Group, Leaf, Step, Version, read_leaf};
 use crate::names::{after, front, space_len, word_len};
 use arrayvec::ArrayVec;
 
-// Whether the items end here.
+// Whether items end here: at the end of the text or, if `nested`, before a closing bracket.
 pub(crate) fn ends(nested: bool, text: &[u8]) -> bool
     ensures { result ≡ grammar.ends nested text.now }
 {
@@ -23,7 +23,7 @@ pub(crate) fn ends(nested: bool, text: &[u8]) -> bool
     }
 }
 
-// The group that the word opens.
+// The group that the word opens: lowercase `optional` or `first`. `None` for another word.
 fn group_named(word: &[u8]) -> Option<Group>
     ensures { result ≡ grammar.group_named word.now }
 {
@@ -36,7 +36,8 @@ fn group_named(word: &[u8]) -> Option<Group>
     }
 }
 
-// The group that the text begins with, and the text after the group's word.
+// The group that the text begins with, and the text after the group's word. `None` if the text doesn't begin with an
+// opening bracket, maybe white space, and then exactly the word `optional` or `first`.
 #[tactic(auto, unfolding(crate::specs::Grammar::group_word))]
 pub(crate) fn group_word(text: &[u8]) -> Option<(Group, &[u8])>
     ensures found { Finds (λ x. (x.0, x.1.now)) result (grammar.group_word text.now) }
@@ -53,7 +54,8 @@ pub(crate) fn group_word(text: &[u8]) -> Option<(Group, &[u8])>
     }
 }
 
-// The text inside the first list of a group.
+// The text after the bracket that opens a group's first list. The given text begins after the group's word. Without
+// white space there, the error is that white space is expected, and without a bracket after it, that a bracket is.
 #[tactic(auto, unfolding(crate::specs::Grammar::opened))]
 pub(crate) fn opened(group: Group, text: &[u8]) -> Result<&[u8], Fault>
     ensures reads { Returns (λ x. x.now) result (grammar.opened group text.now) }
@@ -80,7 +82,8 @@ pub(crate) fn opened(group: Group, text: &[u8]) -> Result<&[u8], Fault>
     }
 }
 
-// The text inside the next list of a group, if one follows.
+// The text after the opening bracket of a group's next list, which white space may precede. `None` if no such bracket
+// follows.
 #[tactic(auto, unfolding(crate::specs::Grammar::next_list))]
 pub(crate) fn next_list(text: &[u8]) -> Option<&[u8]>
     ensures found { Finds (λ x. x.now) result (grammar.next_list text.now) }
@@ -92,7 +95,8 @@ pub(crate) fn next_list(text: &[u8]) -> Option<&[u8]>
     }
 }
 
-// The text after the closing bracket that it begins with.
+// The text after the closing bracket at its start, or else the error `UnclosedOpeningBracket` at `opening`, which
+// counts the bytes from the group's opening bracket to the end of the whole text.
 pub(crate) fn after_closing(text: &[u8], opening: usize) -> Result<&[u8], Fault>
     ensures reads { Returns (λ x. x.now) result (grammar.after_byte 93 (fault.UnclosedOpeningBracket opening) text.now) }
     ensures shorter { IfOk result (λ rest. length rest.now < length text.now) }
@@ -103,7 +107,8 @@ pub(crate) fn after_closing(text: &[u8], opening: usize) -> Result<&[u8], Fault>
     }
 }
 
-// The text after a group. `opening` counts the bytes from the group's opening bracket to the end of the whole text.
+// The text after a group's closing bracket, which white space may precede, or else the error `UnclosedOpeningBracket`.
+// `opening` counts the bytes from the group's opening bracket to the end of the whole text.
 #[tactic(auto, unfolding(crate::specs::Grammar::closed))]
 pub(crate) fn closed(text: &[u8], opening: usize) -> Result<&[u8], Fault>
     ensures reads { Returns (λ x. x.now) result (grammar.closed opening text.now) }
@@ -112,7 +117,7 @@ pub(crate) fn closed(text: &[u8], opening: usize) -> Result<&[u8], Fault>
     after_closing(after(text, space_len(text)), opening)
 }
 
-// Appends a step, if there is room.
+// Appends a step. The error is `NoRoom` if there are already `N` steps.
 pub(crate) fn push<const N: usize>(steps: &mut ArrayVec<Step, N>, step: Step) -> Result<(), Fault>
     ensures ok { OnOk result (steps.new.items ≡ steps.old.items ++ step ∷ []) }
     ensures room { OnOk result (length steps.new.items ≤ N) }
@@ -124,7 +129,7 @@ pub(crate) fn push<const N: usize>(steps: &mut ArrayVec<Step, N>, step: Step) ->
     }
 }
 
-// Appends the steps of a leaf, if there is room.
+// Appends the steps of a leaf. The error is `NoRoom` if not all fit; some may then have been appended.
 fn push_leaf<const N: usize>(steps: &mut ArrayVec<Step, N>, leaf: Leaf<'_>) -> Result<(), Fault>
     ensures ok { OnOk result (steps.new.items ≡ steps.old.items ++ steps_of (leaf_item leaf.entry)) }
     ensures room { OnOk result (length steps.new.items ≤ N) }
@@ -140,7 +145,8 @@ fn push_leaf<const N: usize>(steps: &mut ArrayVec<Step, N>, leaf: Leaf<'_>) -> R
     }
 }
 
-// Appends the further bytes of a literal, if there is room.
+// Appends a step for each further byte of a literal. The error is `NoRoom` if not all fit; some may then have been
+// appended.
 fn push_further<const N: usize>(steps: &mut ArrayVec<Step, N>, bytes: &[u8]) -> Result<(), Fault>
     ensures ok { OnOk result (steps.new.items ≡ steps.old.items ++ map step.More bytes.now) }
     ensures room { OnOk result (length steps.old.items ≤ N → length steps.new.items ≤ N) }
@@ -152,7 +158,8 @@ fn push_further<const N: usize>(steps: &mut ArrayVec<Step, N>, bytes: &[u8]) -> 
     Ok(())
 }
 
-// Appends a group without steps, if there is room, and returns its index.
+// Appends a group of no steps, and returns its index. `close_group` sets its length later. The error is `NoRoom` if
+// there are already `N` steps.
 fn open_group<const N: usize>(steps: &mut ArrayVec<Step, N>, group: Group) -> Result<usize, Fault>
     ensures ok { IfOk result (λ index. (index ≡ length steps.old.items)
         × (steps.new.items ≡ steps.old.items ++ step.Group group 0 ∷ []) × (length steps.old.items < N)) }
@@ -173,7 +180,8 @@ fn close_group<const N: usize>(steps: &mut ArrayVec<Step, N>, group: Group, inde
     steps[index] = Step::Group(group, len);
 }
 
-// Appends the leaf at the start of the text, and returns the rest.
+// Appends the leaf at the start of the text, inside a list if `nested`, and returns the text after it. The error is the
+// leaf's fault, or `NoRoom`.
 fn add_leaf<'a, const N: usize>(
     version: Version,
     nested: bool,
@@ -193,7 +201,8 @@ fn add_leaf<'a, const N: usize>(
     }
 }
 
-// Appends the item at the start of the text, and returns the rest. Lists in the item may nest `depth` deep.
+// Appends the item at the start of the text, inside a list if `nested`, and returns the text after it. Lists in the
+// item may nest `depth` deep.
 #[cycle(items)]
 fn add_item<'a, const N: usize>(
     version: Version,
@@ -220,8 +229,9 @@ fn add_item<'a, const N: usize>(
     }
 }
 
-// Appends a group; the text begins after the group's word. `opening` counts the bytes from the group's opening bracket
-// to the end of the whole text.
+// Appends a group, and returns the text after its closing bracket. The given text begins after the group's word, and
+// lists in the group's lists may nest `depth` deep. `opening` counts the bytes from the group's opening bracket to the
+// end of the whole text.
 #[cycle(items)]
 fn add_group<'a, const N: usize>(
     version: Version,
@@ -250,7 +260,8 @@ fn add_group<'a, const N: usize>(
     }
 }
 
-// Appends the contents of a group whose first list is open.
+// Appends the contents of a group whose first list is open, and returns the text after the bracket that closes its
+// last list. The group's own closing bracket isn't parsed.
 #[cycle(items)]
 fn add_inside<'a, const N: usize>(
     version: Version,
@@ -271,7 +282,8 @@ fn add_inside<'a, const N: usize>(
     }
 }
 
-// Appends the list that the text continues, whose bracket is already open, and those after it.
+// Appends the list whose opening bracket precedes the text, and those after it, each as a group with its items. Returns
+// the text after the last list's closing bracket.
 #[cycle(items)]
 fn add_lists<'a, const N: usize>(
     version: Version,
@@ -301,7 +313,8 @@ fn add_lists<'a, const N: usize>(
     }
 }
 
-// Appends the items of an open list, and returns the text after its closing bracket.
+// Appends the items of a list whose opening bracket precedes the text, and returns the text after its closing bracket.
+// Without one, the error is at the group's bracket, by `opening`.
 #[cycle(items)]
 fn add_list<'a, const N: usize>(
     version: Version,
@@ -322,7 +335,9 @@ fn add_list<'a, const N: usize>(
 }
 
 /// Appends the items at the start of the text, up to its end or, if `nested`, up to a closing bracket, and returns the
-/// rest. Lists may nest `depth` deep.
+/// remaining text, which is empty or begins with this bracket. Lists may nest `depth` deep. The error is `NoRoom`
+/// if the steps that the text starts up to its first fault or the end of the items don't fit, and otherwise this fault.
+/// After an error, some steps may have been appended.
 #[cycle(items)]
 pub fn add_items<'a, const N: usize>(
     version: Version,

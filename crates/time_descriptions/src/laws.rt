@@ -12,19 +12,20 @@ pub fn law_one_strftime_description()
     ensures { OneStrftimeDescription }
 {}
 
-/// A rejected text has exactly one error, and it describes no tree in as many steps as there is room for.
+/// In each version, a rejected text has exactly one error, and it describes no tree in as many steps as there is room
+/// for.
 pub fn law_one_outcome()
     ensures { OneOutcome }
 {}
 
-/// A text that is parsed starts as many steps as its items have, so it fits exactly if they fit.
+/// A text that parses to its end starts exactly as many steps as its items have, so it fits exactly if they fit.
 #[tactic(auto, using(crate::proofs::ReadComponents::steps_of_read))]
 pub fn law_steps_of_read()
     ensures { StepsOfRead }
 {}
 
-/// Versions 1 and 2 agree on a text without backslashes and without two opening brackets in a row: it describes one
-/// tree in both, or has one first fault at one index in both.
+/// Versions 1 and 2 agree on a text without backslashes and without two opening brackets in a row: it describes equal
+/// trees in both, or has equal errors in both.
 pub fn law_versions_agree()
     ensures { VersionsAgree }
 {}
@@ -46,12 +47,12 @@ pub fn law_one_strftime_outcome()
     ensures { OneStrftimeOutcome }
 {}
 
-/// Texts of version 2 describe exactly the trees that are valid items in turn.
+/// Some text of version 2 describes a tree exactly if the definition `is_described` is true for the tree.
 pub fn law_described_trees()
     ensures { DescribedTrees }
 {}
 
-/// Trees that texts describe are equal if the texts that are written of them are.
+/// Trees that texts of version 2 describe are equal if their canonical texts are equal.
 #[tactic(auto, using(crate::proofs::OneTree::one_tree))]
 pub fn law_one_tree()
     ensures { OneTree }

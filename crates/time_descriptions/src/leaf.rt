@@ -14,13 +14,13 @@ pub use time_components::{Group, Step};
 /// An item without other items inside it.
 #[derive(Clone, Copy)]
 pub enum Leaf<'a> {
-    /// A byte, and further ones.
+    /// The first byte of a literal, and its further bytes, which may be none.
     Literal(u8, &'a [u8]),
     /// A component.
     Component(Component),
 }
 
-// Whether a backslash escapes the next byte.
+// Whether a backslash escapes the next byte: only in version 2.
 #[inline(always)]
 fn has_backslash(version: Version) -> bool
     ensures { result ≡ grammar.has_backslash version }
@@ -28,7 +28,8 @@ fn has_backslash(version: Version) -> bool
     matches!(version, Version::Two)
 }
 
-// The number of plain bytes at the start of the text.
+// The number of plain bytes at the start of the text. All bytes are plain but `[`, in version 2 `\`, and inside a list,
+// which `nested` means, `]`.
 fn plain_len(version: Version, nested: bool, text: &[u8]) -> usize
     ensures count { result ≡ prefix_len (grammar.is_plain version nested) text.now }
     ensures within { result ≤ length text.now }
@@ -41,7 +42,8 @@ fn plain_len(version: Version, nested: bool, text: &[u8]) -> usize
         .count()
 }
 
-// The byte after a backslash, as a literal.
+// The `[`, `\` or `]` at the start of the text as a literal, and the text after it. The given text begins after a
+// backslash. If it is empty or begins with another byte, the error is `Expected` there.
 fn escaped(text: &[u8]) -> Result<(Leaf<'_>, &[u8]), Fault>
     ensures reads { Returns (λ x. (leaf_item x.0, x.1.now)) result (grammar.escaped text.now) }
     ensures takes { IfOk result (λ x. length (steps_of (leaf_item x.0)) + length x.1.now ≤ length text.now) }
@@ -55,7 +57,9 @@ fn escaped(text: &[u8]) -> Result<(Leaf<'_>, &[u8]), Fault>
     }
 }
 
-/// The literal, the escape or the component at the start of the text, and the rest.
+/// The literal, the escape or the component at the start of the text, and the text after it; or the first fault. A
+/// literal extends up to the first byte that isn't plain. `nested` means inside a list, where `]` ends a literal; but
+/// a `]` at the start of the text begins one. For an empty text, the error is `MissingComponentName`.
 #[tactic(auto, unfolding(crate::specs::Grammar::leaf))]
 pub fn read_leaf(version: Version, nested: bool, text: &[u8]) -> Result<(Leaf<'_>, &[u8]), Fault>
     ensures reads { Returns (λ x. (leaf_item x.0, x.1.now)) result (grammar.leaf version nested text.now) }
@@ -81,11 +85,11 @@ pub fn read_leaf(version: Version, nested: bool, text: &[u8]) -> Result<(Leaf<'_
     }
 }
 
-/// A version of descriptions.
+/// A version of the syntax of descriptions. They differ only in how a literal bracket or backslash is written.
 #[derive(Clone, Copy)]
 pub enum Version {
-    /// `[[` is a literal `[`.
+    /// `[[` is a literal `[`, and a backslash is a literal byte.
     One,
-    /// A backslash escapes the bracket or the backslash after it.
+    /// A backslash escapes the bracket or the backslash after it, and is an error before another byte.
     Two,
 }

@@ -68,17 +68,17 @@ const SHORTHANDS: [(u8, &[u8]); 11] = [
 /// A flag between the `%` and the letter of a conversion.
 #[derive(Clone, Copy)]
 pub enum Flag {
-    /// The padding of a number.
+    /// The padding of a number: `-` for none, `_` for spaces, `0` for zeros.
     Padding(Padding),
-    /// How many digits a fraction of a second has.
+    /// How many digits a fraction of a second has: `3`, `6` or `9`.
     Digits(SubsecondDigits),
-    /// A fraction of a second after a point, or nothing.
+    /// `.`: a fraction of a second after a point, or nothing.
     Point,
-    /// A colon between the hours and the minutes of an offset.
+    /// `:`: a colon between the hours and the minutes of an offset.
     Colon,
 }
 
-// The flags.
+// The flags by their bytes.
 const FLAGS: [(u8, Flag); 8] = [
     (b'-', Flag::Padding(Padding::None)),
     (b'_', Flag::Padding(Padding::Space)),
@@ -90,7 +90,7 @@ const FLAGS: [(u8, Flag); 8] = [
     (b':', Flag::Colon),
 ];
 
-// The value of the first row with that letter.
+// The value of the first row with that letter. `None` if there is no such row.
 fn row_of<V: Copy>(rows: &[(u8, V)], letter: u8) -> Option<V>
     ensures { result ≡ row_of rows.now letter }
 {
@@ -104,28 +104,29 @@ fn row_of<V: Copy>(rows: &[(u8, V)], letter: u8) -> Option<V>
     None
 }
 
-/// The component that the letter means, if it means one.
+/// The component that the letter means. `None` for `z`, a shorthand and a letter without a meaning.
 pub fn component_of_letter(letter: u8) -> Option<Component>
     ensures { result ≡ row_of letters.components letter }
 {
     row_of(&COMPONENTS, letter)
 }
 
-/// The flag that the byte means, if it means one.
+/// The flag that the byte means. `None` if it isn't a flag.
 pub fn flag_of(byte: u8) -> Option<Flag>
     ensures { result ≡ row_of letters.flags byte }
 {
     row_of(&FLAGS, byte)
 }
 
-/// The bytes that the letter abbreviates, if it is a shorthand.
+/// The bytes that the letter abbreviates, such as `Y-m-d` for `F`; each byte that is a component's letter means the
+/// component. `None` if the letter isn't a shorthand.
 pub fn shorthand(letter: u8) -> Option<&'static [u8]>
     ensures { Finds (λ bytes. bytes.now) result (row_of letters.shorthands letter) }
 {
     row_of(&SHORTHANDS, letter)
 }
 
-/// The step of a byte in a shorthand.
+/// The step of a byte in a shorthand: the component that it means as a letter, or else the byte as a literal.
 pub fn step_of_byte(byte: u8) -> Step
     ensures { result ≡ letters.step_of_byte byte }
 {

@@ -15,37 +15,37 @@ macro_rules! component {
 
 pub(crate) use component;
 
-/// The values of a component's modifiers.
+/// The values of the modifiers of any component. Each component uses only its own.
 #[derive(Clone, Copy)]
 pub struct Modifiers {
     /// Whether the year is that of an ISO week date.
     pub is_iso_week: bool,
-    /// Whether the letters are capitals.
+    /// Whether the letters of a period (AM or PM) are capitals.
     pub is_uppercase: bool,
-    /// Whether the case matters.
+    /// Whether the case of the letters of a name or a period matters in parsing.
     pub case_sensitive: bool,
-    /// How many bytes are skipped.
+    /// How many bytes `ignore` skips, or `None` if no count was given.
     pub count: Option<modifier::Ignore>,
-    /// How many digits.
+    /// How many digits a fraction of a second has.
     pub digits: SubsecondDigits,
-    /// Whether the first day has the number 1.
+    /// Whether the first day of the week has the number 1, and not 0.
     pub one_indexed: bool,
     /// What fills the number up to its width.
     pub padding: Padding,
-    /// The unit of a timestamp.
+    /// The unit of a Unix timestamp.
     pub precision: Precision,
-    /// Whether a sign extends the range.
+    /// Whether a year can have more than four digits, after a sign.
     pub is_extended: bool,
-    /// Which form of the component is selected.
+    /// The value of `repr`, which selects one of the components that share a name.
     pub representation: Representation,
     /// Whether a sign is required.
     pub sign_is_mandatory: bool,
-    /// How trailing bytes are treated.
+    /// How `end` treats the remaining input.
     pub trailing_input: TrailingInput,
 }
 
 impl Modifiers {
-    // The values without any modifier.
+    // The values of a component in whose brackets no modifier is written.
     pub const DEFAULT: Modifiers = Modifiers {
         is_iso_week: false,
         is_uppercase: true,
@@ -61,7 +61,7 @@ impl Modifiers {
         trailing_input: TrailingInput::Prohibit,
     };
 
-    // The values with one more modifier, which replaces an earlier value of its key.
+    // The values with one more modifier, which replaces an earlier value of its key. All other values are unchanged.
     pub fn with(mut self, modifier: Modifier) -> Modifiers
         ensures { result ≡ modifiers_.with_modifier self modifier }
     {
@@ -83,7 +83,8 @@ impl Modifiers {
     }
 }
 
-// The full year that the modifiers select.
+// The full year that the modifiers select: of the calendar or of an ISO week date, of the extended or the standard
+// range.
 fn full_year(modifiers: Modifiers) -> Component
     ensures { result ≡ modifiers_.full_year modifiers.is_iso_week modifiers.is_extended modifiers }
 {
@@ -97,7 +98,8 @@ fn full_year(modifiers: Modifiers) -> Component
     }
 }
 
-// The century that the modifiers select.
+// The year without its last two digits that the modifiers select: of the calendar or of an ISO week date, of the
+// extended or the standard range.
 fn century(modifiers: Modifiers) -> Component
     ensures { result ≡ modifiers_.century modifiers.is_iso_week modifiers.is_extended modifiers }
 {
@@ -111,7 +113,7 @@ fn century(modifiers: Modifiers) -> Component
     }
 }
 
-// The year that the modifiers select.
+// The year that the modifiers select: its century, its last two digits, or else the full year.
 fn year(modifiers: Modifiers) -> Component
     ensures { result ≡ modifiers_.year modifiers }
 {
@@ -124,7 +126,7 @@ fn year(modifiers: Modifiers) -> Component
     }
 }
 
-// The month that the modifiers select.
+// The month that the modifiers select: its long or short name, or else its number.
 fn month(modifiers: Modifiers) -> Component
     ensures { result ≡ modifiers_.month modifiers }
 {
@@ -136,7 +138,7 @@ fn month(modifiers: Modifiers) -> Component
     }
 }
 
-// The weekday that the modifiers select.
+// The weekday that the modifiers select: its short name, its number from Sunday or Monday, or else its long name.
 fn weekday(modifiers: Modifiers) -> Component
     ensures { result ≡ modifiers_.weekday modifiers }
 {
@@ -150,7 +152,7 @@ fn weekday(modifiers: Modifiers) -> Component
     }
 }
 
-// The week number that the modifiers select.
+// The week number that the modifiers select: of weeks from Sunday or Monday, or else of ISO weeks.
 fn week_number(modifiers: Modifiers) -> Component
     ensures { result ≡ modifiers_.week_number modifiers }
 {
@@ -162,7 +164,7 @@ fn week_number(modifiers: Modifiers) -> Component
     }
 }
 
-// The timestamp that the modifiers select.
+// The Unix timestamp in the unit that the modifiers select.
 fn unix_timestamp(modifiers: Modifiers) -> Component
     ensures { result ≡ modifiers_.unix_timestamp modifiers }
 {
@@ -175,7 +177,7 @@ fn unix_timestamp(modifiers: Modifiers) -> Component
     }
 }
 
-// The hour that the modifiers select.
+// The hour that the modifiers select: of a 12-hour clock, or else of a 24-hour clock.
 fn hour(modifiers: Modifiers) -> Component
     ensures { result ≡ modifiers_.hour modifiers }
 {
@@ -186,7 +188,8 @@ fn hour(modifiers: Modifiers) -> Component
     }
 }
 
-// The component with that name that the modifiers select. Returns `None` for `ignore` without a count.
+// The component with that name that the modifiers select. Returns `None` exactly for `ignore` without a count. Values
+// that the component doesn't have are ignored.
 #[tactic(auto, unfolding(crate::specs::Modifiers::component_of))]
 pub fn component_of(name: ComponentName, modifiers: Modifiers) -> Option<Component>
     ensures { result ≡ modifiers_.component_of name modifiers }

@@ -47,7 +47,7 @@ pub enum ComponentName {
     Year,
 }
 
-/// The keys of modifiers.
+/// The keys of modifiers, which precede the colon.
 #[derive(Clone, Copy)]
 pub enum ModifierKey {
     /// `base`
@@ -76,7 +76,7 @@ pub enum ModifierKey {
     TrailingInput,
 }
 
-// The commonest names come first.
+// The names of components. The commonest come first, since the search is linear.
 const COMPONENT_NAMES: [(&[u8], ComponentName); 17] = [
     (b"year", ComponentName::Year),
     (b"month", ComponentName::Month),
@@ -97,46 +97,57 @@ const COMPONENT_NAMES: [(&[u8], ComponentName); 17] = [
     (b"end", ComponentName::End),
 ];
 
+// The keys of a component whose only modifier is its padding.
 const PADDING_KEYS: [(&[u8], ModifierKey); 1] = [(b"padding", ModifierKey::Padding)];
 
+// The keys of `end`.
 const END_KEYS: [(&[u8], ModifierKey); 1] = [(b"trailing_input", ModifierKey::TrailingInput)];
 
+// The keys of `hour` and of `week_number`.
 const REPR_KEYS: [(&[u8], ModifierKey); 2] = [
     (b"padding", ModifierKey::Padding),
     (b"repr", ModifierKey::Representation),
 ];
 
+// The keys of `ignore`.
 const IGNORE_KEYS: [(&[u8], ModifierKey); 1] = [(b"count", ModifierKey::Count)];
 
+// The keys of `month`.
 const MONTH_KEYS: [(&[u8], ModifierKey); 3] = [
     (b"padding", ModifierKey::Padding),
     (b"repr", ModifierKey::Representation),
     (b"case_sensitive", ModifierKey::CaseSensitive),
 ];
 
+// The keys of `offset_hour`.
 const OFFSET_HOUR_KEYS: [(&[u8], ModifierKey); 2] = [
     (b"padding", ModifierKey::Padding),
     (b"sign", ModifierKey::Sign),
 ];
 
+// The keys of `period`.
 const PERIOD_KEYS: [(&[u8], ModifierKey); 2] = [
     (b"case", ModifierKey::Case),
     (b"case_sensitive", ModifierKey::CaseSensitive),
 ];
 
+// The keys of `subsecond`.
 const SUBSECOND_KEYS: [(&[u8], ModifierKey); 1] = [(b"digits", ModifierKey::Digits)];
 
+// The keys of `unix_timestamp`.
 const TIMESTAMP_KEYS: [(&[u8], ModifierKey); 2] = [
     (b"precision", ModifierKey::Precision),
     (b"sign", ModifierKey::Sign),
 ];
 
+// The keys of `weekday`.
 const WEEKDAY_KEYS: [(&[u8], ModifierKey); 3] = [
     (b"repr", ModifierKey::Representation),
     (b"one_indexed", ModifierKey::OneIndexed),
     (b"case_sensitive", ModifierKey::CaseSensitive),
 ];
 
+// The keys of `year`.
 const YEAR_KEYS: [(&[u8], ModifierKey); 5] = [
     (b"padding", ModifierKey::Padding),
     (b"repr", ModifierKey::Representation),
@@ -145,14 +156,14 @@ const YEAR_KEYS: [(&[u8], ModifierKey); 5] = [
     (b"sign", ModifierKey::Sign),
 ];
 
-/// The component with that name.
+/// The component with that name, in any ASCII case, or `None` if no component has that name.
 pub fn component_name(name: &[u8]) -> Option<ComponentName>
     ensures { result ≡ look_up names.component_names name.now }
 {
     look_up(&COMPONENT_NAMES, name)
 }
 
-/// The key with that name, if the component has such a modifier.
+/// The key with that name, in any ASCII case, or `None` if the component has no such modifier.
 #[tactic(auto, unfolding(crate::specs::Values::modifier_keys))]
 pub fn modifier_key(component: ComponentName, name: &[u8]) -> Option<ModifierKey>
     ensures { result ≡ look_up (names.modifier_keys component) name.now }
@@ -195,7 +206,7 @@ pub fn after(text: &[u8], count: usize) -> &[u8]
     &text[count..]
 }
 
-// The number of bytes of white space at the start of the text.
+// The number of bytes of white space (spaces, TAB, LF, FF, CR) at the start of the text.
 #[inline]
 pub fn space_len(text: &[u8]) -> usize
     ensures count { result ≡ prefix_len is_space text.now }
@@ -206,7 +217,8 @@ pub fn space_len(text: &[u8]) -> usize
         .count()
 }
 
-// The length of the word at the start of the text. A word ends before white space or a bracket.
+// The length in bytes of the word at the start of the text, which may be 0. A word ends before white space or a
+// bracket, or with the text.
 #[inline]
 pub fn word_len(text: &[u8]) -> usize
     ensures count { result ≡ prefix_len is_of_word text.now }
@@ -225,7 +237,7 @@ fn is_same_name(name: &[u8], other: &[u8]) -> bool
     name.eq_ignore_ascii_case(other)
 }
 
-// The value of the first row with that name, ignoring the case of letters.
+// The value of the first row with that name, ignoring the case of ASCII letters. `None` if there is no such row.
 pub fn look_up<V: Copy>(rows: &[(&[u8], V)], name: &[u8]) -> Option<V>
     ensures { result ≡ look_up (map (λ r. (r.0.now, r.1)) rows.now) name.now }
 {
@@ -239,7 +251,8 @@ pub fn look_up<V: Copy>(rows: &[(&[u8], V)], name: &[u8]) -> Option<V>
     None
 }
 
-// The component that skips the number of bytes given by the digits, if that is 1 to 65535.
+// The `ignore` whose count has these ASCII digits, which may begin with zeros. `None` if another byte occurs, or if the
+// count isn't 1 to 65535; so for no digits too.
 pub fn ignore_count(digits: &[u8]) -> Option<modifier::Ignore>
     ensures { result ≡ ignore_count digits.now }
 {

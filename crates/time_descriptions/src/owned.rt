@@ -30,7 +30,7 @@ impl fmt::Display for OwnedError<'_> {
     fn fmt<W: fmt::Write>(&self, f: &mut fmt::Formatter<W>) -> fmt::Result {
         match self {
             OwnedError::Invalid(e) => write!(f, "{e}"),
-            OwnedError::Memory(_) => write!(f, "memory is short"),
+            OwnedError::Memory(_) => write!(f, "out of memory"),
         }
     }
 }
@@ -70,7 +70,7 @@ impl<T: Drop> From<AllocFailed<T>> for Unread {
     }
 }
 
-// The item of a leaf.
+// The item of a leaf, with a literal's bytes copied; an error if out of memory.
 fn owned_leaf(alloc: Global, leaf: Leaf<'_>) -> Result<OwnedFormatItem, AllocError>
     ensures { IfOk result (λ item. MatchesItem item (leaf_item leaf.entry)) }
 {
@@ -92,7 +92,8 @@ fn compound(items: Vec<OwnedFormatItem>) -> OwnedFormatItem
     OwnedFormatItem::Compound(items)
 }
 
-// The item of a group with the items inside.
+// The item of a group: an optional list of the items, a choice whose lists are the items, or a list of the items. The
+// error is out of memory.
 fn owned_group(
     alloc: Global,
     group: Group,
@@ -110,7 +111,9 @@ fn owned_group(
     }
 }
 
-// The item at the start of the text, and the rest. Lists in the item may nest `depth` deep.
+// The item at the start of the text, and the text after it. Lists in the item may nest `depth` deep. `nested` means
+// that the item is inside a list, where a closing bracket ends a literal. `read_items` calls it only where its items
+// don't end.
 #[cycle(owned)]
 fn read_item<'a>(
     alloc: Global,
@@ -140,8 +143,9 @@ fn read_item<'a>(
     }
 }
 
-// A group, and the rest; the text begins after the group's word. `opening` counts the bytes from the group's opening
-// bracket to the end of the whole text.
+// A group, and the text after its closing bracket. The given text begins after the group's word, and lists in the
+// group's lists may nest `depth` deep. `opening` counts the bytes from the group's opening bracket to the end of the
+// whole text.
 #[cycle(owned)]
 fn read_group<'a>(
     alloc: Global,
@@ -161,7 +165,8 @@ fn read_group<'a>(
     Ok((item, rest))
 }
 
-// The contents of a group whose first list is open, and the rest.
+// The contents of a group whose first list is open: the items of the list of `optional`, or the lists of `first`. The
+// remaining text begins after the last list's closing bracket. `opening` is as in `read_group`.
 #[cycle(owned)]
 fn read_inside<'a>(
     alloc: Global,
@@ -181,7 +186,7 @@ fn read_inside<'a>(
     }
 }
 
-// The list that the text continues, whose bracket is already open, those after it, and the rest.
+// The list whose opening bracket precedes the text, those after it, and the text after the last list's closing bracket.
 #[cycle(owned)]
 fn read_lists<'a>(
     alloc: Global,
@@ -206,7 +211,8 @@ fn read_lists<'a>(
     }
 }
 
-// The items of an open list, and the text after its closing bracket.
+// The items of a list whose opening bracket precedes the text, and the text after its closing bracket. Without one, the
+// error is at the group's bracket, by `opening`.
 #[cycle(owned)]
 fn read_list<'a>(
     alloc: Global,
@@ -224,7 +230,8 @@ fn read_list<'a>(
     Ok((items, rest))
 }
 
-// The items at the start of the text, up to its end or, if `nested`, up to a closing bracket, and the rest.
+// The items at the start of the text, up to its end or, if `nested`, up to a closing bracket, and the remaining text,
+// which is empty or begins with this bracket. Lists in the items may nest `depth` deep.
 #[cycle(owned)]
 fn read_items<'a>(
     alloc: Global,
@@ -247,13 +254,13 @@ fn read_items<'a>(
     Ok((items, rest))
 }
 
-/// Parses a description of version 1 or 2, of any number of steps. The result is a list of the text's items, with each
-/// literal as bytes.
+/// Parses a description of version 1 or 2, by `VERSION`, of any number of steps. The result is a list
+/// ([`OwnedFormatItem::Compound`]) of the text's items, with each literal as bytes, which are allocated with `alloc`.
 ///
 /// # Errors
 ///
-/// [`OwnedError::Invalid`] for the first fault from the left, with its index in the text; [`OwnedError::Memory`] if out
-/// of memory.
+/// [`OwnedError::Invalid`] for the first fault from the left, with its index in the text, and never with
+/// [`InvalidFormatDescription::TooLong`]; [`OwnedError::Memory`] if out of memory.
 pub fn parse_owned<const VERSION: usize>(
     alloc: Global,
     text: &[u8],

@@ -25,25 +25,30 @@ pub enum Part {
     Byte(u8),
     /// A component.
     Component(Component),
-    /// The hours and the minutes of an offset.
+    /// The hours of an offset, with a sign, and the minutes.
     Offset,
-    /// The hours and the minutes of an offset, with a colon between them.
+    /// The hours of an offset, with a sign, a colon, and the minutes.
     ColonOffset,
     /// The fraction of a second after a point, or nothing.
     PointedFraction,
-    /// The meanings of the bytes that the letter abbreviates.
+    /// The meanings of the bytes that the letter abbreviates: of each byte the component that it means as a letter, or
+    /// else the literal byte.
     Shorthand(u8),
 }
 
+// The hours of an offset: two digits after a sign, which is required.
 const OFFSET_HOUR: Step = Step::Component(
     component!(OffsetHour, padding: Padding::Zero, sign_is_mandatory: true),
 );
 
+// The minutes of an offset, padded with zeros.
 const OFFSET_MINUTE: Step = Step::Component(component!(OffsetMinute, padding: Padding::Zero));
 
+// A fraction of a second of one or more digits.
 const FRACTION: Step = Step::Component(component!(Subsecond, digits: SubsecondDigits::OneOrMore));
 
-// The component with that padding, if it has a padding and some letter means it.
+// The component with that padding instead of its own. `None` if it has no padding, or if no letter means a component
+// of its variant.
 #[tactic(auto, unfolding(crate::specs::Strftime::with_padding))]
 fn with_padding(padding: Padding, component: Component) -> Option<Component>
     ensures { result ≡ letters.with_padding padding component }
@@ -70,7 +75,8 @@ fn with_padding(padding: Padding, component: Component) -> Option<Component>
     Some(padded)
 }
 
-// The component of the letter with that padding, if it has one.
+// The component of the letter with that padding instead of its own. `None` if the letter means no single component, or
+// one without a padding.
 fn padded(padding: Padding, letter: u8) -> Option<Component>
     ensures { result ≡ letters.padded padding letter }
 {
@@ -80,7 +86,7 @@ fn padded(padding: Padding, letter: u8) -> Option<Component>
     }
 }
 
-// The meaning of the letter, if it has one.
+// The meaning of the letter without a flag. `None` if it has no meaning.
 fn meaning(letter: u8) -> Option<Part>
     ensures { Finds part_items result (letters.meaning letter) }
 {
@@ -96,8 +102,9 @@ fn meaning(letter: u8) -> Option<Part>
     }
 }
 
-// The meaning of the letter. `percent` counts the bytes from its `%` to the end of the text, and `left` those from the
-// letter.
+// The meaning of the letter without a flag. The error is `NotSupported` at the `%` for `E`, `O` and `Z`, and
+// `InvalidComponentName` at the letter for any other letter without a meaning. `percent` counts the bytes from the `%`
+// to the end of the text, and `left` those from the letter.
 fn read_letter(percent: usize, left: usize, letter: u8) -> Result<Part, Fault>
     ensures { Returns part_items result (letters.letter_items percent left letter) }
 {
@@ -113,14 +120,15 @@ fn read_letter(percent: usize, left: usize, letter: u8) -> Result<Part, Fault>
     }
 }
 
-// The part, if the letter is `only`.
+// The part if the letter is `only`, and `None` for another letter.
 fn for_letter(letter: u8, only: u8, part: Part) -> Option<Part>
     ensures { Finds part_items result (if letter == only then Some (part_items part) else None) }
 {
     if letter == only { Some(part) } else { None }
 }
 
-// The meaning of the letter after the flag, if it has one.
+// The meaning of the letter after the flag. `None` if the letter can't have the flag: a padding requires a component
+// with a padding, digits and a point require `f`, and a colon requires `z`.
 fn flagged_meaning(flag: Flag, letter: u8) -> Option<Part>
     ensures { Finds part_items result (letters.flagged_meaning flag letter) }
 {
@@ -138,7 +146,9 @@ fn flagged_meaning(flag: Flag, letter: u8) -> Option<Part>
     }
 }
 
-// The meaning of the letter at the start of the text, after a flag, and the rest.
+// The meaning of the letter at the start of the text, after a flag, and the text after the letter. The error is that of
+// the letter if it has no meaning even without a flag (a missing one is `InvalidComponentName`), or `InvalidModifier`
+// at the flag if the letter can't have it.
 #[tactic(auto, unfolding(crate::specs::Strftime::flagged))]
 fn read_flagged(flag: Flag, text: &[u8]) -> Result<(Part, &[u8]), Fault>
     ensures begins { Begins (letters.flagged flag text.now) result }
@@ -160,7 +170,8 @@ fn read_flagged(flag: Flag, text: &[u8]) -> Result<(Part, &[u8]), Fault>
     }
 }
 
-// The conversion after a `%`, and the rest.
+// The meaning of the conversion whose `%` precedes the text, and the text after its letter. An empty text is the error
+// `InvalidComponentName`.
 #[tactic(auto, unfolding(crate::specs::Strftime::conversion))]
 fn read_conversion(text: &[u8]) -> Result<(Part, &[u8]), Fault>
     ensures begins { Begins (letters.conversion text.now) result }
@@ -178,7 +189,8 @@ fn read_conversion(text: &[u8]) -> Result<(Part, &[u8]), Fault>
     }
 }
 
-// The byte or the conversion that `first` and `behind` begin with, and the rest.
+// The literal byte `first` and all of `behind`; or if `first` is a `%`, the conversion at the start of `behind`, and
+// the text after it.
 #[tactic(auto, unfolding(crate::specs::Strftime::strftime))]
 fn read_part(first: u8, behind: &[u8]) -> Result<(Part, &[u8]), Fault>
     ensures begins { Begins (letters.strftime (first ∷ behind.now)) result }
@@ -191,7 +203,8 @@ fn read_part(first: u8, behind: &[u8]) -> Result<(Part, &[u8]), Fault>
     }
 }
 
-// Appends the steps of a shorthand's bytes, if there is room.
+// Appends the steps of a shorthand's bytes, one each. The error is `NoRoom` if not all fit; some may then have been
+// appended.
 fn push_shorthand<const N: usize>(steps: &mut ArrayVec<Step, N>, bytes: &[u8]) -> Result<(), Fault>
     ensures ok { OnOk result (steps.new.items ≡ steps.old.items ++ map letters.step_of_byte bytes.now) }
     ensures room { OnOk result (length steps.old.items ≤ N → length steps.new.items ≤ N) }
@@ -203,7 +216,7 @@ fn push_shorthand<const N: usize>(steps: &mut ArrayVec<Step, N>, bytes: &[u8]) -
     Ok(())
 }
 
-// Appends steps, if there is room.
+// Appends steps in order. The error is `NoRoom` if not all fit; some may then have been appended.
 fn push_all<const N: usize>(steps: &mut ArrayVec<Step, N>, added: &[Step]) -> Result<(), Fault>
     ensures ok { OnOk result (steps.new.items ≡ steps.old.items ++ added.now) }
     ensures room { OnOk result (length steps.old.items ≤ N → length steps.new.items ≤ N) }
@@ -215,7 +228,7 @@ fn push_all<const N: usize>(steps: &mut ArrayVec<Step, N>, added: &[Step]) -> Re
     Ok(())
 }
 
-// Appends the steps of a part, if there is room.
+// Appends the steps of a part. The error is `NoRoom` if not all fit; some may then have been appended.
 fn push_part<const N: usize>(steps: &mut ArrayVec<Step, N>, part: Part) -> Result<(), Fault>
     ensures ok { OnOk result (steps.new.items ≡ steps.old.items ++ flat (part_items part)) }
     ensures room { OnOk result (length steps.old.items ≤ N → length steps.new.items ≤ N) }
@@ -238,7 +251,8 @@ fn push_part<const N: usize>(steps: &mut ArrayVec<Step, N>, part: Part) -> Resul
     }
 }
 
-// The steps of the text, if there is room.
+// The steps of the whole text. The error is `NoRoom` if the steps up to the first fault or the end don't fit, and
+// otherwise the first fault.
 fn read_steps<const N: usize>(text: &[u8]) -> Result<ArrayVec<Step, N>, Fault>
     ensures ok { IfOk result (λ steps. HasSteps text.now steps.items) }
     ensures fits { OnOk result (Fits N text.now) }
@@ -260,10 +274,12 @@ fn read_steps<const N: usize>(text: &[u8]) -> Result<ArrayVec<Step, N>, Fault>
 }
 
 /// Parses a description in strftime's syntax, such as `%Y-%m-%d`: literal bytes, and conversions, each a `%`, an
-/// optional flag and a letter.
+/// optional flag and a letter. The flags `-`, `_` and `0` select no padding, spaces or zeros, and may only precede a
+/// letter that means a single component with a padding. An empty text is a description without steps.
 ///
 /// Beside POSIX's, `%f` is a fraction of one or more digits, `%3f`, `%6f` and `%9f` are fractions of that many digits,
-/// `%.f` is a point and a fraction or nothing, `%N` is nine digits as in GNU `date`, and `%:z` is an offset with a colon.
+/// `%.f` is a point and a fraction or nothing, `%N` is nine digits as in GNU `date`, and `%:z` is an offset with a
+/// colon. POSIX's `%E`, `%O` and `%Z` aren't supported.
 ///
 /// # Errors
 ///

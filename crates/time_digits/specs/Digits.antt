@@ -9,52 +9,52 @@ use Rattle.time_digits.specs.declared.Sign.TheVariants.{Negative, Positive}
 
 -- ---- The result of a parser: the text at the start of its input, the rest after it, and a value
 
--- a form: whether a text, followed by a rest, spells a value
+-- a form: a relation between a text, the rest of the input after it, and the value that the text parses as
 abbrev pub Form : Type 0 → Type 1
 Form V = List ℕ → List ℕ → V → Type 0
 
--- the input is a text that spells the value, followed by the rest
+-- the input is a text that parses as the value in the form S, followed by the rest
 abbrev pub Cut : {V : Type 0} → Form V → List ℕ → List ℕ → V → Type 0
 Cut S input rest v = (text : List ℕ) × (input ≡ text ++ rest) × S text rest v
 
--- no prefix of the input spells a value
+-- no prefix of the input parses as any value in the form S
 abbrev pub NoCut : {V : Type 0} → Form V → List ℕ → Type 0
 NoCut {V} S input = (text rest : List ℕ) (v : V) → input ≡ text ++ rest → S text rest v → ⊥
 
--- the contract of a parser: `Some` with the rest and the value (as `view` maps it) of a cut of its input, or `None` if
--- there is no cut
+-- the contract of a parser of the form S: `Some` with a rest and a value (compared by `view`) if a prefix of the input
+-- parses as it, and `None` if no prefix parses
 abbrev pub Finds : {V A : Type 0} → Form V → (A → V) → List ℕ → Option (ParsedItem A) → Type 0
 Finds S view input result = MatchOption result (NoCut S input) (λ found. Cut S input found.0.now (view found.1))
 
--- an input has at most one cut that spells a value
+-- for each input, at most one prefix parses in the form S, and as one value
 abbrev pub AtMostOneCut : {V : Type 0} → Form V → Type 0
 AtMostOneCut {V} S = (input x y : List ℕ) (v w : V) → Cut S input x v → Cut S input y w → (x ≡ y) × (v ≡ w)
 
--- the byte is one of `0` to `9`
+-- the byte is an ASCII digit, `0` to `9`
 abbrev pub IsDigit : ℕ → Type 0
 IsDigit c = (48 ≤ c) × (c ≤ 57)
 
--- each byte of the text is a digit
+-- each byte of the text is an ASCII digit; true of the empty text
 abbrev pub AllDigits : List ℕ → Type 0
 AllDigits [] = Unit {0}
 AllDigits (c ∷ cs) = IsDigit c × AllDigits cs
 
--- the decimal value of a text of digits
+-- the decimal value of a text of ASCII digits, 0 for the empty text
 abbrev pub digits_value : List ℕ → ℕ
 digits_value [] = 0
 digits_value (c ∷ cs) = (c - 48) * 10 ^ length cs + digits_value cs
 
--- the text doesn't begin with a digit
+-- the text is empty, or its first byte is no ASCII digit
 abbrev pub NoDigitFirst : List ℕ → Type 0
 NoDigitFirst [] = Unit {0}
 NoDigitFirst (c ∷ cs) = ¬ IsDigit c
 
--- the text doesn't begin with a space
+-- the text is empty, or its first byte is no ASCII space
 abbrev pub NoSpaceFirst : List ℕ → Type 0
 NoSpaceFirst [] = Unit {0}
 NoSpaceFirst (c ∷ cs) = c ≢ 32
 
--- The text is the longest run of `least` to `most` digits, and the value is its decimal value.
+-- The text is all leading ASCII digits of the input up to `most`, at least `least`. The value is their decimal value.
 pub record IsDigitRun (least most : ℕ) (text rest : List ℕ) (value : ℕ) : Type 0 where
   pub digits : AllDigits text
   pub enough : least ≤ length text
@@ -62,7 +62,8 @@ pub record IsDigitRun (least most : ℕ) (text rest : List ℕ) (value : ℕ) : 
   pub ends : (length text ≡ most) ⊎ NoDigitFirst rest
   pub is : value ≡ digits_value text
 
--- The text is all leading spaces, at most `least - 1`, and then a run of digits in the remaining places.
+-- The text is all leading spaces up to `least - 1`, and then all digits, `least` to `most` bytes in all. The value is
+-- the decimal value of the digits.
 pub record IsSpacedRun (least most : ℕ) (text rest : List ℕ) (value : ℕ) : Type 0 where
   pub spaces : ℕ
   pub digits : List ℕ
@@ -71,26 +72,27 @@ pub record IsSpacedRun (least most : ℕ) (text rest : List ℕ) (value : ℕ) :
   pub all : (spaces ≡ least - 1) ⊎ NoSpaceFirst (digits ++ rest)
   pub run : IsDigitRun (least - spaces) (most - spaces) digits rest value
 
--- the text is a run of digits with the padding
+-- the text is a number of `least` to `most` bytes with the padding; without padding, of 1 to `most` digits
 abbrev pub IsPaddedRun : Padding → ℕ → ℕ → Form ℕ
 IsPaddedRun padding.Space least most text rest value = IsSpacedRun least most text rest value
 IsPaddedRun padding.Zero least most text rest value = IsDigitRun least most text rest value
 IsPaddedRun padding.None least most text rest value = IsDigitRun 1 most text rest value
 
--- the text is a run of digits whose value is at most the greatest number
+-- the text is all leading digits up to `most`, at least `least`, and their decimal value is at most `greatest`
 abbrev pub IsDigitRunUpTo : ℕ → ℕ → ℕ → Form ℕ
 IsDigitRunUpTo greatest least most text rest value = IsDigitRun least most text rest value × (value ≤ greatest)
 
--- the text is a run of digits with the padding, and its value is at most the greatest number
+-- the text is a number with the padding, as in `IsPaddedRun`, and its value is at most `greatest`
 abbrev pub IsPaddedRunUpTo : ℕ → Padding → ℕ → ℕ → Form ℕ
 IsPaddedRunUpTo greatest padding least most text rest value =
     IsPaddedRun padding least most text rest value × (value ≤ greatest)
 
--- the nanoseconds of a fraction of a second: the first nine digits count, and later ones are dropped
+-- the nanoseconds of the digits of a second after its decimal point; digits after the ninth are ignored
 abbrev pub fraction_nanoseconds : List ℕ → ℕ
 fraction_nanoseconds text = digits_value (take 9 text) * 10 ^ (9 - length text)
 
--- The text is all leading digits, one or more, and the value is theirs as a fraction of a second.
+-- The text is all leading digits of the input, one or more, and the value is their nanoseconds as digits of a second
+-- after its decimal point.
 pub record IsFraction (text rest : List ℕ) (nanoseconds : ℕ) : Type 0 where
   pub digits : AllDigits text
   pub enough : 1 ≤ length text
@@ -99,39 +101,39 @@ pub record IsFraction (text rest : List ℕ) (nanoseconds : ℕ) : Type 0 where
 
 -- ---- Texts of one byte
 
--- the text is that byte
+-- the text is only that byte
 abbrev pub IsByte : ℕ → Form (Unit {0})
 IsByte byte text rest nothing = text ≡ byte ∷ []
 
--- the text is that byte, in either case if it is an ASCII letter
+-- the text is only that byte, in either case if it is an ASCII letter
 abbrev pub IsByteIgnoringCase : ℕ → Form (Unit {0})
 IsByteIgnoringCase byte text rest nothing =
     (c : ℕ) × (text ≡ c ∷ []) × (to_ascii_lowercase c ≡ to_ascii_lowercase byte)
 
--- the text is one digit, and the value is that byte
+-- the text is one ASCII digit, and the value is its byte, 48 to 57
 abbrev pub IsDigitByte : Form ℕ
 IsDigitByte text rest byte = (text ≡ byte ∷ []) × IsDigit byte
 
--- `-` for a negative sign and `+` for a positive one
+-- the ASCII byte of the sign: `-` for a negative sign and `+` for a positive one
 abbrev pub sign_byte : Sign → ℕ
 sign_byte Negative = 45
 sign_byte Positive = 43
 
--- the text is that sign
+-- the text is only the byte of that sign
 abbrev pub IsSign : Form Sign
 IsSign text rest sign = text ≡ sign_byte sign ∷ []
 
--- the sign is `-`
+-- whether the sign is `-`
 abbrev pub is_negative : Sign → Bool
 is_negative Negative = true
 is_negative Positive = false
 
 -- ---- Laws of the definitions, each the contract of a function of module `laws`, which proves it
 
--- at most one cut of an input is a run of digits
+-- for given lengths, at most one prefix of an input parses as a run of digits, and as one value
 abbrev pub OneDigitRun : Type 0
 OneDigitRun = (least most : ℕ) → AtMostOneCut (IsDigitRun least most)
 
--- at most one cut of an input is a run of digits with the padding
+-- for a given padding and lengths, at most one prefix of an input parses as a padded number, and as one value
 abbrev pub OnePaddedRun : Type 0
 OnePaddedRun = (padding : Padding) (least most : ℕ) → AtMostOneCut (IsPaddedRun padding least most)

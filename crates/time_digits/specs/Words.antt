@@ -4,6 +4,6 @@
 use Rattle.std.specs.Prelude.{ℕ, List, take}
 use Rattle.std.specs.Int.{to_le_bytes, w64}
 
--- the first bytes of the text in the word, its lowest byte first
+-- the first n of the eight bytes of the word, the lowest byte first
 abbrev pub first_bytes : ℕ → ℕ → List ℕ
 first_bytes word n = take n (to_le_bytes w64 word)

@@ -1,7 +1,7 @@
 //! Parsers of signs, digits and single bytes.
 //!
-//! Each parser returns the unread rest and the value if its input begins with such a text, and `None` otherwise. A run
-//! of digits is as long as its greatest length allows, and no parser backtracks.
+//! Each parser returns the unread rest and the value if its input begins with a text that it accepts, and `None`
+//! otherwise. Digits are ASCII. A run of digits is as long as its greatest length allows, and no parser backtracks.
 ghost use Rattle.std.specs.Prelude.{◌≤◌};
 ghost use Rattle.time_digits.specs.Digits.{Finds, IsDigitRun, IsDigitRunUpTo, IsPaddedRunUpTo, IsFraction, IsByte, IsByteIgnoringCase, IsDigitByte, IsSign};
 
@@ -26,7 +26,7 @@ pub fn sign(input: &[u8]) -> Option<ParsedItem<'_, Sign>>
     }
 }
 
-/// Parses the longest run of `N` to `M` digits, as its decimal value. Returns `None` if the input begins with fewer
+/// Parses all leading ASCII digits up to `M`, as their decimal value. Returns `None` if the input begins with fewer
 /// than `N` digits, or if the value exceeds the greatest number of `T`.
 #[inline]
 pub fn n_to_m_digits<const N: u8, const M: u8, T: Integer>(
@@ -40,7 +40,7 @@ pub fn n_to_m_digits<const N: u8, const M: u8, T: Integer>(
     digit_run(input, usize::from(N), usize::from(M))
 }
 
-/// Parses one digit, or two if a second one follows, as their decimal value, 0 to 99. Returns `None` if the input
+/// Parses one ASCII digit, or two if a second one follows, as their decimal value, 0 to 99. Returns `None` if the input
 /// doesn't begin with a digit.
 #[inline(always)]
 pub fn one_or_two_digits(input: &[u8]) -> Option<ParsedItem<'_, u8>>
@@ -55,7 +55,8 @@ pub fn one_or_two_digits(input: &[u8]) -> Option<ParsedItem<'_, u8>>
     }
 }
 
-/// Parses exactly two digits, as their decimal value, 0 to 99. Returns `None` if the input begins with fewer.
+/// Parses the first two ASCII digits, as their decimal value, 0 to 99. Returns `None` if the input begins with fewer. A
+/// third digit is left in the rest.
 #[inline(always)]
 pub fn two_digits(input: &[u8]) -> Option<ParsedItem<'_, u8>>
     ensures { Finds (IsDigitRun 2 2) (λ v. v) input.now result }
@@ -68,7 +69,7 @@ pub fn two_digits(input: &[u8]) -> Option<ParsedItem<'_, u8>>
     }
 }
 
-// Parses exactly three digits, as their decimal value.
+// Parses the first three ASCII digits, as their decimal value. Returns `None` if the input begins with fewer.
 #[inline(always)]
 fn three_digits(input: &[u8]) -> Option<ParsedItem<'_, u32>>
     ensures { Finds (IsDigitRun 3 3) (λ v. v) input.now result }
@@ -82,7 +83,8 @@ fn three_digits(input: &[u8]) -> Option<ParsedItem<'_, u32>>
     }
 }
 
-/// Parses exactly `N` digits, 1 to 9, as their decimal value. Returns `None` if the input begins with fewer.
+/// Parses the first `N` ASCII digits, as their decimal value. `N` is 1 to 9. Returns `None` if the input begins with
+/// fewer. Later digits are left in the rest.
 #[inline(always)]
 pub fn exactly_n_digits<const N: u8>(input: &[u8]) -> Option<ParsedItem<'_, u32>>
     requires least { 1 ≤ N }
@@ -101,11 +103,11 @@ pub fn exactly_n_digits<const N: u8>(input: &[u8]) -> Option<ParsedItem<'_, u32>
     }
 }
 
-/// Parses exactly `N` digits with the given padding, as their decimal value.
+/// Parses a number of width `N` with the given padding, as its decimal value.
 ///
-/// With [`Padding::None`], the text is 1 to `N` digits; with [`Padding::Zero`], `N` digits; with [`Padding::Space`], up
-/// to `N - 1` spaces, and then digits in the remaining places. Returns `None` if the input begins with no such text, or
-/// if the value exceeds the greatest number of `T`.
+/// With [`Padding::None`], it reads all leading ASCII digits up to `N`, at least 1; with [`Padding::Zero`], exactly `N`
+/// digits; with [`Padding::Space`], all leading spaces up to `N - 1`, and then digits, exactly `N` bytes in all.
+/// Returns `None` if the input has too few digits there, or if the value exceeds the greatest number of `T`.
 #[inline]
 pub fn exactly_n_digits_padded<const N: u8, T: Integer>(
     input: &[u8],
@@ -118,11 +120,12 @@ pub fn exactly_n_digits_padded<const N: u8, T: Integer>(
     n_to_m_digits_padded::<N, N, T>(input, padding)
 }
 
-/// Parses `N` to `M` digits with the given padding, as their decimal value.
+/// Parses a number of width `N` to `M` with the given padding, as its decimal value.
 ///
-/// With [`Padding::None`], the text is 1 to `M` digits; with [`Padding::Zero`], `N` to `M` digits; with
-/// [`Padding::Space`], as many spaces as the input begins with, at most `N - 1`, and then digits, `N` to `M` places in
-/// all. Returns `None` if the input begins with no such text, or if the value exceeds the greatest number of `T`.
+/// With [`Padding::None`], it reads all leading ASCII digits up to `M`, at least 1; with [`Padding::Zero`], at least
+/// `N`; with [`Padding::Space`], all leading spaces up to `N - 1`, and then all digits, at least `N` and at most `M`
+/// bytes in all. Returns `None` if the input has too few digits there, or if the value exceeds the greatest number of
+/// `T`.
 #[inline]
 pub fn n_to_m_digits_padded<const N: u8, const M: u8, T: Integer>(
     input: &[u8],
@@ -145,7 +148,7 @@ pub fn n_to_m_digits_padded<const N: u8, const M: u8, T: Integer>(
     }
 }
 
-/// Parses one digit, and returns its byte, or `None` if the input doesn't begin with a digit.
+/// Parses one ASCII digit, and returns its byte, `b'0'` to `b'9'`, or `None` if the input doesn't begin with a digit.
 #[inline]
 pub fn any_digit(input: &[u8]) -> Option<ParsedItem<'_, u8>>
     ensures { Finds IsDigitByte (λ v. v) input.now result }
@@ -178,8 +181,8 @@ pub fn ascii_char_ignore_case<const C: u8>(input: &[u8]) -> Option<ParsedItem<'_
     }
 }
 
-/// Parses all leading digits as a fraction of a second, in nanoseconds. The first nine digits count, and later ones are
-/// dropped. Returns `None` if the input doesn't begin with a digit.
+/// Parses all leading ASCII digits as the digits of a second after its decimal point, and returns nanoseconds, 0 to
+/// 999999999. Digits after the ninth are read and ignored. Returns `None` if the input doesn't begin with a digit.
 #[inline(always)]
 pub fn fraction(input: &[u8]) -> Option<ParsedItem<'_, u32>>
     ensures { Finds IsFraction (λ v. v) input.now result }

@@ -16,10 +16,10 @@ pub use shim::Integer;
 #[derive(Clone, Copy, Debug)]
 pub struct ParsedItem<'a, T>(pub &'a [u8], pub T);
 
-/// What fills a number up to its width, if it has fewer digits than places.
+/// What fills a number up to its width if it has too few digits.
 #[derive(Clone, Copy, Debug, Default, PartialEq, Eq)]
 pub enum Padding {
-    /// Spaces before the digits.
+    /// ASCII spaces before the digits.
     Space,
     /// Zeros before the digits.
     #[default]

@@ -20,13 +20,13 @@ pub trait Integer: Sized {
     // The greatest number of the type.
     ghost greatest: { ℕ };
 
-    /// The number with one more digit at its end. The digit must be 0 to 9, and the new number must fit the type.
+    /// Ten times the number plus the digit. The digit must be 0 to 9, and the result must fit the type.
     fn push_digit(self, digit: u8) -> Self
         requires one_digit { digit ≤ 9 }
         requires fits { 10 * value self + digit ≤ greatest }
         ensures { value result ≡ 10 * value self + digit };
 
-    /// The number with one more digit at its end, or `None` if it doesn't fit the type. The digit must be 0 to 9.
+    /// Ten times the number plus the digit, or `None` if that doesn't fit the type. The digit must be 0 to 9.
     fn checked_push_digit(self, digit: u8) -> Option<Self>
         requires { digit ≤ 9 }
         ensures { MatchOption result
@@ -35,10 +35,10 @@ pub trait Integer: Sized {
 
     ghost zero_value: { value ZERO ≡ 0 };
 
-    // Each number with one digit fewer fits the type.
+    // Each number with fewer than `MAX_NUM_DIGITS` digits fits the type.
     ghost room: { 10 ^ (MAX_NUM_DIGITS - 1) ≤ greatest };
 
-    // No number of the type has more digits.
+    // No number of the type has more than `MAX_NUM_DIGITS` digits.
     ghost limit: { greatest < 10 ^ MAX_NUM_DIGITS };
 }
 

@@ -23,11 +23,11 @@ use Rattle.time_formatting.specs.Numbers.{count_text, padded, sign_text, century
 use Rattle.time_formatting.specs.declared.walk.Unformattable.{Unformattable}
 use Rattle.time_formatting.specs.declared.walk.Unformattable.TheVariants as why
 
--- the hour on a clock of 12 hours
+-- the hour on a clock of 12 hours, for an hour h of the day: 12 for 0 and for 12
 abbrev pub hour_12 : ℕ → ℕ
 hour_12 h = if h % 12 == 0 then 12 else h % 12
 
--- the half of the day
+-- the half of the day: `Am` for an hour below 12, and otherwise `Pm`
 abbrev pub half_of : ℕ → Period
 half_of h = if nat_lt h 12 then Am else Pm
 
@@ -35,13 +35,13 @@ half_of h = if nat_lt h 12 then Am else Pm
 unfoldable pub weekday_of : ℕ → OffsetDateTime → Weekday
 weekday_of Y v = weekday_at (Dates.weekday Y (offset_date v))
 
--- the number of digits, of nine, of that many nanoseconds that are written: a fixed number, or those up to the last
--- that isn't 0
+-- how many of the nine digits of n nanoseconds are written: the fixed number, or for `OneOrMore` those up to the last
+-- that isn't 0, but at least one
 abbrev pub count_of : SubsecondDigits → ℕ → ℕ
 count_of OneOrMore n = max (significant 9 n) 1
 count_of digits n = least_digits digits
 
--- the components that are a number of two digits: the padding, and the number
+-- the padding and the value of a component that is written as a number of two digits; `None` for any other component
 abbrev pub number_of : ℕ → OffsetDateTime → Component → Option (Padding × ℕ)
 number_of Y v (component.Day m) = Some (m.padding, Dates.day (offset_date v))
 number_of Y v (component.MonthNumerical m) = Some (m.padding, month_number (Dates.month (offset_date v)))
@@ -58,7 +58,7 @@ number_of Y v (component.OffsetMinute m) = Some (m.padding, unsigned_abs (Offset
 number_of Y v (component.OffsetSecond m) = Some (m.padding, unsigned_abs (Offsets.seconds (offset_of v)))
 number_of Y v _ = None
 
--- the components that are a name
+-- the name that a component writes, of a month, a weekday or a half of the day; `None` for any other component
 abbrev pub name_of : ℕ → OffsetDateTime → Component → Option (List ℕ)
 name_of Y v (component.MonthShort m) = Some (take 3 (month_name (Dates.month (offset_date v))))
 name_of Y v (component.MonthLong m) = Some (month_name (Dates.month (offset_date v)))
@@ -67,7 +67,7 @@ name_of Y v (component.WeekdayLong m) = Some (weekday_name (weekday_of Y v))
 name_of Y v (component.Period m) = Some (period_name m.is_uppercase (half_of (Times.hour (offset_time v))))
 name_of Y v _ = None
 
--- the components that are a whole year
+-- the text, or the error `Year`, of a component that is a whole year; `None` for any other component
 abbrev pub year_of : ℕ → OffsetDateTime → Component → Option (Result (List ℕ) Unformattable)
 year_of Y v (component.CalendarYearFullExtendedRange m) =
     Some (Ok (full_year m.sign_is_mandatory m.padding (Dates.year (offset_date v))))
@@ -79,7 +79,8 @@ year_of Y v (component.IsoYearFullStandardRange m) =
     let y = iso_year Y (offset_date v) in Some (in_standard_range y (full_year m.sign_is_mandatory m.padding y))
 year_of Y v _ = None
 
--- the components that are a year without its last two digits
+-- the text, or the error `Year`, of a component that is a year without its last two digits; `None` for any other
+-- component
 abbrev pub century_of : ℕ → OffsetDateTime → Component → Option (Result (List ℕ) Unformattable)
 century_of Y v (component.CalendarYearCenturyExtendedRange m) =
     Some (Ok (century m.sign_is_mandatory m.padding (Dates.year (offset_date v))))
@@ -91,7 +92,7 @@ century_of Y v (component.IsoYearCenturyStandardRange m) =
     let y = iso_year Y (offset_date v) in Some (in_standard_range y (century m.sign_is_mandatory m.padding y))
 century_of Y v _ = None
 
--- the other components; an `Ignore` can't be written
+-- the text of a component of none of the tables above, or the error `Ignore` for an `Ignore`
 abbrev pub other_of : ℕ → OffsetDateTime → Component → Result (List ℕ) Unformattable
 other_of Y v (component.Ordinal m) = Ok (padded m.padding 3 (Dates.ordinal (offset_date v)))
 other_of Y v (component.WeekdaySunday m) = Ok ((first_digit m.one_indexed + days_from_sunday (weekday_of Y v)) ∷ [])
@@ -110,15 +111,17 @@ other_of Y v (component.UnixTimestampNanosecond m) = Ok (count_text 1 m.sign_is_
 other_of Y v (component.End m) = Ok []
 other_of Y v _ = Err why.Ignore
 
--- the text from one table of components, or else from the next ones
+-- the number in two digits with its padding, if there is one, or else the other text
 abbrev pub or_number : Option (Padding × ℕ) → Result (List ℕ) Unformattable → Result (List ℕ) Unformattable
 or_number (Some x) other = Ok (padded x.0 2 x.1)
 or_number None other = other
 
+-- the name, if there is one, or else the other text
 abbrev pub or_name : Option (List ℕ) → Result (List ℕ) Unformattable → Result (List ℕ) Unformattable
 or_name (Some name) other = Ok name
 or_name None other = other
 
+-- the text or the error of a year, if there is one, or else the other text
 abbrev pub or_year : Option (Result (List ℕ) Unformattable) → Result (List ℕ) Unformattable
     → Result (List ℕ) Unformattable
 or_year (Some text) other = text
@@ -132,7 +135,7 @@ component_text Y v c =
 
 -- ---- The values that components have for a moment, and what may follow their texts. `Y` is the greatest year.
 
--- the nanoseconds that the first k of nine digits represent
+-- n nanoseconds, truncated to the first k of their nine digits
 abbrev pub kept : ℕ → ℕ → ℕ
 kept k n = n / 10 ^ (9 - k) * 10 ^ (9 - k)
 
@@ -189,36 +192,38 @@ value_of Y v (component.UnixTimestampMicrosecond m) = units_value 1000 (offset_i
 value_of Y v (component.UnixTimestampNanosecond m) = units_value 1 (offset_instant Y v)
 value_of Y v (component.End m) = nothing
 
--- a number without a padding could continue
+-- The rest may follow a number with that padding: without padding, it doesn't begin with a digit.
 abbrev pub PaddedStops : Padding → List ℕ → Type 0
 PaddedStops padding.None rest = NoDigitFirst rest
 PaddedStops p rest = Unit {0}
 
--- a century without a sign is parsed as digits alone: it may not begin with a space
+-- The rest may follow a century n without a sign: padded with spaces, n is at least 10; without padding, the rest
+-- doesn't begin with a digit.
 abbrev pub BareStops : Padding → ℕ → List ℕ → Type 0
 BareStops padding.Space n rest = 10 ≤ n
 BareStops p n rest = PaddedStops p rest
 
--- the condition of a number with a sign, or else of one without it
+-- The rest may follow a number: by the condition `behind` if the number has a sign, and otherwise by `alone`.
 abbrev pub SignedStops : List ℕ → (List ℕ → Type 0) → (List ℕ → Type 0) → List ℕ → Type 0
 SignedStops [] behind alone = alone
 SignedStops (c ∷ sign) behind alone = behind
 
--- a year of the extended range could continue after a sign
+-- The rest may follow a year of the extended range: with a sign or without padding, it doesn't begin with a digit.
 abbrev pub YearStops : Bool → Padding → ℤ → List ℕ → Type 0
 YearStops sign_is_mandatory p y = SignedStops (year_sign sign_is_mandatory y) NoDigitFirst (PaddedStops p)
 
--- a century, by the condition of one with a sign
+-- The rest may follow a century: by the condition `behind` if it has a sign, and otherwise by `BareStops`.
 abbrev pub CenturyStops : (List ℕ → Type 0) → Bool → Padding → ℤ → List ℕ → Type 0
 CenturyStops behind sign_is_mandatory p y =
     SignedStops (year_sign sign_is_mandatory y) behind (BareStops p (unsigned_abs y / 100))
 
--- a fraction of no fixed length could continue
+-- The rest may follow a fraction: if that has no fixed length, the rest doesn't begin with a digit.
 abbrev pub FractionStops : SubsecondDigits → List ℕ → Type 0
 FractionStops OneOrMore rest = NoDigitFirst rest
 FractionStops digits rest = Unit {0}
 
--- what may follow the component's text, so that all of the text is parsed as this value
+-- The rest may follow the component's text, so that all of the text is parsed as the component's value. Nothing may
+-- follow an `End`, and any rest may follow a component that isn't listed.
 abbrev pub Stops : ℕ → OffsetDateTime → Component → List ℕ → Type 0
 Stops Y v (component.Day m) = PaddedStops m.padding
 Stops Y v (component.MonthNumerical m) = PaddedStops m.padding

@@ -9,7 +9,7 @@ use Rattle.time_formatting.specs.Components.{component_text, Stops, value_of}
 use Rattle.time_formatting.specs.declared.walk.Unformattable.{Unformattable}
 use Rattle.time_formatting.specs.declared.walk.Unformattable.TheVariants.{TooLong, Year, Ignore}
 
--- the bytes after those written so far, if they are 35 at most
+-- the bytes, appended to those written so far, or the error `TooLong` if there are more than 35 in all
 abbrev pub joined : List ℕ → List ℕ → Result (List ℕ) Unformattable
 joined before bytes = if nat_le (length (before ++ bytes)) 35 then Ok (before ++ bytes) else Err TooLong
 
@@ -30,10 +30,12 @@ abbrev mutual
   text_after Y v before (optional t) = text_after Y v before t
   text_after Y v before (first_of ts) = first_after Y v before ts
 
+  -- The bytes written so far, followed by the texts of all trees in turn. Or the first error.
   pub texts_after : ℕ → OffsetDateTime → List ℕ → Trees → Result (List ℕ) Unformattable
   texts_after Y v before none = Ok before
   texts_after Y v before (tree_more t ts) = and_then (text_after Y v before t) (λ bytes. texts_after Y v bytes ts)
 
+  -- The bytes written so far, followed by the text of the first tree, if there is one. Or its first error.
   pub first_after : ℕ → OffsetDateTime → List ℕ → Trees → Result (List ℕ) Unformattable
   first_after Y v before none = Ok before
   first_after Y v before (tree_more t ts) = text_after Y v before t
@@ -49,7 +51,7 @@ bytes_of (Err why) = Err why
 
 -- ---- Printed messages of errors
 
--- the message
+-- the message that `Display` prints for the error
 abbrev pub unformattable_text : Unformattable → List ℕ
 unformattable_text Year = codes "The year component cannot be formatted into the requested format."
 unformattable_text Ignore = codes "The ignore component cannot be formatted into the requested format."

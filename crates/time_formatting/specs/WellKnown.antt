@@ -21,7 +21,7 @@ use Rattle.time_formatting.specs.declared.parts.FractionDigits.TheVariants.{Auto
 use Rattle.time_formatting.specs.declared.parts.Unwritable.{Unwritable}
 use Rattle.time_formatting.specs.declared.parts.Unwritable.TheVariants.{Year, OffsetHour, OffsetSecond}
 
--- the number of digits of that many nanoseconds that are written
+-- how many of the nine digits of n nanoseconds are written: those up to the last that isn't 0, or k, but at most nine
 abbrev pub count_of : FractionDigits → ℕ → ℕ
 count_of Auto n = significant 9 n
 count_of (Exactly k) n = min k 9
@@ -35,19 +35,19 @@ date_text d = fixed 4 (unsigned_abs (Dates.year d)) ++ codes "-" ++ fixed 2 (mon
 abbrev pub clock_text : Time → List ℕ
 clock_text t = fixed 2 (Times.hour t) ++ codes ":" ++ fixed 2 (Times.minute t) ++ codes ":" ++ fixed 2 (Times.second t)
 
--- the offset is behind UTC
+-- whether the hours or the minutes of the offset are below 0, whatever its seconds are
 abbrev pub is_behind : UtcOffset → Bool
 is_behind o = int_lt (Offsets.hours o) (pos 0) || int_lt (Offsets.minutes o) (pos 0)
 
--- `-` for an offset behind UTC, and else `+`
+-- `-` if the hours or the minutes of the offset are below 0, and otherwise `+`
 abbrev pub offset_sign : UtcOffset → ℕ
 offset_sign o = if is_behind o then 45 else 43
 
--- the offset has neither hours nor minutes
+-- whether the hours and the minutes of the offset are 0, whatever its seconds are
 abbrev pub is_none : UtcOffset → Bool
 is_none o = int_eq (Offsets.hours o) (pos 0) && int_eq (Offsets.minutes o) (pos 0)
 
--- `+HH:MM` or `-HH:MM`
+-- `+HH:MM` or `-HH:MM`, without the seconds of the offset
 abbrev pub numeric_text : UtcOffset → List ℕ
 numeric_text o =
     offset_sign o ∷ fixed 2 (unsigned_abs (Offsets.hours o)) ++ codes ":"
@@ -57,20 +57,21 @@ numeric_text o =
 abbrev pub offset_text : UtcOffset → List ℕ
 offset_text o = if is_none o then codes "Z" else numeric_text o
 
--- `YYYY-MM-DDTHH:MM:SS`, k digits of a fraction, and the offset
+-- `YYYY-MM-DDTHH:MM:SS`, a point and k digits of the fraction unless k is 0, and the offset
 abbrev pub moment_text : ℕ → OffsetDateTime → List ℕ
 moment_text k v =
     date_text (offset_date v) ++ codes "T" ++ clock_text (offset_time v)
     ++ fraction_display k (Times.nanosecond (offset_time v)) ++ offset_text (offset_of v)
 
--- `+HHMM` or `-HHMM`
+-- `+HHMM` or `-HHMM`, without the seconds of the offset
 abbrev pub zone_text : UtcOffset → List ℕ
 zone_text o = offset_sign o ∷ fixed 2 (unsigned_abs (Offsets.hours o)) ++ fixed 2 (unsigned_abs (Offsets.minutes o))
 
+-- `Z` if the hours and the minutes of the offset are 0, and otherwise `+HHMM` or `-HHMM`
 abbrev pub basic_offset_text : UtcOffset → List ℕ
 basic_offset_text o = if is_none o then codes "Z" else zone_text o
 
--- `YYYYMMDDTHHMMSS` and the offset
+-- `YYYYMMDDTHHMMSS` and the offset, without the fraction
 abbrev pub basic_text : OffsetDateTime → List ℕ
 basic_text v =
     fixed 4 (unsigned_abs (Dates.year (offset_date v))) ++ fixed 2 (month_number (Dates.month (offset_date v)))
@@ -78,7 +79,8 @@ basic_text v =
     ++ fixed 2 (Times.minute (offset_time v)) ++ fixed 2 (Times.second (offset_time v))
     ++ basic_offset_text (offset_of v)
 
--- the first error of a moment without a text of RFC 3339, and so of ISO 8601
+-- the first error of a moment without a text of RFC 3339, and so of ISO 8601: the year is outside 0 to 9999, the hours
+-- of the offset are outside -23 to 23, or its seconds aren't 0; none if it has a text
 abbrev pub unwritable_3339 : OffsetDateTime → Option Unwritable
 unwritable_3339 v =
     if int_lt (Dates.year (offset_date v)) (pos 0) || int_lt (pos 9999) (Dates.year (offset_date v)) then Some Year else
@@ -86,14 +88,15 @@ unwritable_3339 v =
     then Some OffsetHour else
     if int_eq (Offsets.seconds (offset_of v)) (pos 0) then None else Some OffsetSecond
 
--- the first three letters of a weekday's name, and of a month's
+-- the first three letters of a weekday's English name
 abbrev pub short_weekday : Weekday → List ℕ
 short_weekday w = take 3 (weekday_name w)
 
+-- the first three letters of a month's English name
 abbrev pub short_month : Month → List ℕ
 short_month m = take 3 (month_name m)
 
--- `Mon, DD Mon YYYY HH:MM:SS +HHMM` with that weekday
+-- a text such as `Sat, 02 Jan 2021 03:04:05 +0607`, with that weekday
 abbrev pub mail_text : Weekday → OffsetDateTime → List ℕ
 mail_text w v =
     short_weekday w ++ codes ", " ++ fixed 2 (Dates.day (offset_date v)) ++ codes " "
@@ -101,12 +104,13 @@ mail_text w v =
     ++ fixed 4 (unsigned_abs (Dates.year (offset_date v))) ++ codes " "
     ++ clock_text (offset_time v) ++ codes " " ++ zone_text (offset_of v)
 
--- a text of that form with the date's own weekday
+-- The bytes are the text of the moment by RFC 2822, with the weekday of its date.
 abbrev pub IsMailText : OffsetDateTime → List ℕ → Type 0
 IsMailText v bytes =
     (w : Weekday) × (days_from_monday w ≡ Dates.weekday greatest_year (offset_date v)) × (bytes ≡ mail_text w v)
 
--- the first error of a moment without a text of RFC 2822
+-- the first error of a moment without a text of RFC 2822: the year is outside 1900 to 9999, or the seconds of the
+-- offset aren't 0; none if it has a text
 abbrev pub unwritable_2822 : OffsetDateTime → Option Unwritable
 unwritable_2822 v =
     if int_lt (Dates.year (offset_date v)) (pos 1900) || int_lt (pos 9999) (Dates.year (offset_date v))
@@ -125,7 +129,7 @@ Writes reason bytes result =
 
 -- ---- The printed texts of values
 
--- the nanoseconds, as a decimal number
+-- the nanoseconds since 1970 as a decimal number, with `-` if it is below 0
 abbrev pub timestamp_display : Timestamp → List ℕ
 timestamp_display t = signed_decimal (nanoseconds t)
 
@@ -135,13 +139,13 @@ IsInjective {V} shown = (v w : V) → shown v ≡ shown w → v ≡ w
 
 -- ---- Printed messages of errors
 
--- the component's name
+-- the name of the component that the error is about
 abbrev unwritable_name : Unwritable → List ℕ
 unwritable_name Year = codes "year"
 unwritable_name OffsetHour = codes "offset_hour"
 unwritable_name OffsetSecond = codes "offset_second"
 
--- the message
+-- the message that `Display` prints for the error
 abbrev pub unwritable_text : Unwritable → List ℕ
 unwritable_text e =
     codes "The " ++ unwritable_name e ++ codes " component cannot be formatted into the requested format."

@@ -20,14 +20,15 @@ use time_values::digits::{count_significant, nine, pair};
 use time_values::text::Text;
 use time_values::{OffsetDateTime, UtcOffset};
 
-// The hour on a clock of 12 hours.
+// The hour on a clock of 12 hours, 1 to 12, for an hour of the day: 12 for 0 and for 12.
 fn hour_12(hour: u8) -> u8
     ensures { result ≡ components.hour_12 hour }
 {
     if hour % 12 == 0 { 12 } else { hour % 12 }
 }
 
-// The padding of a number of two digits, and the number, or `None` if the component isn't one.
+// The padding and the value of a component that is written as a number of two digits, or `None` for any other
+// component.
 fn number(value: &OffsetDateTime, component: Component) -> Option<(Padding, u8)>
     ensures { result ≡ number_of greatest_year value.now component }
 {
@@ -56,7 +57,8 @@ fn number(value: &OffsetDateTime, component: Component) -> Option<(Padding, u8)>
     }
 }
 
-// The number of digits of a nanosecond, of nine, that are written.
+// How many of a nanosecond's nine digits are written: the fixed number, or for `OneOrMore` those up to the last that
+// isn't 0, but at least one.
 fn count(digits: SubsecondDigits, nanosecond: u32) -> usize
     ensures count { result ≡ components.count_of digits nanosecond }
     ensures bound { result ≤ 9 }
@@ -75,7 +77,7 @@ fn count(digits: SubsecondDigits, nanosecond: u32) -> usize
     }
 }
 
-// The first digits of a nanosecond.
+// The first of a nanosecond's nine ASCII digits, as many as `digits` selects. Leading zeros count.
 fn subsecond(digits: SubsecondDigits, nanosecond: u32) -> Text
     requires { nanosecond < 1_000_000_000 }
     ensures { result.items ≡ take (components.count_of digits nanosecond) (fixed 9 nanosecond) }
@@ -85,7 +87,8 @@ fn subsecond(digits: SubsecondDigits, nanosecond: u32) -> Text
     text
 }
 
-// The hours of an offset, with their sign.
+// The hours of an offset in two digits with the padding. The sign is `-` if a part of the offset is below 0, and
+// otherwise `+` if a sign is mandatory.
 fn offset_hour(sign_is_mandatory: bool, padding: Padding, offset: UtcOffset) -> Text
     ensures { result.items ≡ numbers.sign_text (is_behind offset) sign_is_mandatory
         ++ numbers.padded padding 2 (unsigned_abs (Offsets.hours offset)) }
@@ -101,7 +104,7 @@ fn offset_hour(sign_is_mandatory: bool, padding: Padding, offset: UtcOffset) -> 
     text
 }
 
-// The digit of a weekday's number.
+// The ASCII digit of a weekday's number, 0 to 6, or of one more if `one_indexed`.
 fn weekday_digit(one_indexed: bool, number: u8) -> Text
     requires { number < 7 }
     ensures { result.items ≡ (first_digit one_indexed + number) ∷ [] }
@@ -111,7 +114,8 @@ fn weekday_digit(one_indexed: bool, number: u8) -> Text
     text
 }
 
-// The nanoseconds of a moment, in units.
+// The decimal number of whole units of `unit` nanoseconds from 1970-01-01T00:00:00Z to a moment, rounded down. It has a
+// `-` if the moment is before 1970, and otherwise a `+` if a sign is mandatory.
 #[tactic(auto, using(time_values::proofs::InstantLemmas::instant_near, crate::proofs::DigitRuns::near_short))]
 fn timestamp(value: &OffsetDateTime, unit: u128, sign_is_mandatory: bool) -> Text
     requires { 1 ≤ unit }
@@ -120,7 +124,8 @@ fn timestamp(value: &OffsetDateTime, unit: u128, sign_is_mandatory: bool) -> Tex
     count_of_units(value.unix_timestamp_nanos(), unit, sign_is_mandatory)
 }
 
-// The text of a component that is no number of two digits, no name and no year, or why it can't be written.
+// The text of a component that isn't a two-digit number, a name, a year or a century, or the error `Ignore` for an
+// `ignore`.
 fn other(value: &OffsetDateTime, component: Component) -> Result<Text, Unformattable>
     ensures { bytes_of result ≡ other_of greatest_year value.now component }
 {
@@ -145,7 +150,8 @@ fn other(value: &OffsetDateTime, component: Component) -> Result<Text, Unformatt
     })
 }
 
-/// The text of a component, or why it can't be written.
+/// The text of a component, which is empty for `end`. The error is `Ignore` for an `ignore`, and `Year` for a component
+/// of the standard range whose year is outside -9999 to 9999.
 pub(crate) fn component_text(
     value: &OffsetDateTime,
     component: Component,

@@ -14,18 +14,19 @@ use time_values::digits::{four, pair};
 use time_values::text::Text;
 use time_values::{Date, OffsetDateTime, Time, UtcOffset};
 
-/// The text of a moment by ISO 8601 in its extended form, with nine digits of a fraction:
-/// `2021-01-02T03:04:05.520000000+06:07`, with `Z` for an offset of 0.
+/// The text of a moment by ISO 8601 in its extended form, always with nine digits of the fraction, such as
+/// `2021-01-02T03:04:05.520000000+06:07`. An offset of 0 is `Z`.
 ///
-/// A moment without such a text gives the first error that applies: its year is outside 0 to 9999, the hours of its
-/// offset are outside -23 to 23, or its offset has seconds.
+/// The error is the first that applies: [`Unwritable::Year`] if the year is outside 0 to 9999,
+/// [`Unwritable::OffsetHour`] if the hours of the offset are outside -23 to 23, or [`Unwritable::OffsetSecond`] if its
+/// seconds aren't 0.
 pub fn text_8601(value: OffsetDateTime) -> Result<Text, Unwritable>
     ensures { Writes (unwritable_3339 value) (moment_text 9 value) result }
 {
     text_3339(value, FractionDigits::Exactly(9))
 }
 
-// Appends `Z` for an offset of no hours and minutes, and else `+HHMM` or `-HHMM`.
+// Appends `Z` if the hours and the minutes of the offset are 0, and else `+HHMM` or `-HHMM`. Omits its seconds.
 fn append_offset(text: &mut Text, offset: UtcOffset)
     requires { length text.old.items ≤ 29 }
     ensures { text.new.items ≡ text.old.items ++ basic_offset_text offset }
@@ -37,7 +38,7 @@ fn append_offset(text: &mut Text, offset: UtcOffset)
     }
 }
 
-// `YYYYMMDD`.
+// The text `YYYYMMDD` of a date whose year is 0 to 9999.
 #[inline(always)]
 fn basic_date(date: &Date) -> [u8; 8]
     requires { IsBetween (pos 0) (pos 9999) (Dates.year date.now) }
@@ -50,7 +51,7 @@ fn basic_date(date: &Date) -> [u8; 8]
     [y1, y2, y3, y4, m1, m2, d1, d2]
 }
 
-// `THHMMSS`.
+// The text `THHMMSS` of a time, without its fraction.
 #[inline(always)]
 fn basic_clock(time: &Time) -> [u8; 7]
     ensures { result ≡ codes "T" ++ fixed 2 (Times.hour time.now) ++ fixed 2 (Times.minute time.now)
@@ -62,7 +63,7 @@ fn basic_clock(time: &Time) -> [u8; 7]
     [b'T', h1, h2, m1, m2, s1, s2]
 }
 
-// The text of a moment whose year has four digits.
+// The basic text of a moment whose year is 0 to 9999, without the fraction and the seconds of its offset.
 fn write(value: OffsetDateTime) -> Text
     requires { IsBetween (pos 0) (pos 9999) (Dates.year (offset_date value)) }
     ensures { result.items ≡ basic_text value }
@@ -74,11 +75,12 @@ fn write(value: OffsetDateTime) -> Text
     text
 }
 
-/// The text of a moment by ISO 8601 in its basic form: `20210102T030405+0607`, with `Z` for an offset of 0. It omits a
-/// fraction.
+/// The text of a moment by ISO 8601 in its basic form, such as `20210102T030405+0607`. It omits the fraction of the
+/// second. An offset of 0 is `Z`.
 ///
-/// A moment without such a text gives the first error that applies: its year is outside 0 to 9999, the hours of its
-/// offset are outside -23 to 23, or its offset has seconds.
+/// The error is the first that applies: [`Unwritable::Year`] if the year is outside 0 to 9999,
+/// [`Unwritable::OffsetHour`] if the hours of the offset are outside -23 to 23, or [`Unwritable::OffsetSecond`] if its
+/// seconds aren't 0.
 pub fn text_8601_basic(value: OffsetDateTime) -> Result<Text, Unwritable>
     ensures { Writes (unwritable_3339 value) (basic_text value) result }
 {

@@ -1,4 +1,5 @@
-//! Formats moments by RFC 3339, RFC 2822, ISO 8601 and descriptions. No call allocates: a text is an array and a length.
+//! Formats moments by RFC 3339, RFC 2822, ISO 8601 and descriptions. No call allocates, since a text is an array and a
+//! length.
 #![tactic(auto)]
 
 mod component;

@@ -13,7 +13,7 @@ use time_values::names::{month_name, weekday_name};
 use time_values::text::Text;
 use time_values::{OffsetDateTime, Weekday};
 
-// The text that replaces a zero in front of a number.
+// The text that replaces a zero in front of a number: `0`, a space, or nothing.
 fn filler(padding: Padding) -> &'static [u8]
     ensures bytes { result.now ≡ numbers.filler padding }
     ensures bound { length result.now ≤ 1 }
@@ -25,7 +25,8 @@ fn filler(padding: Padding) -> &'static [u8]
     }
 }
 
-/// Appends the digits of a number, with the padding's text for each zero in front of them. There must be room for all.
+/// Appends the digits of a number, with each leading zero replaced by the padding's text; the last digit is never
+/// replaced. There must be room for all digits.
 #[tactic(auto, using(crate::proofs::FractionTexts::filled_one, crate::proofs::FractionTexts::filled_other))]
 pub(crate) fn append_digits(text: &mut Text, digits: &[u8], padding: Padding)
     requires { length text.old.items + length digits.now ≤ 35 }
@@ -41,7 +42,7 @@ pub(crate) fn append_digits(text: &mut Text, digits: &[u8], padding: Padding)
     text.append(left);
 }
 
-/// The last two digits of a number with the padding.
+/// The last two digits of a number, where the padding's text replaces a leading zero, but never the last digit.
 #[tactic(auto, using(crate::proofs::FractionTexts::two_of))]
 pub(crate) fn two_places(padding: Padding, number: u8) -> Text
     ensures { result.items ≡ padded padding 2 number }
@@ -51,7 +52,7 @@ pub(crate) fn two_places(padding: Padding, number: u8) -> Text
     text
 }
 
-/// The last three digits of a number with the padding.
+/// The last three digits of a number, where the padding's text replaces each leading zero, but never the last digit.
 #[tactic(auto, using(crate::proofs::FractionTexts::three_of))]
 pub(crate) fn three_places(padding: Padding, number: u16) -> Text
     ensures { result.items ≡ padded padding 3 number }
@@ -66,7 +67,7 @@ pub(crate) fn three_places(padding: Padding, number: u16) -> Text
     text
 }
 
-/// Appends `-` for a number below 0, and `+` for another one if a sign is mandatory. There must be room for it.
+/// Appends `-` if `is_behind`, and otherwise `+` if `is_mandatory`. There must be room for one byte.
 pub(crate) fn append_sign(text: &mut Text, is_behind: bool, is_mandatory: bool)
     requires { length text.old.items ≤ 34 }
     ensures text { text.new.items ≡ text.old.items ++ sign_text is_behind is_mandatory }
@@ -79,7 +80,7 @@ pub(crate) fn append_sign(text: &mut Text, is_behind: bool, is_mandatory: bool)
     }
 }
 
-// The magnitude of a number of whole units, rounded down.
+// The magnitude of `nanoseconds / unit`, where the quotient is rounded down, so away from 0 if it is below 0.
 fn count(nanoseconds: i128, unit: u128) -> u128
     requires unit { 1 ≤ unit }
     ensures value { result ≡ unsigned_abs (numbers.whole unit nanoseconds) }
@@ -92,7 +93,8 @@ fn count(nanoseconds: i128, unit: u128) -> u128
     }
 }
 
-/// The number of whole units in that many nanoseconds, rounded down, as a decimal number with its sign.
+/// The decimal text of `nanoseconds / unit`, rounded down. It has a `-` if `nanoseconds` is below 0, and otherwise a
+/// `+` if a sign is mandatory.
 #[tactic(auto, using(crate::proofs::DigitRuns::count_short, crate::proofs::DigitRuns::same_few))]
 pub(crate) fn count_of_units(nanoseconds: i128, unit: u128, sign_is_mandatory: bool) -> Text
     requires unit { 1 ≤ unit }
@@ -105,7 +107,7 @@ pub(crate) fn count_of_units(nanoseconds: i128, unit: u128, sign_is_mandatory: b
     text
 }
 
-// The text of the half of the day.
+// `AM` for an hour below 12, and otherwise `PM`; in lower case unless `is_uppercase`.
 fn period_name(hour: u8, is_uppercase: bool) -> &'static [u8]
     ensures name { result.now ≡ names.period_name is_uppercase (half_of hour) }
     ensures most { length result.now ≤ 2 }
@@ -125,7 +127,8 @@ pub(crate) fn weekday(value: &OffsetDateTime) -> Weekday
     value.date().weekday()
 }
 
-/// The text of a component that is a name, or `None` if it isn't one.
+/// The text of a component that is the English name of a month or a weekday, whole or its first three letters, or the
+/// text `AM` or `PM`, in lower case unless the component is in upper case. `None` for any other component.
 pub(crate) fn name(value: &OffsetDateTime, component: Component) -> Option<&'static [u8]>
     ensures name { option_map (λ n. n.now) result ≡ name_of greatest_year value.now component }
     ensures most { IfSome result (λ n. length n.now ≤ 9) }

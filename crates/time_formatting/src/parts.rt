@@ -10,7 +10,7 @@ use std::fmt;
 use time_values::digits::{count_significant, four, pair};
 use time_values::{Date, Month, Time, UtcOffset, Weekday};
 
-// `YYYY-MM-DD`.
+// The text `YYYY-MM-DD` of a date whose year is 0 to 9999.
 #[inline(always)]
 pub(crate) fn date(date: &Date) -> [u8; 10]
     requires { IsBetween (pos 0) (pos 9999) (Dates.year date.now) }
@@ -22,7 +22,8 @@ pub(crate) fn date(date: &Date) -> [u8; 10]
     [y1, y2, y3, y4, b'-', m1, m2, b'-', d1, d2]
 }
 
-// A mark and `HH:MM:SS`. LLVM would join the eight bytes alone to one number before it stores them.
+// The byte `mark` and a time as `HH:MM:SS`, without its fraction. LLVM would join the eight bytes alone to one number
+// before it stores them.
 #[inline(always)]
 pub(crate) fn clock(mark: u8, time: &Time) -> [u8; 9]
     ensures { result ≡ (mark ∷ []) ++ Texts.clock_text time.now }
@@ -33,7 +34,7 @@ pub(crate) fn clock(mark: u8, time: &Time) -> [u8; 9]
     [mark, h1, h2, b':', m1, m2, b':', s1, s2]
 }
 
-// `-` for an offset behind UTC, and else `+`.
+// `-` if the hours or the minutes of the offset are below 0, and otherwise `+`.
 #[inline]
 pub(crate) fn sign_of(offset: UtcOffset) -> u8
     ensures { result ≡ Texts.offset_sign offset }
@@ -42,7 +43,7 @@ pub(crate) fn sign_of(offset: UtcOffset) -> u8
     if hours < 0 || minutes < 0 { b'-' } else { b'+' }
 }
 
-// Whether the offset has neither hours nor minutes.
+// Whether the hours and the minutes of the offset are 0. Its seconds may be anything.
 #[inline]
 pub(crate) fn is_none(offset: UtcOffset) -> bool
     ensures { result ≡ Texts.is_none offset }
@@ -51,7 +52,7 @@ pub(crate) fn is_none(offset: UtcOffset) -> bool
     hours == 0 && minutes == 0
 }
 
-// The magnitude of hours or minutes that are at most 0. `unsigned_abs` would test the sign of each.
+// The magnitude of hours or minutes from -59 to 0. `unsigned_abs` would test the sign of each.
 #[inline(always)]
 pub(crate) fn magnitude(part: i8) -> u8
     requires { IsBetween (neg_ℤ (pos 59)) (pos 0) part }
@@ -60,7 +61,7 @@ pub(crate) fn magnitude(part: i8) -> u8
     (-part) as u8
 }
 
-// A sign and `HH:MM`.
+// The byte `sign`, and the hours and the minutes as `HH:MM`, each in two digits.
 #[inline(always)]
 pub(crate) fn hours_and_minutes(sign: u8, hours: u8, minutes: u8) -> [u8; 6]
     requires hours { hours < 100 }
@@ -72,7 +73,7 @@ pub(crate) fn hours_and_minutes(sign: u8, hours: u8, minutes: u8) -> [u8; 6]
     [sign, h1, h2, b':', m1, m2]
 }
 
-// `+HHMM` or `-HHMM`.
+// The hours and the minutes of an offset as `+HHMM` or `-HHMM`, with the sign of `sign_of`. Omits its seconds.
 #[inline(always)]
 #[tactic(auto, using(time_values::proofs::NumberLemmas::two))]
 pub(crate) fn offset_without_colon(offset: UtcOffset) -> [u8; 5]
@@ -84,7 +85,7 @@ pub(crate) fn offset_without_colon(offset: UtcOffset) -> [u8; 5]
     [sign_of(offset), h1, h2, m1, m2]
 }
 
-// The three letters of a weekday.
+// The first three letters of a weekday's English name.
 pub(crate) fn weekday_letters(weekday: Weekday) -> [u8; 3]
     ensures { result ≡ Texts.short_weekday weekday }
 {
@@ -99,7 +100,7 @@ pub(crate) fn weekday_letters(weekday: Weekday) -> [u8; 3]
     }
 }
 
-// The three letters of a month.
+// The first three letters of a month's English name.
 pub(crate) fn month_letters(month: Month) -> [u8; 3]
     ensures { result ≡ Texts.short_month month }
 {
@@ -122,14 +123,14 @@ pub(crate) fn month_letters(month: Month) -> [u8; 3]
 /// The number of digits of a second's fraction. If it is 0, the point is omitted too.
 #[derive(Clone, Copy, Debug, PartialEq, Eq)]
 pub enum FractionDigits {
-    /// All digits up to the last that isn't 0.
+    /// Those of the nine digits up to the last that isn't 0, so none for a whole second.
     Auto,
-    /// That many digits, at most nine. The text is truncated, not rounded.
+    /// That many digits, or nine for a greater number. The fraction is truncated, not rounded.
     Exactly(u8),
 }
 
 impl FractionDigits {
-    // The number of digits.
+    // The number of digits of the fraction with that nanosecond, 0 to 9.
     #[inline(always)]
     pub(crate) fn count(self, nanosecond: u32) -> usize
         ensures count { result ≡ count_of self nanosecond }
@@ -142,14 +143,14 @@ impl FractionDigits {
     }
 }
 
-/// Why a moment has no text in a format.
+/// Why a moment has no text by RFC 3339, RFC 2822 or ISO 8601.
 #[derive(Clone, Copy, Debug, PartialEq, Eq)]
 pub enum Unwritable {
-    /// The format can't represent the year.
+    /// The year is outside 0 to 9999, or for RFC 2822 outside 1900 to 9999.
     Year,
-    /// The hours of its offset are outside -23 to 23.
+    /// The hours of the offset are outside -23 to 23. RFC 2822 has no such error.
     OffsetHour,
-    /// Its offset has seconds.
+    /// The seconds of the offset aren't 0.
     OffsetSecond,
 }
 

@@ -23,7 +23,7 @@ fn weekday_and_day(weekday: Weekday, date: &Date) -> [u8; 12]
     [w1, w2, w3, b',', b' ', d1, d2, b' ', m1, m2, m3, b' ']
 }
 
-// The text of a moment whose year has four digits.
+// The text of a moment whose year is 0 to 9999, without the fraction and the seconds of its offset.
 #[inline(always)]
 fn write(value: OffsetDateTime) -> Text
     requires { IsBetween (pos 0) (pos 9999) (Dates.year (offset_date value)) }
@@ -39,7 +39,7 @@ fn write(value: OffsetDateTime) -> Text
     text
 }
 
-// The first error, or `None` if the moment has a text.
+// Why the moment has no text: `Year` outside 1900 to 9999, or else `OffsetSecond`. `None` if it has a text.
 fn reason(value: OffsetDateTime) -> Option<Unwritable>
     ensures { result ≡ unwritable_2822 value }
 {
@@ -54,10 +54,11 @@ fn reason(value: OffsetDateTime) -> Option<Unwritable>
     None
 }
 
-/// The text of a moment by RFC 2822, section 3.3: `Sat, 02 Jan 2021 03:04:05 +0607`. It omits a fraction.
+/// The text of a moment by RFC 2822, section 3.3, such as `Sat, 02 Jan 2021 03:04:05 +0607`. It omits the fraction of
+/// the second. An offset of 0 is `+0000`.
 ///
-/// A moment without such a text gives the first error that applies: its year is outside 1900 to 9999, or its offset has
-/// seconds.
+/// The error is the first that applies: [`Unwritable::Year`] if the year is outside 1900 to 9999, or
+/// [`Unwritable::OffsetSecond`] if the seconds of the offset aren't 0.
 pub fn text_2822(value: OffsetDateTime) -> Result<Text, Unwritable>
     ensures { WritesTextWith (unwritable_2822 value) (IsMailText value) result }
 {

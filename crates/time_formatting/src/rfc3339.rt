@@ -11,7 +11,7 @@ use time_values::digits::append_fraction;
 use time_values::text::Text;
 use time_values::{OffsetDateTime, UtcOffset};
 
-// Appends `Z` for an offset of no hours and minutes, and else `+HH:MM` or `-HH:MM`.
+// Appends `Z` if the hours and the minutes of the offset are 0, and else `+HH:MM` or `-HH:MM`. Omits its seconds.
 #[inline(always)]
 #[tactic(auto, using(crate::proofs::SameTexts::hours_below, crate::proofs::SameTexts::minutes_below, crate::proofs::SameTexts::minus_below))]
 fn append_offset(text: &mut Text, offset: &UtcOffset)
@@ -30,7 +30,8 @@ fn append_offset(text: &mut Text, offset: &UtcOffset)
     }
 }
 
-// Whether a moment of that year and with those hours and seconds of its offset has a text.
+// Whether a moment has a text by RFC 3339: its year is 0 to 9999, and its offset has hours from -23 to 23 and no
+// seconds.
 #[inline(always)]
 fn has_text(year: i32, hours: i8, seconds: i8) -> bool
     ensures { IsTrue result ↔ (IsBetween (pos 0) (pos 9999) year × IsBetween (neg_ℤ (pos 23)) (pos 23) hours
@@ -39,8 +40,8 @@ fn has_text(year: i32, hours: i8, seconds: i8) -> bool
     year >= 0 && year <= 9999 && hours >= -23 && hours <= 23 && seconds == 0
 }
 
-// The first error of a moment without a text, by its year and the hours of its offset. Not inlined, so that only
-// `has_text` runs before the text is written.
+// The first error of a moment without a text, by its year and the hours of its offset: `OffsetSecond` if both are in
+// range. Not inlined, so that only `has_text` runs before the text is written.
 #[inline(never)]
 fn first_reason(year: i32, hours: i8) -> Unwritable
     ensures { result ≡ if int_lt year (pos 0) || int_lt (pos 9999) year then Year else
@@ -55,7 +56,7 @@ fn first_reason(year: i32, hours: i8) -> Unwritable
     Unwritable::OffsetSecond
 }
 
-// The first error, or `None` if the moment has a text.
+// Why the moment has no text: the first of `Year`, `OffsetHour` and `OffsetSecond` that applies. `None` if it has one.
 #[inline(always)]
 pub(crate) fn reason(value: OffsetDateTime) -> Option<Unwritable>
     ensures { result ≡ unwritable_3339 value }
@@ -68,10 +69,12 @@ pub(crate) fn reason(value: OffsetDateTime) -> Option<Unwritable>
     Some(first_reason(year, hours))
 }
 
-/// The text of a moment by RFC 3339, section 5.6: `2021-01-02T03:04:05.52+06:07`, with `Z` for an offset of 0.
+/// The text of a moment by RFC 3339, section 5.6, such as `2021-01-02T03:04:05.52+06:07`. `digits` selects how many
+/// digits of the fraction it has. An offset of 0 is `Z`.
 ///
-/// A moment without such a text gives the first error that applies: its year is outside 0 to 9999, the hours of its
-/// offset are outside -23 to 23, or its offset has seconds.
+/// The error is the first that applies: [`Unwritable::Year`] if the year is outside 0 to 9999,
+/// [`Unwritable::OffsetHour`] if the hours of the offset are outside -23 to 23, or [`Unwritable::OffsetSecond`] if its
+/// seconds aren't 0.
 pub fn text_3339(value: OffsetDateTime, digits: FractionDigits) -> Result<Text, Unwritable>
     ensures { Writes (unwritable_3339 value)
         (moment_text (count_of digits (Times.nanosecond (offset_time value))) value) result }

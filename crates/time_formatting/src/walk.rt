@@ -15,8 +15,9 @@ use time_values::text::Text;
 /// The text of a moment by the steps of a description, of at most 35 bytes. It contains all optional items, and the
 /// first item of each choice.
 ///
-/// A moment without such a text gives the first error from the left: a component of the standard range has a year
-/// outside -9999 to 9999, an `ignore` occurs, or the text would exceed 35 bytes.
+/// The error is the first from the left: [`Unformattable::Year`] for a component of the standard range whose year is
+/// outside -9999 to 9999, [`Unformattable::Ignore`] for an `ignore`, or [`Unformattable::TooLong`] if the text would
+/// exceed 35 bytes.
 pub fn format(value: OffsetDateTime, steps: &[Step]) -> Result<Text, Unformattable>
     ensures { bytes_of result ≡ text_of greatest_year value (steps_shape steps.now) }
 {
@@ -25,7 +26,7 @@ pub fn format(value: OffsetDateTime, steps: &[Step]) -> Result<Text, Unformattab
     Ok(text)
 }
 
-// Appends bytes, if there is room for them.
+// Appends bytes, or returns `TooLong` and leaves the text unchanged if it would exceed 35 bytes.
 fn put(bytes: &[u8], text: &mut Text) -> Result<(), Unformattable>
     ensures { Puts (joined text.old.items bytes.now) result text.new.items }
 {
@@ -36,7 +37,7 @@ fn put(bytes: &[u8], text: &mut Text) -> Result<(), Unformattable>
     Ok(())
 }
 
-// Appends the text of a component.
+// Appends the text of a component. After an error, that of the component or `TooLong`, the text is unchanged.
 fn put_component(
     component: Component,
     value: &OffsetDateTime,
@@ -48,7 +49,7 @@ fn put_component(
     put(written.as_bytes(), text)
 }
 
-// Writes items one after the other.
+// Appends the texts of all items in turn, up to the first error. After an error, some of them may have been appended.
 #[cycle(steps)]
 fn write_steps(steps: &[Step], value: &OffsetDateTime, text: &mut Text) -> Result<(), Unformattable>
     ensures { (n : ℕ) → length steps.now ≤ n →
@@ -91,7 +92,7 @@ fn write_item<'s>(
     }
 }
 
-// Writes a group of these steps.
+// Writes a group of these steps: all items, also if the group is optional, or only the first item of a choice.
 #[cycle(steps)]
 fn write_group(
     group: Group,
@@ -108,7 +109,7 @@ fn write_group(
     }
 }
 
-// Writes the first item.
+// Writes the first item of the steps, if there is one, and ignores the others.
 #[cycle(steps)]
 fn write_first(steps: &[Step], value: &OffsetDateTime, text: &mut Text) -> Result<(), Unformattable>
     ensures { (n : ℕ) → length steps.now ≤ n →
@@ -147,9 +148,9 @@ fn write_literal<'s>(
 pub enum Unformattable {
     /// A component of the standard range has a year outside -9999 to 9999.
     Year,
-    /// A component skips bytes, so there is nothing to write.
+    /// The description has an `ignore`, which skips bytes, so there is nothing to write.
     Ignore,
-    /// The text has more than 35 bytes.
+    /// The text would have more than 35 bytes.
     TooLong,
 }
 

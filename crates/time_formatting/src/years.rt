@@ -13,7 +13,7 @@ use time_values::OffsetDateTime;
 use time_values::digits::{five, four, pair, six};
 use time_values::text::Text;
 
-// Appends the sign of a year.
+// Appends `-` for a year below 0, and otherwise `+` if a sign is mandatory or the year is above 9999.
 fn append_year_sign(text: &mut Text, sign_is_mandatory: bool, year: i32)
     requires { length text.old.items ≤ 34 }
     ensures text { text.new.items ≡ text.old.items ++ years.year_sign sign_is_mandatory year }
@@ -22,7 +22,7 @@ fn append_year_sign(text: &mut Text, sign_is_mandatory: bool, year: i32)
     append_sign(text, year < 0, sign_is_mandatory || year > 9999);
 }
 
-// The text of a year.
+// A year with its sign, in four digits with the padding, or in five or six digits if it has as many.
 fn full(sign_is_mandatory: bool, padding: Padding, year: i32) -> Text
     requires { IsYear greatest_year year }
     ensures { result.items ≡ years.full_year sign_is_mandatory padding year }
@@ -40,7 +40,8 @@ fn full(sign_is_mandatory: bool, padding: Padding, year: i32) -> Text
     text
 }
 
-// The text of a year without its last two digits.
+// A year with its sign, without its last two digits: two digits with the padding, or three or four digits if it has as
+// many.
 #[tactic(auto, using(crate::proofs::FractionTexts::last_three))]
 fn century(sign_is_mandatory: bool, padding: Padding, year: i32) -> Text
     requires { IsYear greatest_year year }
@@ -62,7 +63,7 @@ fn century(sign_is_mandatory: bool, padding: Padding, year: i32) -> Text
     text
 }
 
-// The text of a year if the year has at most four digits, or else an error.
+// The text if the year is -9999 to 9999, or else the error `Year`.
 fn in_standard_range(year: i32, text: Text) -> Result<Text, Unformattable>
     ensures { bytes_of result ≡ years.in_standard_range year text.items }
 {
@@ -88,7 +89,7 @@ macro_rules! standard {
     }};
 }
 
-/// The year of the date's ISO week.
+/// The year of the date's ISO week, which is that of the week's Thursday.
 pub(crate) fn iso_year(value: &OffsetDateTime) -> i32
     ensures value { result ≡ years.iso_year greatest_year (offset_date value.now) }
     ensures within { IsYear greatest_year result }
@@ -97,7 +98,7 @@ pub(crate) fn iso_year(value: &OffsetDateTime) -> i32
     year
 }
 
-/// The number of the date's ISO week.
+/// The number of the date's ISO week in its ISO year, 1 to 53.
 #[tactic(auto, using(crate::proofs::Spelled::iso_week_is))]
 pub(crate) fn iso_week(value: &OffsetDateTime) -> u8
     ensures { result ≡ years.iso_week greatest_year (offset_date value.now) }
@@ -106,7 +107,8 @@ pub(crate) fn iso_week(value: &OffsetDateTime) -> u8
     week
 }
 
-/// The text of a component that is a whole year, or `None` if it isn't one.
+/// The text of a component that is a whole year, or `None` for any other component. The error is `Year` for a component
+/// of the standard range whose year is outside -9999 to 9999.
 pub(crate) fn year_text(
     value: &OffsetDateTime,
     component: Component,
@@ -123,7 +125,8 @@ pub(crate) fn year_text(
     })
 }
 
-/// The text of a component that is a year without its last two digits, or `None` if it isn't one.
+/// The text of a component that is a year without its last two digits, or `None` for any other component. The error is
+/// `Year` for a component of the standard range whose whole year is outside -9999 to 9999.
 pub(crate) fn century_text(
     value: &OffsetDateTime,
     component: Component,

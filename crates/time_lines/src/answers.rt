@@ -15,10 +15,11 @@ use byte_streams::{Sink, Unwritten};
 use programs_answers::formats::{Format, Target, find_format, find_target};
 use programs_answers::{LineHandler, Named};
 
-// The request of a line: a format, a target and a text; or else the error of the line.
+// The request of a line: a format, a target and a text; or else the answer to a line that makes no request.
 type Request<'a> = Result<(Format, Target, &'a [u8]), &'static [u8]>;
 
-// The request of the line, field by field.
+// The request of the line, found field by field; or else the answer `error: line` if a TAB is missing, `error: format`
+// for an unknown format, or `error: target` for an unknown target, checked in that order.
 #[cold]
 #[inline(never)]
 #[tactic(auto, unfolding(crate::specs::Output::IsAnswer))]
@@ -43,14 +44,15 @@ fn split_request(line: &[u8]) -> Request<'_>
     Ok((format, target, text))
 }
 
-/// Answers lines of a format, TAB, a target, TAB and a text.
+/// Answers lines of a format's name, TAB, a target's name, TAB and a text. The answer to any other line is
+/// `error: line`, `error: format` or `error: target`.
 #[derive(Drop)]
 pub struct Fields {
     named: Named,
 }
 
 impl Fields {
-    /// Prepares the descriptions that lines may name.
+    /// Prepares the descriptions of the formats that lines may name, and allocates nothing.
     pub fn new() -> Fields
         ensures { AreOfFormats result.named }
     {

@@ -13,7 +13,8 @@ use std::alloc::{Allocator, Global};
 use std::io;
 use std::io::{Read, Write};
 
-// Writes the answer to each line of the input to a sink.
+// Writes the answer to each line of the input, and an LF after it, to a sink. Earlier contents of the buffer are
+// dropped.
 #[inline(always)]
 fn run_to<W: Sink>(input: &[u8], out: &mut BufferedSink<W>) -> Result<(), Unwritten>
     ensures answers { OnOk result (WritesAnswers (W.contents out.old.sink) (W.contents out.new.sink) input.now) }
@@ -23,10 +24,10 @@ fn run_to<W: Sink>(input: &[u8], out: &mut BufferedSink<W>) -> Result<(), Unwrit
     programs_answers::run(&Fields::new(), input, out)
 }
 
-/// Writes the answer to each line of the input, and allocates nothing.
+/// Writes the answer to each line of the input and an LF after it, and allocates nothing.
 ///
-/// Each line ends with LF, which is optional after the last one. `Err` is the error of a write, after which it is
-/// unspecified how much was written.
+/// Each line ends with LF, which is optional after the last one. `out` isn't flushed. `Err` is the error of a write,
+/// after which it is unspecified how much was written.
 pub fn run<W: Write>(input: &[u8], out: &mut W) -> io::Result<()>
     ensures { OnOk result (WritesAnswers (W.contents out.old) (W.contents out.new) input.now) }
 {
@@ -37,10 +38,11 @@ pub fn run<W: Write>(input: &[u8], out: &mut W) -> io::Result<()>
     }
 }
 
-/// Reads the input to its end, with at most 4294967296 reads, and writes the answer to each of its lines.
+/// Reads the input to its end, with at most 4294967296 reads, and writes the answer to each of its lines and an LF
+/// after it.
 ///
-/// A failed read isn't retried, not even an interrupted one. After [`Stop::Unread`] or [`Stop::Memory`] nothing was
-/// written.
+/// A failed read isn't retried, not even an interrupted one. `out` isn't flushed. After [`Stop::Unread`] or
+/// [`Stop::Memory`] nothing was written. After [`Stop::Unwritten`] it is unspecified how much was.
 pub fn serve<R: Read, W: Write>(alloc: Global, input: &mut R, out: &mut W) -> Result<(), Stop>
     ensures ok { OnOk result (IfSome (R.remaining input.old)
         (λ bytes. WritesAnswers (W.contents out.old) (W.contents out.new) bytes)) }
@@ -50,7 +52,7 @@ pub fn serve<R: Read, W: Write>(alloc: Global, input: &mut R, out: &mut W) -> Re
     serve_in(alloc, input, out)
 }
 
-// As [`serve`], with any allocator.
+// Reads the input and writes its answers as [`serve`] does, with any allocator.
 pub(crate) fn serve_in<R: Read, W: Write, A: Allocator>(
     alloc: A,
     input: &mut R,
@@ -65,8 +67,9 @@ pub(crate) fn serve_in<R: Read, W: Write, A: Allocator>(
     serve_to(alloc, &mut Counted::new(input), &mut buffered)
 }
 
-/// Answers the lines of a source to a sink. Returns early only after a read or a write that failed, when memory runs
-/// out, or when 4294967296 reads don't reach the end.
+/// Writes the answers to the lines of a source to a sink, as [`serve`] does. Earlier contents of the buffer are dropped
+/// once the whole input is read. Returns early only after a read or a write that failed, when memory runs out, or when
+/// 4294967296 reads don't reach the end.
 #[inline(always)]
 pub(crate) fn serve_to<R: Source, W: Sink, A: Allocator>(
     alloc: A,
@@ -84,7 +87,7 @@ pub(crate) fn serve_to<R: Source, W: Sink, A: Allocator>(
     programs_answers::serve(&Fields::new(), alloc, input, out)
 }
 
-/// The bytes before the first TAB, and those after it.
+/// The bytes before the first TAB, and those after it, both without that TAB. `None` if there is no TAB.
 pub fn split_at_tab(bytes: &[u8]) -> Option<(&[u8], &[u8])>
     ensures { option_map (λ split. (split.0.now, split.1.now)) result ≡ split_at_tab bytes.now }
 {

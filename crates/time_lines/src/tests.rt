@@ -15,13 +15,13 @@ mod whole_parses;
 /// An input and its output.
 type Row = (&'static str, &'static str);
 
-/// Whether `run` writes the output for the input.
+/// Whether `run` writes exactly this output for the input.
 fn is_answered(alloc: Global, input: &str, output: &str) -> bool {
     let mut text = Vec::new(alloc);
     run(input.as_bytes(), &mut text).is_ok() && text.as_slice() == output.as_bytes()
 }
 
-/// Checks the output of each row.
+/// Checks that `run` writes the output of each row for its input.
 fn are_answered(rt: &(impl Abort + AllocGlobal), rows: &[Row]) {
     for (input, output) in rows {
         assert!(rt; is_answered(rt.alloc(), input, output), "{input:?}");
@@ -138,7 +138,7 @@ fn unknown_names(rt: HostRuntime) {
     are_answered(&rt, &UNKNOWN_NAMES);
 }
 
-/// Yields a few bytes at a time, until a read fails.
+/// Yields at most `most` bytes a read. The read at index `fails_at`, and each later one, fails as interrupted.
 #[derive(Drop)]
 struct Source<'a> {
     bytes: &'a [u8],
@@ -158,10 +158,10 @@ impl Read for Source<'_> {
     }
 }
 
-/// The result of a call, and the number of its writes.
+/// The result of a call, and the number of its successful writes.
 type Report = (Result<(), Stop>, usize);
 
-/// Accepts the expected text only, until a write fails.
+/// Accepts writes of the expected text only. The write at index `fails_at`, and each later one, fails.
 #[derive(Drop)]
 struct Page<'a> {
     rest: &'a [u8],
@@ -170,7 +170,7 @@ struct Page<'a> {
 }
 
 impl Page<'_> {
-    /// The result with the number of writes, unless a successful call hasn't written all of the text.
+    /// The result with the number of successful writes. `None` if the call succeeded without writing all of the text.
     fn report(&self, answer: Result<(), Stop>) -> Option<Report> {
         if answer.is_ok() && !self.rest.is_empty() {
             return None;
@@ -204,7 +204,7 @@ mod refusing {
     /// Passes each call on to another allocator, except for one allocation, which fails.
     pub struct Refusing<B: Allocator> {
         inner: B,
-        // The number of allocations before the one that fails, or 18446744073709551615 after it.
+        // The number of allocations before the one that fails, or 18446744073709551615 after that one has failed.
         left: Cell<u64>,
     }
 
@@ -260,6 +260,7 @@ mod refusing {
     }
 }
 
+// The index of no read and no write, since the tests make fewer.
 const NEVER: usize = 1000000;
 
 /// The result of `run` if the write at this index fails.
@@ -325,7 +326,8 @@ fn serve_report_but_for(
     Some((page.report(answer)?, heap.has_refused()))
 }
 
-/// Fails each allocation in turn, until a run without a failure completes the output.
+/// Fails the first allocation, then in a new run the second, and so on, until a run meets no failure and writes the
+/// output.
 fn try_allocations(rt: &(impl Abort + AllocGlobal), input: &[u8], output: &[u8], most: usize) {
     for left in 0..64 {
         let source = Source {
@@ -346,7 +348,8 @@ fn try_allocations(rt: &(impl Abort + AllocGlobal), input: &[u8], output: &[u8],
     panic!(rt; "too many allocations");
 }
 
-/// Fails each of the reads in turn: there are this many, of at most `most` bytes, and the result reports each.
+/// Fails each read in turn, in a new run: there are `reads`, of at most `most` bytes. Each failure is reported, and a
+/// run without one writes the output.
 fn try_reads(
     rt: &(impl Abort + AllocGlobal),
     input: &[u8],
@@ -372,7 +375,8 @@ fn try_reads(
     }
 }
 
-/// Fails each of the writes in turn: there are this many, and the result reports each.
+/// Fails each write in turn, in a new run of `run` and of `serve`: there are `writes`. Each failure is reported, and a
+/// run without one writes the output.
 fn try_writes(
     rt: &(impl Abort + AllocGlobal),
     input: &[u8],
@@ -400,7 +404,7 @@ fn try_writes(
     }
 }
 
-/// Tries heaps of these sizes, in the given unit. Some are too small, and some suffice.
+/// Tries heaps of these sizes, each a number of units of `unit` bytes. Some are too small, and some suffice.
 fn try_sizes(
     rt: &(impl Abort + AllocGlobal),
     input: &[u8],
@@ -426,8 +430,10 @@ fn try_sizes(
     assert!(rt; refuses && serves);
 }
 
+// Three lines: one without a TAB, one with an unknown target, and one with a value, without LF at its end.
 const INPUT: &[u8] = b"\nrfc3339\tx\ty\nrfc3339\tstaged\t1985-04-12T23:20:50.52Z";
 
+// The answers to `INPUT`.
 const OUTPUT: &[u8] = b"error: line\nerror: target\n1985-04-12 23:20:50.520000000 +00:00:00\n";
 
 #[test]
@@ -455,10 +461,10 @@ fn allocates_nothing(rt: HostRuntime) {
     assert!(rt; fills(INPUT, OUTPUT));
 }
 
-/// Texts, and how often they are repeated in turn.
+/// Texts that follow one another, and how often the whole is repeated.
 type Part<'a> = (&'a [&'a [u8]], usize);
 
-/// The text of the parts.
+/// The text of all parts, one after another.
 fn joined(alloc: Global, parts: &[Part<'_>]) -> Result<Vec<u8>, AllocError> {
     let mut text = Vec::new(alloc);
     for (pieces, times) in parts {
@@ -471,7 +477,7 @@ fn joined(alloc: Global, parts: &[Part<'_>]) -> Result<Vec<u8>, AllocError> {
     Ok(text)
 }
 
-/// Tries the writes of long inputs.
+/// Fails each write in turn for an input of these parts, as `try_writes` does: there are `writes`.
 fn try_parts(
     rt: &(impl Abort + AllocGlobal),
     input: &[Part<'_>],
@@ -488,7 +494,7 @@ fn failed_writes(rt: HostRuntime) {
     try_parts(&rt, &[(&[INPUT, b"\n"], 2000)], &[(&[OUTPUT], 2000)], 3);
 }
 
-/// How many bytes the program reads at once.
+/// How many bytes the program reads at once, and how many bytes of its output it buffers.
 const BUFFER: usize = 65536;
 
 // 5459 answers of 12 bytes and two of 14 exactly fill the output buffer.
@@ -507,6 +513,7 @@ fn full_buffer(rt: HostRuntime) {
     }
 }
 
+// Lengths of a line in bytes, some of them about the size of a buffer.
 const LENGTHS: [usize; 10] = [
     0,
     1,

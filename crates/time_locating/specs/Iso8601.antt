@@ -23,11 +23,11 @@ use Rattle.time_locating.specs.Misses.{Miss, Expectation, missed, these_bytes, n
 use Rattle.time_locating.specs.declared.iso8601.Piece.{Piece}
 use Rattle.time_locating.specs.declared.iso8601.Piece.TheVariants as piece
 
--- the rest after a value, without the value
+-- the rest after a value, without the value, or none if nothing was found
 abbrev pub rest_of : {V : Type 0} → Option (List ℕ × V) → Option (List ℕ)
 rest_of found = option_map (λ f. f.0) found
 
--- the rest after a piece, which doesn't depend on the pieces before it
+-- the rest after a piece, whatever the pieces before it, or none if the piece doesn't match
 abbrev pub after : Piece → Reader
 after piece.Year bytes = rest_of (year bytes)
 after piece.Dash bytes = byte 45 bytes
@@ -48,7 +48,8 @@ after piece.Sign bytes = rest_of (offsets.stands offsets.plus_or_minus bytes no_
 after piece.OffsetHour bytes = rest_of (offsets.stands offsets.hour bytes no_offset_parts)
 after piece.OffsetMinute bytes = rest_of (offsets.stands offsets.minute bytes no_offset_parts)
 
--- what a piece expects: a byte, or the component of that name
+-- what is reported as expected where a piece doesn't match: its byte, or the name of its component, which for a sign is
+-- `offset hour`
 abbrev pub expected_at : Piece → Expectation
 expected_at piece.Year = named (codes "year")
 expected_at piece.Dash = these_bytes (codes "-")
@@ -69,23 +70,23 @@ expected_at piece.Sign = named (codes "offset hour")
 expected_at piece.OffsetHour = named (codes "offset hour")
 expected_at piece.OffsetMinute = named (codes "offset minute")
 
--- this miss if there is no rest, and otherwise the misses in the rest
+-- the list of this miss alone if there is no rest, and otherwise the misses in the rest
 abbrev pub miss_or_rest_misses : Miss → (List ℕ → List Miss) → Option (List ℕ) → List Miss
 miss_or_rest_misses m later None = m ∷ []
 miss_or_rest_misses m later (Some rest) = later rest
 
--- the miss of a row of pieces, or none if all of them match
+-- the miss at the first piece of a row that doesn't match, as a list of one, or no miss if all pieces match
 abbrev pub row_misses : List Piece → List ℕ → List Miss
 row_misses [] bytes = []
 row_misses (p ∷ ps) bytes =
     miss_or_rest_misses (missed (length bytes) (expected_at p)) (row_misses ps) (after p bytes)
 
--- the misses of rows, in their order
+-- the misses of rows in their order, each row at the front of the bytes
 abbrev pub rows_misses : List (List Piece) → List ℕ → List Miss
 rows_misses [] bytes = []
 rows_misses (row ∷ rows) bytes = row_misses row bytes ++ rows_misses rows bytes
 
--- the rows of a date
+-- the forms of a date, each a row of pieces
 abbrev pub date_rows : List (List Piece)
 date_rows =
     (piece.Year ∷ piece.Month ∷ piece.Day ∷ [])
@@ -96,12 +97,14 @@ date_rows =
     ∷ (piece.Year ∷ piece.Dash ∷ piece.WeekLetter ∷ piece.Week ∷ piece.Dash ∷ piece.Weekday ∷ [])
     ∷ []
 
--- the rows of a table for texts that may follow a part of that kind
+-- the texts of a table's rows that may follow a part of that kind, in order, each a row of pieces; `piece_of` maps a
+-- place of the table to its piece
 abbrev pub rows_after : {P : Type 0} → (P → Piece) → List (Row P) → ExtendedKind → List (List Piece)
 rows_after piece_of [] kind = []
 rows_after piece_of (r ∷ rs) kind =
     if r.before kind then map piece_of r.text ∷ rows_after piece_of rs kind else rows_after piece_of rs kind
 
+-- the piece for a part of a row of a time
 abbrev pub time_piece : times.Place → Piece
 time_piece times.whole_hour = piece.WholeHour
 time_piece times.hour_and_fraction = piece.HourAndFraction
@@ -110,6 +113,7 @@ time_piece times.minute_and_fraction = piece.MinuteAndFraction
 time_piece times.any_second = piece.Second
 time_piece times.colon = piece.Colon
 
+-- the piece for a part of a row of an offset
 abbrev pub offset_piece : offsets.OffsetPlace → Piece
 offset_piece offsets.z = piece.Zulu
 offset_piece offsets.plus_or_minus = piece.Sign
@@ -117,49 +121,53 @@ offset_piece offsets.hour = piece.OffsetHour
 offset_piece offsets.colon = piece.Colon
 offset_piece offsets.minute = piece.OffsetMinute
 
--- the misses of a time of that kind, and those of an offset
+-- the misses of the rows of a time that may follow a part of that kind; the bytes begin after the `T`, if there is one
 abbrev pub time_misses : ExtendedKind → List ℕ → List Miss
 time_misses kind = rows_misses (rows_after time_piece time_rows kind)
 
+-- the misses of the rows of an offset that may follow a part of that kind
 abbrev pub offset_misses : ExtendedKind → List ℕ → List Miss
 offset_misses kind = rows_misses (rows_after offset_piece offset_rows kind)
 
--- the misses of `T`, which is required only if `needed`, and of a time
+-- the misses of a time after its `T`, given the rest after the `T`; without a `T`, the miss of `T` if `needed`, and
+-- otherwise the misses of a time
 abbrev pub after_t : Bool → ExtendedKind → List ℕ → Option (List ℕ) → List Miss
 after_t needed kind bytes (Some rest) = time_misses kind rest
 after_t true kind bytes None = missed (length bytes) (these_bytes (codes "T")) ∷ []
 after_t false kind bytes None = time_misses kind bytes
 
--- the misses of an offset after a time
+-- the misses of an offset after a time, or no misses without a time
 abbrev pub after_time : Option (Found TimeNumbers) → List Miss
 after_time None = []
 after_time (Some t) = offset_misses t.kind t.rest
 
--- the misses of a time and what follows it
+-- the misses of an offset after a time, if the time matches, and then those of the time with its `T`, which is optional
+-- unless `needs_t`
 unfoldable pub from_time : Bool → ExtendedKind → List ℕ → List Miss
 from_time needs_t kind bytes =
     after_time (time_text needs_t kind bytes) ++ after_t needs_t kind bytes (byte 84 bytes)
 
--- the misses of a text without a date, which is a time or an offset
+-- the misses of a text that is parsed without a date: as a time, perhaps with an offset, and then as an offset alone
 abbrev pub without_date : List ℕ → List Miss
 without_date bytes = from_time false Unknown bytes ++ offset_misses Unknown bytes
 
 -- How many bytes are left at the start of the number of a date that may be greater than a record allows, if `rest`
--- bytes follow the date: two digits of a day, three of an ordinal, or two of a week with a weekday after it.
+-- bytes follow the date: the two digits of a day, the three of an ordinal, or the two of a week and the weekday after
+-- them, with `-` between them in an extended text.
 abbrev pub left_at_number : ExtendedKind → IsoDate → ℕ → ℕ
 left_at_number kind (calendar y m d) rest = 2 + rest
 left_at_number kind (ordinal y d) rest = 3 + rest
 left_at_number Extended (week y w d) rest = 4 + rest
 left_at_number kind (week y w d) rest = 3 + rest
 
--- the misses of a text that begins with a date: those of what follows the date if a record allows it, and otherwise
--- that of the date's number
+-- the misses of a text that begins with a date: those of what follows the date if a record allows the date, and
+-- otherwise that of the date's number and then those of the text without a date
 abbrev pub after_date : List ℕ → Found IsoDate → Result Record Refusal → List Miss
 after_date bytes d (Ok q) = from_time true d.kind d.rest
 after_date bytes d (Err e) =
     missed (left_at_number d.kind d.value (length d.rest)) (expected_of e) ∷ without_date bytes
 
--- the misses of a text, by the date with which it begins
+-- the misses of a text that begins with that date; or without one, those of a date's rows and of a text without a date
 abbrev pub by_date : List ℕ → Record → Result (Found IsoDate) Refusal → List Miss
 by_date bytes r (Err e) = rows_misses date_rows bytes ++ without_date bytes
 by_date bytes r (Ok d) = after_date bytes d (put_or_fault greatest_year (date_entries d.value) r)
@@ -168,7 +176,8 @@ by_date bytes r (Ok d) = after_date bytes d (put_or_fault greatest_year (date_en
 unfoldable pub misses : List ℕ → Record → List Miss
 misses bytes r = by_date bytes r (date_text bytes)
 
--- The place of a text over the record: the furthest of its misses, and of the end if bytes remain.
+-- The place of a text that isn't read whole over the record, with a leap second allowed: the furthest of its misses,
+-- and of the end if a front is read and bytes remain.
 abbrev pub Locates : Locating
 Locates bytes r m =
     place_after (rest_of (reading greatest_year bytes (with_leap_second r)))

@@ -23,75 +23,81 @@ use Rattle.time_locating.specs.Misses.{Expectation, named}
 use Rattle.time_locating.specs.declared.iso8601.Piece.{Piece}
 use Rattle.time_locating.specs.declared.iso8601.Piece.TheVariants as piece
 
--- a component of that name is expected
+-- whether a component of that name is expected
 abbrev pub expects_name : List ℕ → Expectation → Bool
 expects_name name (named other) = bytes_eq name other
 expects_name name w = false
 
--- the piece has a component of that name: `Z` has the hour of an offset
+-- whether the piece belongs to the component of that name: `Z` and a sign belong to the hour of an offset
 abbrev pub is_piece_of : List ℕ → Piece → Bool
 is_piece_of name piece.Zulu = bytes_eq name (codes "offset hour")
 is_piece_of name p = expects_name name (expected_at p)
 
--- the rest after the pieces of a row
+-- the rest after the pieces of a row, or none if one doesn't match
 abbrev pub after_row : List Piece → List ℕ → Option (List ℕ)
 after_row [] bytes = Some bytes
 after_row (p ∷ ps) bytes = option_and_then (after_row ps) (after p bytes)
 
--- how many bytes are left at the start of the first piece of that name
+-- how many bytes are left at the start of the row's first piece of that name, or none if the row has no such piece or a
+-- piece before it doesn't match
 abbrev pub row_mark : List ℕ → List Piece → List ℕ → Option ℕ
 row_mark name [] bytes = None
 row_mark name (p ∷ ps) bytes =
     if is_piece_of name p then Some (length bytes) else option_and_then (row_mark name ps) (after p bytes)
 
--- exactly `left` bytes remain
+-- whether there is a rest, and it has exactly `left` bytes
 abbrev pub leaves : ℕ → Option (List ℕ) → Bool
 leaves left None = false
 leaves left (Some rest) = length rest == left
 
--- the mark by the first row that leaves exactly `left` bytes
+-- the `row_mark` of that name by the first row that matches and leaves exactly `left` bytes, or none if no row does
 abbrev pub rows_mark : List ℕ → ℕ → List (List Piece) → List ℕ → Option ℕ
 rows_mark name left [] bytes = None
 rows_mark name left (row ∷ rows) bytes =
     if leaves left (after_row row bytes) then row_mark name row bytes else rows_mark name left rows bytes
 
--- the mark in an offset of that kind
+-- the mark of that name in an offset that may follow a part of that kind and leaves exactly `left` bytes, or none
 abbrev pub offset_mark : List ℕ → ℕ → ExtendedKind → List ℕ → Option ℕ
 offset_mark name left kind = rows_mark name left (rows_after offset_piece offset_rows kind)
 
--- the mark in a time of that kind, which may begin with `T`
+-- the mark of that name in a time that may follow a part of that kind, may begin with `T`, and leaves exactly `left`
+-- bytes, or none
 abbrev pub time_mark : List ℕ → ℕ → ExtendedKind → List ℕ → Option ℕ
 time_mark name left kind bytes =
     rows_mark name left (rows_after time_piece time_rows kind) (unwrap_or (byte 84 bytes) bytes)
 
--- the mark in a time and an offset after it, or `otherwise` if there is no time
+-- the mark of that name in an offset that follows the time and leaves `left` bytes, or else in the time, which may
+-- follow a part of that kind; `otherwise` if there is no time
 abbrev pub from_time : List ℕ → ℕ → ExtendedKind → List ℕ → Option (Found TimeNumbers) → Option ℕ → Option ℕ
 from_time name left kind bytes None otherwise = otherwise
 from_time name left kind bytes (Some t) otherwise =
     option_or (offset_mark name left t.kind t.rest) (time_mark name (length t.rest) kind bytes)
 
--- the mark in a text without a date, which is a time or an offset
+-- the mark of that name in a text that is parsed without a date and leaves `left` bytes: as a time, perhaps with an
+-- offset, or if no time matches, as an offset alone
 abbrev pub without_date : List ℕ → ℕ → List ℕ → Option ℕ
 without_date name left bytes =
     from_time name left Unknown bytes (time_text false Unknown bytes) (offset_mark name left Unknown bytes)
 
--- the mark in a text that begins with a date, if a record allows the date
+-- the mark in a text that begins with a date: in what follows the date, or else in the date; if no record allows the
+-- date, the mark in the text without a date
 abbrev pub after_date : List ℕ → ℕ → List ℕ → Found IsoDate → Result Record Refusal → Option ℕ
 after_date name left bytes d (Err e) = without_date name left bytes
 after_date name left bytes d (Ok q) =
     option_or (from_time name left d.kind d.rest (time_text true d.kind d.rest) None)
     (rows_mark name (length d.rest) date_rows bytes)
 
--- the mark in a text, by the date with which it begins
+-- the mark in a text that begins with that date, or in a text without a date
 abbrev pub by_date : List ℕ → ℕ → List ℕ → Record → Result (Found IsoDate) Refusal → Option ℕ
 by_date name left bytes r (Err e) = without_date name left bytes
 by_date name left bytes r (Ok d) = after_date name left bytes d (put_or_fault greatest_year (date_entries d.value) r)
 
--- the mark in a text that leaves `left` bytes unread
+-- the mark of that name in a text that leaves `left` bytes unread, or none if the text has no such component
 unfoldable pub text_mark : List ℕ → ℕ → List ℕ → Record → Option ℕ
 text_mark name left bytes r = by_date name left bytes r (date_text bytes)
 
--- The mark of a text over the record, or none if nothing is read.
+-- The mark of that name in a text over the record, with a leap second allowed, or none if nothing of that
+-- name is read.
 abbrev pub Marks : Marking
 Marks name bytes r mark =
     mark ≡ option_and_then (λ rest. text_mark name (length rest) bytes (with_leap_second r))

@@ -19,28 +19,29 @@ year_of (calendar y m d) = y
 year_of (ordinal y d) = y
 year_of (week y w d) = y
 
--- a record may have that year
+-- a record may have the date's year: it is at most `greatest_year`, with either sign
 abbrev pub IsYearInRange : IsoDate → Type 0
 IsYearInRange d = IsTrue (nat_le (unsigned_abs (year_of d)) greatest_year)
 
--- The record accepts the date, or rejects it with the name of a component, whose number begins that many bytes before
--- the date's end.
+-- None if the record accepts the date. Otherwise the record rejects it with the name of that component, whose number
+-- begins that many bytes before the date's end.
 abbrev pub IsTooGreat : IsoDate → ExtendedKind → Record → Option (ℕ × Bor (List ℕ)) → Type 0
 IsTooGreat d kind r None = (q : Record) × (put_or_fault greatest_year (date_entries d) r ≡ Ok q)
 IsTooGreat d kind r (Some number) =
     (put_or_fault greatest_year (date_entries d) r ≡ Err (component number.1.now))
     × ((rest : ℕ) → left_at_number kind d rest ≡ number.0 + rest)
 
--- the rest after a number of at most `greatest`, without a fraction and with one
+-- the rest after a number of at most `greatest` without a fraction, or none
 abbrev pub whole_up_to : ℕ → (List ℕ × Number) → Option (List ℕ)
 whole_up_to greatest (rest, plain v) = when (nat_le v greatest) rest
 whole_up_to greatest (rest, fraction v d) = None
 
+-- the rest after a number with a fraction, whose whole part is at most `greatest`, or none
 abbrev pub part_up_to : ℕ → (List ℕ × Number) → Option (List ℕ)
 part_up_to greatest (rest, plain v) = None
 part_up_to greatest (rest, fraction v d) = when (nat_le v greatest) rest
 
--- the rest after a second
+-- the rest after a second of at most 60, whose fraction, if it has one, doesn't round to 1 in nanoseconds, or none
 abbrev pub second_up_to : (List ℕ × Number) → Option (List ℕ)
 second_up_to (rest, plain v) = when (nat_le v 60) rest
 second_up_to (rest, fraction v d) = when (nat_le v 60 && nat_lt (round_of d 1_000_000_000) 1_000_000_000) rest

@@ -9,7 +9,7 @@ use Rattle.time_parsing.specs.Iso8601.{date_over}
 use Rattle.time_locating.specs.Iso8601.{misses}
 use Rattle.time_locating.specs.Misses.{Expectation, these_bytes, named, the_end, Miss, Misses, LiteralReport, furthest}
 
--- A tree has one list of misses for given bytes and a given record.
+-- A tree has at most one list of misses for given bytes and a given record.
 abbrev pub OneList : Type 0
 OneList =
     (told : LiteralReport) (t : Tree) (bytes : List ℕ) (r : Record) (ms ns : List Miss)
@@ -21,7 +21,7 @@ refusal_by (these_bytes text) = literal
 refusal_by (named name) = component name
 refusal_by the_end = trailing
 
--- If a tree is rejected, the list begins with the miss that the error names.
+-- If a tree rejects the bytes with an error, its list begins with a miss that has this error.
 abbrev pub OwnMissFirst : Type 0
 OwnMissFirst =
     (told : LiteralReport) (t : Tree) (bytes : List ℕ) (r : Record) (e : Refusal) (ms : List Miss)
@@ -40,8 +40,8 @@ abbrev pub LeavesLeastSoFar : Miss → List Miss → Type 0
 LeavesLeastSoFar m ms =
     (before after : List Miss) × (ms ≡ before ++ m ∷ after) × All (λ n. m.left < n.left) before
 
--- If a date of ISO 8601 is rejected, one miss of the text is that of the error, and each miss before it leaves more
--- bytes. So it is the furthest unless a later one leaves fewer.
+-- If the date of an ISO 8601 text is rejected, one miss of the text has that error, and each miss before it leaves more
+-- bytes. So it is the furthest unless a later miss leaves fewer.
 abbrev pub IsoOwnMiss : Type 0
 IsoOwnMiss =
     (bytes : List ℕ) (r : Record) (e : Refusal) → date_over greatest_year bytes r ≡ Err e

@@ -7,11 +7,11 @@ use Rattle.time_readers.specs.declared.rfc2822.Place.{Place}
 use Rattle.time_readers.specs.declared.rfc2822.Place.TheVariants.{WeekdayName, Day, DayBlanks, MonthName, MonthBlanks, Year, YearBlanks, Hour, HourColon, Minute, Second, TimeBlanks, OffsetHour, OffsetMinute, EndBlanks}
 use Rattle.time_locating.specs.declared.rfc2822.Passed.{Passed}
 
--- what is known of the places so far is what their numbers determine
+-- `passed` and the numbers agree on whether the year has four digits, and on whether the offset has a sign
 abbrev pub Agrees : Numbers → Passed → Type 0
 Agrees n passed = (n.year_is_full ≡ passed.year_is_full) × (is_some n.offset_sign ≡ passed.offset_has_sign)
 
--- how many places precede it
+-- how many of the fifteen places precede this one
 abbrev pub rank : Place → ℕ
 rank WeekdayName = 0
 rank Day = 1

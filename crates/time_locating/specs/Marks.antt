@@ -17,13 +17,13 @@ use Rattle.time_record.specs.Record.{Record}
 use Rattle.time_locating.specs.Located.{Marking}
 use Rattle.time_locating.specs.Misses.{Miss, Expectation, missed, the_end}
 
--- the error has that name
+-- whether the error is an invalid component of that name
 abbrev pub has_name : List ℕ → Refusal → Bool
 has_name name (of_component other) = bytes_eq name other
 has_name name e = false
 
--- The component has that name, which is that of the error of its text. For an ISO 8601 week, the error of its date has
--- another name.
+-- Whether errors call the component by that name. An ISO 8601 week has two names: that of the error of its text, and
+-- that of the error of its date.
 abbrev pub is_named : List ℕ → Component → Bool
 is_named name (named.WeekNumberIso m) = bytes_eq name (codes "week number") || bytes_eq name (codes "week")
 is_named name c = has_name name (component_fault c)
@@ -39,7 +39,7 @@ unfoldable mutual
       ⊎ (NoReading greatest_year t bytes r × (mark ≡ None))
   Marks name (first_of ts) bytes r mark = MarksFirst name ts bytes r mark
 
-  -- the mark of trees in turn: that of the last one that has one
+  -- the mark of trees that match in turn: that of the last tree with a mark
   pub MarksAll : List ℕ → Trees → List ℕ → Record → Option ℕ → Type 0
   MarksAll name none bytes r mark = mark ≡ None
   MarksAll name (more t ts) bytes r mark =
@@ -47,14 +47,14 @@ unfoldable mutual
       × (mid : List ℕ) × (q : Record) × Reads greatest_year t bytes r mid q
       × (later : Option ℕ) × MarksAll name ts mid q later × (mark ≡ option_or later here)
 
-  -- the mark of alternatives: that of the first that matches
+  -- the mark of alternatives: that of the first that matches, or none if none matches
   pub MarksFirst : List ℕ → Trees → List ℕ → Record → Option ℕ → Type 0
   MarksFirst name none bytes r mark = mark ≡ None
   MarksFirst name (more t ts) bytes r mark =
       ((mid : List ℕ) × (q : Record) × Reads greatest_year t bytes r mid q × Marks name t bytes r mark)
       ⊎ (NoReading greatest_year t bytes r × MarksFirst name ts bytes r mark)
 
--- The mark of a text, if the tree reads a front of it, or nothing.
+-- The mark of a text: that of the tree if it reads a front of the text, or none if it reads no front.
 abbrev pub MarksTree : Tree → Marking
 MarksTree t name bytes r mark = Marks name (optional t) bytes r mark
 
@@ -69,8 +69,8 @@ Beginning P = P → List ℕ → List ℕ
 abbrev pub at_once : {P : Type 0} → Beginning P
 at_once p bytes = bytes
 
--- The start of what is expected at the first place that doesn't match. If all places match and bytes remain, it is the
--- end of the text.
+-- The miss at the first place that doesn't match, where its expected text should begin. If all places match and bytes
+-- remain, it is the miss of the end, at the first byte too many.
 abbrev pub LocatesPlace :
     {P N : Type 0} → Format P N → List P → N → Beginning P → (P → Expectation) → List ℕ → Miss → Type 0
 LocatesPlace {P} {N} A ps start expected_from expected_at bytes m =
@@ -79,12 +79,13 @@ LocatesPlace {P} {N} A ps start expected_from expected_at bytes m =
     ⊎ ((rest : List ℕ) × (n : N) × MatchesPlaces A ps start bytes rest n × (rest ≢ [])
     × (m ≡ missed (length rest) the_end))
 
--- whether a place with that error has the name and takes bytes, with `rest` left after it
+-- whether a place with that error has the name, and its text isn't empty: `rest`, after the place, is shorter than
+-- `bytes`
 abbrev pub is_place_of : List ℕ → Refusal → List ℕ → List ℕ → Bool
 is_place_of name refusal bytes rest = nat_lt (length rest) (length bytes) && has_name name refusal
 
--- The places match, and that many bytes are left at the start of the first place of that name, after what precedes it
--- there.
+-- The mark of that name in places that match in turn: how many bytes are left where the expected text begins of the
+-- first place of that name whose text isn't empty. None if there is no such place.
 unfoldable pub MarksPlaces :
     {P N : Type 0} → Format P N → Beginning P → (P → Refusal) → List ℕ → List P → N → List ℕ → Option ℕ → Type 0
 MarksPlaces A expected_from fault name [] n bytes mark = mark ≡ None

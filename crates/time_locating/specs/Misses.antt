@@ -18,15 +18,16 @@ pub data Expectation : Type 0 where
   named : List ℕ → Expectation
   the_end : Expectation
 
--- how many bytes were left where the expected text isn't there
+-- a miss: how many bytes were left where the expected text isn't there, and what was expected
 pub record Miss : Type 0 where
   pub left : ℕ
   pub wanted : Expectation
 
+-- the miss of this expectation with n bytes left
 abbrev pub missed : ℕ → Expectation → Miss
 missed n w = record { left = n; wanted = w }
 
--- what is expected at a component with that error
+-- what is expected at a component with that error: the component that it names, or the end for any other error
 abbrev pub expected_of : Refusal → Expectation
 expected_of (of_component name) = named name
 expected_of _ = the_end
@@ -35,14 +36,15 @@ expected_of _ = the_end
 abbrev pub expected_by : Component → Expectation
 expected_by c = expected_of (component_fault c)
 
--- which bytes of a literal's rest are reported
+-- a map from the rest of a literal, which begins with its first byte that doesn't match, to the bytes that are reported
 abbrev pub LiteralReport : Type 0
 LiteralReport = List ℕ → List ℕ
 
+-- all bytes of a literal's rest are reported
 abbrev pub all_bytes : LiteralReport
 all_bytes text = text
 
--- the first byte, if a description keeps each byte by itself
+-- only the first byte is reported, since a description stores each byte of a literal by itself
 abbrev pub first_byte : LiteralReport
 first_byte [] = []
 first_byte (b ∷ text) = b ∷ []
@@ -55,7 +57,7 @@ literal_misses told (t ∷ text) (b ∷ bytes) =
     if b == t then literal_misses told text bytes
     else missed (length (b ∷ bytes)) (these_bytes (told (t ∷ text))) ∷ []
 
--- a component that matches is no miss, and one that doesn't is one
+-- no misses if the tree, a component, matches; and otherwise one miss of what is wanted, at its start
 abbrev pub MissesLeaf : Tree → Expectation → List ℕ → Record → List Miss → Type 0
 MissesLeaf t wanted bytes r ms =
     (((rest : List ℕ) × (q : Record) × Reads greatest_year t bytes r rest q) × (ms ≡ []))
@@ -70,7 +72,7 @@ unfoldable mutual
   Misses told (optional t) bytes r ms = Misses told t bytes r ms
   Misses told (first_of ts) bytes r ms = MissesFirst told ts bytes r ms
 
-  -- the misses of a sequence, up to and including the first tree that doesn't match
+  -- the misses of a sequence, up to and including the first tree that doesn't match; those of later trees come first
   pub MissesAll : LiteralReport → Trees → List ℕ → Record → List Miss → Type 0
   MissesAll told none bytes r ms = ms ≡ []
   MissesAll told (more t ts) bytes r ms =
@@ -78,7 +80,7 @@ unfoldable mutual
       ⊎ ((mid : List ℕ) × (q : Record) × Reads greatest_year t bytes r mid q
       × (later : List Miss) × MissesAll told ts mid q later × (ms ≡ later ++ here)))
 
-  -- the misses of a choice, up to and including the first tree that matches
+  -- the misses of a choice, up to and including the first tree that matches; those of earlier trees come first
   pub MissesFirst : LiteralReport → Trees → List ℕ → Record → List Miss → Type 0
   MissesFirst told none bytes r ms = ms ≡ []
   MissesFirst told (more t ts) bytes r ms =
@@ -99,27 +101,28 @@ MissesText told t bytes r ms =
 abbrev pub further_of : Miss → Miss → Miss
 further_of m n = if nat_lt n.left m.left then n else m
 
+-- the first miss, or the second if it leaves fewer bytes or is the only one
 abbrev pub further : Option Miss → Option Miss → Option Miss
 further None n = n
 further (Some m) None = Some m
 further (Some m) (Some n) = Some (further_of m n)
 
--- the first of the misses that leave the fewest bytes
+-- the first of the misses that leave the fewest bytes, or none for an empty list
 abbrev pub furthest : List Miss → Option Miss
 furthest [] = None
 furthest (m ∷ ms) = further (Some m) (furthest ms)
 
--- the furthest of a list of misses that has the property
+-- `miss` is the furthest of a list of misses that has the property, or none if the list is empty
 abbrev pub IsFurthest : (List Miss → Type 0) → Option Miss → Type 0
 IsFurthest are_misses miss = (ms : List Miss) × are_misses ms × (miss ≡ furthest ms)
 
--- The place of a text with this rest (none if nothing is read) and this furthest miss. It is none if the rest is empty;
--- if bytes remain, the end precedes the miss.
+-- The place of a text with this rest (none if no prefix is read) and this furthest miss. It is none if the rest is
+-- empty. If bytes remain, it is the end, unless the miss leaves fewer bytes. If no prefix is read, it is the miss.
 abbrev pub place_after : Option (List ℕ) → Option Miss → Option Miss
 place_after None miss = miss
 place_after (Some []) miss = None
 place_after (Some (b ∷ rest)) miss = further (Some (missed (length (b ∷ rest)) the_end)) miss
 
--- The place of a text that a tree doesn't read whole.
+-- The place of a text that a tree doesn't read whole: the furthest of the text's misses.
 abbrev pub LocatesTree : LiteralReport → Tree → List ℕ → Record → Miss → Type 0
 LocatesTree told t bytes r m = IsFurthest (MissesText told t bytes r) (Some m)

@@ -9,8 +9,8 @@ use Rattle.time_locating.specs.Marks.{Beginning, LocatesPlace, MarksText}
 use Rattle.time_locating.specs.Located.{Locating, Marking}
 use Rattle.time_locating.specs.Misses.{Expectation, these_bytes, expected_of}
 
--- what is expected at a place: a comma for a weekday without one, a space for blanks, the colon of the hour, or else
--- the component that the place's error names
+-- what is expected at a place: a comma after a weekday, a space for blanks, the colon after the hour, or else the
+-- component that the place's error names (the end for the blanks at the end, which always match)
 abbrev pub expected_at : Place → Expectation
 expected_at WeekdayName = these_bytes (codes ",")
 expected_at DayBlanks = these_bytes (codes " ")
@@ -25,20 +25,21 @@ abbrev pub past : Reader → List ℕ → List ℕ
 past reader bytes = unwrap_or (reader bytes) bytes
 
 -- Where the expected text of a place begins: the comma after the blanks and the three letters of a weekday, the hour's
--- colon after its blanks, and a second after its colon and the blanks beside it. All other texts begin with their
--- places.
+-- colon after its blanks, and a second after its colon and the blanks beside it. All other texts, and a second without
+-- a colon, begin with their places.
 abbrev pub expected_from : Beginning Place
 expected_from WeekdayName bytes = drop 3 (past opt_cfws bytes)
 expected_from HourColon bytes = past opt_cfws bytes
 expected_from Second bytes = past opt_cfws_colon_opt_cfws bytes
 expected_from p bytes = bytes
 
--- The first of the fifteen places that doesn't have its form or whose number is out of its range, whatever the record;
--- or else the end.
+-- The miss at the first of the fifteen places that doesn't have its form or whose number is out of its range, whatever
+-- the record. If all match and bytes remain, it is the miss of the end.
 abbrev pub Locates : Locating
 Locates bytes r m = LocatesPlace (PlaceSyntax true) places nothing_read expected_from expected_at bytes m
 
--- Where the component of that name begins, whatever the record: after a zone name an offset has no minute, and a text
--- may have no second.
+-- How many bytes are left at the start of the component of that name, whatever the record. None if a place doesn't
+-- match, if no place has the name, or if the place has no text: the offset's minute after a zone name, or an omitted
+-- second.
 abbrev pub Marks : Marking
 Marks name bytes r mark = MarksText (PlaceSyntax true) expected_from fault places nothing_read name bytes mark

@@ -16,12 +16,12 @@ expected_at MinuteColon = these_bytes (codes ":")
 expected_at OffsetColon = these_bytes (codes ":")
 expected_at p = expected_of (fault p)
 
--- The first of the fifteen places that doesn't have its form or whose number is out of its range, whatever the record;
--- or else the end.
+-- The miss at the first of the fifteen places that doesn't have its form or whose number is out of its range, whatever
+-- the record. If all match and bytes remain, it is the miss of the end.
 abbrev pub Locates : Locating
 Locates bytes r m = LocatesPlace (PlaceSyntax true) places nothing_read at_once expected_at bytes m
 
--- The text of the place of that name, whatever the record: after `Z` an offset has no minute, and a second may have no
--- fraction.
+-- How many bytes are left at the start of the place of that name, whatever the record. None if a place doesn't match,
+-- if no place has the name, or if the place has no text: the offset's minute after `Z`, or an omitted fraction.
 abbrev pub Marks : Marking
 Marks name bytes r mark = MarksText (PlaceSyntax true) at_once fault places nothing_read name bytes mark

@@ -11,13 +11,14 @@ use Rattle.time_locating.specs.Rfc3339 as rfc3339
 abbrev pub cut_off : List ℕ → ℕ
 cut_off bytes = length bytes - length (strict_text bytes)
 
--- The first of the fifteen places that doesn't match, the separator at the latest if it isn't `T`, `t` or a space; or
--- else the end.
+-- The miss at the first of the fifteen places that doesn't match, the separator at the latest if it isn't `T`, `t` or a
+-- space. If all match and bytes remain, it is the miss of the end. Its bytes left are counted in the whole text.
 abbrev pub Locates : Locating
 Locates bytes r m =
     (miss : Miss) × rfc3339.Locates (strict_text bytes) r miss × (m ≡ missed (miss.left + cut_off bytes) miss.wanted)
 
--- The text of the place of that name.
+-- The mark of the place of that name in the strict text, counted in the whole text, or none if the strict text has
+-- none.
 abbrev pub Marks : Marking
 Marks name bytes r mark =
     (left : Option ℕ) × rfc3339.Marks name (strict_text bytes) r left

@@ -20,7 +20,7 @@ use time_parsing::{Items, begin};
 use time_preparing::Prepared;
 use time_record::Parsed;
 
-// Locates the error of a text that is parsed by an item.
+// Locates the error of a text that is parsed by an item, or returns `None` if the item reads the whole text.
 fn locate_item<'d, I: Inspect>(
     item: &'d I,
     input: &[u8],
@@ -34,7 +34,8 @@ fn locate_item<'d, I: Inspect>(
     place(walked.rest, walked.missed, input)
 }
 
-// Locates the error of a text that is parsed by the steps of a description.
+// Locates the error of a text that is parsed by the steps of a description, or returns `None` if they read the whole
+// text.
 fn locate_steps<'a>(
     steps: &'a [Step],
     input: &[u8],
@@ -48,7 +49,8 @@ fn locate_steps<'a>(
     place(walked.rest, walked.missed, input)
 }
 
-// The index at which the last component of this name begins, of those that the steps of a description read.
+// The index at which the last component of this name begins, of those that the steps of a description read. `None` if
+// they read none of that name, or if they match no prefix of the input.
 fn locate_in_steps(
     steps: &[Step],
     input: &[u8],
@@ -62,7 +64,8 @@ fn locate_in_steps(
     index_of(walked.mark, input)
 }
 
-// The index at which the last component of this name begins, of those that an item reads.
+// The index at which the last component of this name begins, of those that an item reads. `None` if it reads none of
+// that name, or if it matches no prefix of the input.
 fn locate_in_item<I: Inspect>(
     item: &I,
     input: &[u8],

@@ -24,11 +24,11 @@ use time_record::Parsed;
 /// A piece of an ISO 8601 text.
 #[derive(Clone, Copy)]
 pub enum Piece {
-    /// Four digits, or a sign and six.
+    /// Four digits, or a sign (`-` or `+`) and six digits.
     Year,
     /// `-`.
     Dash,
-    /// Two digits of 01 to 12.
+    /// Two digits, 01 to 12.
     Month,
     /// Two digits, but not `00`.
     Day,
@@ -38,17 +38,18 @@ pub enum Piece {
     WeekLetter,
     /// Two digits, but not `00`.
     Week,
-    /// One digit of 1 to 7.
+    /// One digit, 1 to 7.
     Weekday,
-    /// Two digits of 0 to 23 without a fraction.
+    /// Two digits, 00 to 23, without `.` or `,` after them.
     WholeHour,
-    /// Two digits of 0 to 23 with a fraction.
+    /// Two digits, 00 to 23, and a fraction: `.` or `,` and one or more digits.
     HourAndFraction,
-    /// Two digits of 0 to 59 without a fraction.
+    /// Two digits, 00 to 59, without `.` or `,` after them.
     WholeMinute,
-    /// Two digits of 0 to 59 with a fraction.
+    /// Two digits, 00 to 59, and a fraction: `.` or `,` and one or more digits.
     MinuteAndFraction,
-    /// Two digits of 0 to 60, perhaps with a fraction that doesn't round to 1.
+    /// Two digits, 00 to 60, alone or with a fraction: `.` or `,` and one or more digits, which must not round up to 1
+    /// in nanoseconds. It doesn't match if `.` or `,` follows without a digit.
     Second,
     /// `:`.
     Colon,
@@ -56,13 +57,13 @@ pub enum Piece {
     Zulu,
     /// `-` or `+`.
     Sign,
-    /// Two digits of 0 to 25.
+    /// Two digits, 00 to 25.
     OffsetHour,
-    /// Two digits of 0 to 59.
+    /// Two digits, 00 to 59.
     OffsetMinute,
 }
 
-// The rows of pieces that form a date.
+// The forms of a date, each a row of pieces.
 const DATES: [&[Piece]; 6] = [
     &[Piece::Year, Piece::Month, Piece::Day],
     &[Piece::Year, Piece::Ordinal],
@@ -85,7 +86,7 @@ const DATES: [&[Piece]; 6] = [
     ],
 ];
 
-// The rows of pieces that form a time.
+// The forms of a time, each a row of pieces. This one is an hour with a fraction.
 const PART_OF_HOUR: &[Piece] = &[Piece::HourAndFraction];
 
 const HOUR: &[Piece] = &[Piece::WholeHour];
@@ -115,9 +116,10 @@ const COLON_SECOND: &[Piece] = &[
     Piece::Second,
 ];
 
-// The rows of a time that a text of each kind may have.
+// The rows of a time that a basic text may have.
 const BASIC_TIMES: [&[Piece]; 5] = [PART_OF_HOUR, HOUR, PART_OF_MINUTE, MINUTE, SECOND];
 
+// The rows of a time that an extended text may have. The colon before a minute is optional.
 const EXTENDED_TIMES: [&[Piece]; 8] = [
     PART_OF_HOUR,
     HOUR,
@@ -129,6 +131,7 @@ const EXTENDED_TIMES: [&[Piece]; 8] = [
     COLON_SECOND,
 ];
 
+// The rows of a time that a text of an unknown kind may have.
 const ANY_TIMES: [&[Piece]; 8] = [
     PART_OF_HOUR,
     HOUR,
@@ -140,7 +143,7 @@ const ANY_TIMES: [&[Piece]; 8] = [
     COLON_SECOND,
 ];
 
-// The rows of pieces that form an offset, in a basic text and in others.
+// The forms of an offset, each a row of pieces. This one is `Z`.
 const UTC: &[Piece] = &[Piece::Zulu];
 
 const OFFSET_HOUR: &[Piece] = &[Piece::Sign, Piece::OffsetHour];
@@ -154,11 +157,13 @@ const OFFSET_COLON_MINUTE: &[Piece] = &[
     Piece::OffsetMinute,
 ];
 
+// The rows of an offset that a basic text may have.
 const BASIC_OFFSETS: [&[Piece]; 3] = [UTC, OFFSET_HOUR, OFFSET_MINUTE];
 
+// The rows of an offset that an extended text, or one of an unknown kind, may have.
 const OFFSETS: [&[Piece]; 4] = [UTC, OFFSET_HOUR, OFFSET_MINUTE, OFFSET_COLON_MINUTE];
 
-// The miss at the first piece of a row that doesn't match.
+// The miss at the first piece of a row that doesn't match, or `None` if all match.
 fn row_missed(row: &[Piece], input: &[u8]) -> Option<Miss<'static>>
     ensures { erased_miss result ≡ furthest (spec.row_misses row.now input.now) }
 {
@@ -172,7 +177,8 @@ fn row_missed(row: &[Piece], input: &[u8]) -> Option<Miss<'static>>
     None
 }
 
-// The furthest miss of some rows.
+// The furthest of the misses of the rows, each at the front of the input; of several as far, the first row's. `None` if
+// each row matches.
 #[tactic(auto, using(crate::proofs::IsoLengths::rows_next))]
 fn rows_missed(rows: &[&[Piece]], input: &[u8]) -> Option<Miss<'static>>
     ensures { erased_miss result ≡ furthest (spec.rows_misses (map (λ row. row.now) rows.now) input.now) }
@@ -184,7 +190,7 @@ fn rows_missed(rows: &[&[Piece]], input: &[u8]) -> Option<Miss<'static>>
     missed
 }
 
-// The rows of a time in a text of that kind.
+// The rows of pieces that a time may have in a text of that kind.
 fn times_of(kind: ExtendedKind) -> &'static [&'static [Piece]]
     ensures { map (λ row. row.now) result.now ≡ spec.rows_after spec.time_piece time_rows kind }
 {
@@ -195,7 +201,7 @@ fn times_of(kind: ExtendedKind) -> &'static [&'static [Piece]]
     }
 }
 
-// The rows of an offset in a text of that kind.
+// The rows of pieces that an offset may have in a text of that kind.
 fn offsets_of(kind: ExtendedKind) -> &'static [&'static [Piece]]
     ensures { map (λ row. row.now) result.now ≡ spec.rows_after spec.offset_piece offset_rows kind }
 {
@@ -205,21 +211,24 @@ fn offsets_of(kind: ExtendedKind) -> &'static [&'static [Piece]]
     }
 }
 
-// The furthest miss of a time of that kind.
+// The furthest miss of the rows of a time of that kind; the input begins after the `T`, if there is one. Never `None`:
+// an hour with a fraction and one without exclude each other, so a valid time has a miss, too, that of another row.
 fn time_missed(kind: ExtendedKind, input: &[u8]) -> Option<Miss<'static>>
     ensures { erased_miss result ≡ furthest (spec.time_misses kind input.now) }
 {
     rows_missed(times_of(kind), input)
 }
 
-// The furthest miss of an offset of that kind.
+// The furthest miss of the rows of an offset of that kind. Never `None`: `Z` and a sign exclude each other, so a valid
+// offset has a miss, too, that of another row.
 fn offset_missed(kind: ExtendedKind, input: &[u8]) -> Option<Miss<'static>>
     ensures { erased_miss result ≡ furthest (spec.offset_misses kind input.now) }
 {
     rows_missed(offsets_of(kind), input)
 }
 
-// The furthest miss of `T`, which is required only if `needs_t`, and of a time of that kind after it.
+// The miss of `T` if `needs_t` and there is no `T`. Otherwise the furthest miss of a time of that kind, after its `T`
+// if it has one. Never `None`.
 fn letter_missed(needs_t: bool, kind: ExtendedKind, input: &[u8]) -> Option<Miss<'static>>
     ensures { erased_miss result ≡ furthest (spec.after_t needs_t kind input.now (byte 84 input.now)) }
 {
@@ -230,7 +239,8 @@ fn letter_missed(needs_t: bool, kind: ExtendedKind, input: &[u8]) -> Option<Miss
     }
 }
 
-// The furthest miss of a time and of an offset after it.
+// The furthest miss of a time of that kind, whose `T` is required if `needs_t`, and if the time matches, of an offset
+// after it. At one index, the offset's precedes the time's. Never `None`: a valid text has a miss, too.
 fn missed_from_time(needs_t: bool, kind: ExtendedKind, input: &[u8]) -> Option<Miss<'static>>
     ensures { erased_miss result ≡ furthest (spec.from_time needs_t kind input.now) }
 {
@@ -241,7 +251,8 @@ fn missed_from_time(needs_t: bool, kind: ExtendedKind, input: &[u8]) -> Option<M
     }
 }
 
-// The furthest miss of a text without a date.
+// The furthest miss of a text that is parsed without a date: as a time, perhaps with an offset, or as an offset alone.
+// At one index, that of the first form precedes that of the second. Never `None`: a valid text has a miss, too.
 fn missed_without_date(input: &[u8]) -> Option<Miss<'static>>
     ensures { erased_miss result ≡ furthest (spec.without_date input.now) }
 {
@@ -251,8 +262,8 @@ fn missed_without_date(input: &[u8]) -> Option<Miss<'static>>
     )
 }
 
-// The number of a date that is greater than a record allows: how many bytes before the date's end the number begins,
-// and the name of its component.
+// The number of a date that is greater than a record allows, a day over 31, an ordinal over 366 or a week over 53: how
+// many bytes before the date's end the number begins, and the name of its component. `None` if there is none.
 fn too_great(numbers: DateNumbers, kind: ExtendedKind) -> Option<(usize, &'static str)>
     ensures { (r : Record) → IsYearInRange (iso_date numbers) → IsTooGreat (iso_date numbers) kind r result }
 {
@@ -266,7 +277,8 @@ fn too_great(numbers: DateNumbers, kind: ExtendedKind) -> Option<(usize, &'stati
     }
 }
 
-// The furthest miss of a text.
+// The furthest miss of a text, in its date, time or offset. Never `None`: a valid text has a miss, too, that of a form
+// that it doesn't have.
 fn missed(input: &[u8]) -> Option<Miss<'static>>
     ensures { (r : Record) → erased_miss result ≡ furthest (spec.misses input.now r) }
 {
@@ -285,6 +297,10 @@ fn missed(input: &[u8]) -> Option<Miss<'static>>
     }
 }
 
+/// A date, a time and an offset each have several forms. The furthest mismatch is that of all forms that are tried:
+/// those of a date only if none matches, and those of a time or an offset that may follow. If no date matches, or the
+/// day is above 31, the ordinal above 366 or the week above 53, the text is also tried without a date. An error in a
+/// fraction is at the start of its hour, minute or second.
 impl Locate for Iso8601 {
     ghost use Rattle.time_locating.specs.Iso8601.{Locates};
 

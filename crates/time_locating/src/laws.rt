@@ -6,23 +6,24 @@ ghost use Rattle.time_locating.specs.Located.{IsExactMark, OneAnswer, OneIndex, 
 
 use crate::Locate;
 
-/// A description's misses of given bytes over a given record are one list. If the description rejects the bytes, the
-/// list begins with the miss that the error names. No miss leaves fewer bytes than the furthest, and each miss before
-/// the furthest in the list leaves more.
+/// A description has at most one list of misses for given bytes and a given record. If the description rejects the
+/// bytes, the list begins with a miss of the error's kind, and of the component that the error names, if it names one.
+/// No miss leaves fewer bytes than the furthest, and each miss before the furthest in the list leaves more.
 pub fn law_misses()
     ensures one { OneList }
     ensures own { OwnMissFirst }
     ensures furthest { FurthestLeavesFewest }
 {}
 
-/// If ISO 8601 rejects a date, one miss of the text is that of the error, and each miss before it in the list leaves
-/// more bytes. So it is the place that `locate` returns unless another miss is further on: of the misses at one index,
-/// it is the one reported.
+/// If ISO 8601 rejects the date of a text, a miss of the text is of that error's kind and component, and each miss
+/// before it in the list leaves more bytes. So if no prefix of the text matches, that miss is the place that `locate`
+/// returns unless a later miss in the list is further on: of the misses at one index, it is the one reported.
 pub fn law_iso_misses()
     ensures { IsoOwnMiss }
 {}
 
-/// A text with given defaults has one answer, whatever the format: one index with one expectation, or none.
+/// A text with given defaults has at most one answer, whatever the format: any two results that the contract of
+/// `locate` allows are both `None`, or equal in their index and in what was expected.
 #[tactic(auto, using(crate::proofs::WholeTexts::one_answer))]
 pub fn law_one_place<T: Locate>(format: &T)
     ensures { OneAnswer (T.reads format.now) (T.locates format.now) }
@@ -35,9 +36,9 @@ pub fn law_place_of_refusal<T: Locate>(format: &T)
     ensures { PlacesRefusals (T.reads format.now) (T.refuses format.now) (T.locates format.now) }
 {}
 
-/// A text has no place exactly if it is read whole, and then its outcome, a value or an error, is that of its record.
-/// If a parse returns a value, `locate` returns `None`. If a parse rejects a text without a place, the record of the
-/// whole text has no value. This holds for each target, with given defaults.
+/// `locate` returns `None` exactly if the text is read whole and the outcome of the parse over a record, a value or an
+/// error, is what the record of the whole text resolves to. So if a parse returns a value, `locate` returns `None`; and
+/// if a parse rejects a text without a place, its record has no value. This holds for each target, with given defaults.
 #[tactic(auto, using(crate::proofs::WholeTexts::place_of_outcome))]
 pub fn law_place_of_outcome<T: Locate>(format: &T)
     ensures date { PlacesOutcomes (IsDated greatest_year) (T.reads format.now) (T.refuses format.now) (T.locates format.now) }
@@ -49,8 +50,8 @@ pub fn law_place_of_outcome<T: Locate>(format: &T)
     ensures timestamp { PlacesOutcomes (IsTimestamp greatest_year) (T.reads format.now) (T.refuses format.now) (T.locates format.now) }
 {}
 
-/// Each component name has one index in a text, or none if no component of that name is read, whatever the format. A
-/// rejected text has one error index, or none.
+/// Each component name has at most one index in a text, whatever the format: any two marks of one name are equal. An
+/// error of a text has at most one index, too.
 #[tactic(auto, using(crate::proofs::WholeTexts::one_index))]
 pub fn law_one_index<T: Locate>(format: &T)
     ensures component { IsExactMark (T.marks format.now) }

@@ -13,35 +13,39 @@ use time_values::error::{Parse, TryFromParsed};
 
 /// A format that locates the error in a text that it rejects.
 pub trait Locate: Parsable {
-    // Relates bytes that aren't read whole, over a record, to their place, with what was expected there.
+    // For bytes that aren't read whole over a record: the miss to report, as the number of bytes left at its place, and
+    // what was expected there.
     ghost locates: { Self → Locating };
 
-    /// Locates the error of parsing the text with the defaults: the index of the byte that no reading gets past, and
-    /// what was expected there. `None` if the format reads the whole text, even if its parts make no value.
+    /// Locates the error of parsing the text with the defaults: the byte index of what doesn't match, and what was
+    /// expected there. `None` if the format reads the whole text, even if its components make no valid value.
     ///
-    /// A missing component is located at its start, and a literal at its first byte that differs. If the format reads
-    /// only a front of the text, the end was expected after that front. The result is the miss furthest into the text;
-    /// of several at one index, the one that the error of the parse names, or else the first.
+    /// In this crate's formats, a component that doesn't match is located at its start, and a literal at its first byte
+    /// that differs. If the format reads only a prefix of the text, the end was expected after that prefix. The result
+    /// is the mismatch furthest into the text, even in an optional part or an alternative that isn't needed. Of several
+    /// at one index, it is the one that the error of the parse names. If the error names none of them, a later part
+    /// precedes an earlier one, and an earlier alternative precedes a later one.
     fn locate<'a>(&'a self, input: &[u8], defaults: Option<Parsed>) -> Option<Located<'a>>
         ensures { IsLocated (Self.reads self.now) (locates self.now) input.now (begun defaults) result };
 
-    // For the name of a component: how many bytes are left at the start of the last component of that name that is
-    // read, or nothing if none is read.
+    // For a component's name, bytes and a record: how many bytes are left at the start of the last component of that
+    // name that is read, or nothing if none is read.
     ghost marks: { Self → Marking };
 
-    /// The index at which the component of this name begins, if the format parses a front of the text with the
-    /// defaults. `None` if it parses no front, or one without such a component, for example because the defaults give
-    /// the value.
+    /// The byte index at which the component of this name begins, if the format parses a prefix of the text with the
+    /// defaults. `None` if it parses no prefix, or one without such a component, for example because the value is that
+    /// of the defaults.
     ///
-    /// The name is one that an error has, such as `day` for `2021-02-30`. If the text has the component twice, the
-    /// index is that of the last one, whose value counts.
+    /// The name is one that an error has, such as `day` for `2021-02-30`. In RFC 2822, RFC 3339 and ISO 8601 a zone
+    /// name or `Z` is an `offset hour`. If the text has the component twice, the index is that of the last one, whose
+    /// value counts.
     fn locate_component(&self, input: &[u8], defaults: Option<Parsed>, name: &str) -> Option<usize>
         ensures { IsMarked (marks self.now) name.now input.now (begun defaults) result };
 
-    // A text has one place, or none if it is read whole.
+    // A text over a record has at most one place, and none if it is read whole.
     ghost exact_place: { (s : Self) → IsExactPlace (Self.reads s) (locates s) };
 
-    // A text has one mark for each name.
+    // A text over a record has at most one mark for each component's name.
     ghost exact_mark: { (s : Self) → IsExactMark (marks s) };
 }
 
@@ -76,7 +80,7 @@ fn copy_of(defaults: &Option<Parsed>) -> Option<Parsed>
     *defaults
 }
 
-// The name of the component whose range the error names.
+// The name of the component that the error calls out of range, or `None` for any other error.
 fn range_name(error: Parse) -> Option<&'static str>
     ensures { option_map (λ name. name.now) result ≡ spec.range_name (refusal_of error) }
 {
@@ -87,9 +91,10 @@ fn range_name(error: Parse) -> Option<&'static str>
     }
 }
 
-/// The index of the error in a text that a parse rejected with `error`. It is the index that `locate` returns. If the
-/// text is read whole, it is the start of the component whose range the error names: for an `ordinal` in a text without
-/// one, the start of the week number. `None` if information is missing, or if the defaults give the component.
+/// The byte index of the error in a text that a parse rejected with `error`. It is the index that `locate` returns,
+/// whatever `error` is. If `locate` returns `None`, since the text is read whole, it is the start of the component that
+/// `error` calls out of range, the last of that name: for an `ordinal` in a text without one, the start of the week
+/// number. `None` if `error` calls no component out of range, or if the text doesn't have the component.
 pub fn locate_error<T: Locate>(
     format: &T,
     input: &[u8],

@@ -8,17 +8,18 @@ use std::fmt;
 /// What was expected at the place of an error.
 #[derive(Clone, Copy, Debug, PartialEq, Eq)]
 pub enum Expected<'a> {
-    /// These bytes: the rest of a literal, from its first byte that isn't there. For a literal of a `Description`,
-    /// which keeps each byte by itself, it is that byte alone.
+    /// These bytes: the rest of a literal, from its first byte that doesn't match. For a literal of a `Description` or
+    /// `Prepared`, which store each byte by itself, it is that byte alone. For missing blanks in RFC 2822 it is one
+    /// space.
     Literal(&'a [u8]),
-    /// The component of this name.
+    /// The component with this name, as errors name it: for example `day`.
     Component(&'static str),
     /// The end of the text.
     End,
 }
 
-/// Prints `expected`, and then the bytes in quotes, the component's name, or `the end`. A byte that doesn't print is
-/// escaped, as `\x00`.
+/// Prints `expected`, and then the bytes in single quotes, the component's name, or `the end`. The bytes are escaped as
+/// by `escape_ascii`: for example as `\x00`.
 impl fmt::Display for Expected<'_> {
     ghost output = { expected_text };
 
@@ -34,14 +35,15 @@ impl fmt::Display for Expected<'_> {
 /// The place of the error in a rejected text.
 #[derive(Clone, Copy, Debug, PartialEq, Eq)]
 pub struct Located<'a> {
-    /// The index in the text of what was expected: the start of a component, or of a literal its first byte that isn't
-    /// there. It is the text's length if the text is too short.
+    /// The byte index at which `expected` was expected: the start of a component, the first byte of a literal that
+    /// doesn't match, or for [`Expected::End`] the first byte too many. It is the text's length if the text ends there.
     pub index: usize,
-    /// What was expected there.
+    /// What was expected at `index`.
     pub expected: Expected<'a>,
 }
 
-/// The place of the error in a text that leaves the bytes `rest` unread, or `None` if there are no such bytes.
+/// The error of an input whose unread end is `rest`: the end was expected where `rest` begins. `None` if `rest` is
+/// empty.
 pub(crate) fn after_all<'a>(rest: &[u8], input: &[u8]) -> Option<Located<'a>>
     requires { length rest.now ≤ length input.now }
     ensures { erased_located result ≡ end_of (length input.now) rest.now }
@@ -55,7 +57,7 @@ pub(crate) fn after_all<'a>(rest: &[u8], input: &[u8]) -> Option<Located<'a>>
     })
 }
 
-/// The rest after `count` bytes.
+/// The rest after `count` bytes, or `None` if the input is shorter.
 pub(crate) fn past_bytes(input: &[u8], count: usize) -> Option<&[u8]>
     ensures { (text rest : List ℕ) → input.now ≡ text ++ rest → length text ≡ count → option_copied result ≡ Some rest }
 {

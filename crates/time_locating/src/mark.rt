@@ -19,8 +19,8 @@ use time_components::Component;
 use time_record::fault;
 use time_values::error::ParseFromDescription;
 
-// Whether the component has this name, which is that of the error of its text. For an ISO 8601 week, the error of its
-// date has another name.
+// Whether errors call the component by this name. An ISO 8601 week is a `week number` if its text doesn't match, and a
+// `week` if its date isn't valid: it has both names.
 fn is_named(component: Component, name: &str) -> bool
     ensures { result ≡ places.is_named name.now component }
 {
@@ -30,7 +30,8 @@ fn is_named(component: Component, name: &str) -> bool
     }
 }
 
-/// How many bytes are left at the component's start, if it has this name.
+/// The length of the input, which begins with the component, if errors call the component by this name. Otherwise
+/// `None`.
 pub(crate) fn mark_of(component: Component, name: &str, input: &[u8]) -> Option<usize>
     ensures { result ≡ when (places.is_named name.now component) (length input.now) }
 {
@@ -41,7 +42,7 @@ pub(crate) fn mark_of(component: Component, name: &str, input: &[u8]) -> Option<
     }
 }
 
-// Whether the error has this name.
+// Whether the error is an invalid component of this name.
 fn has_name(fault: ParseFromDescription, name: &str) -> bool
     ensures { result ≡ places.has_name name.now (refusal_of_description fault) }
 {
@@ -52,8 +53,8 @@ fn has_name(fault: ParseFromDescription, name: &str) -> bool
     }
 }
 
-/// Whether a place with this error has the name, and takes bytes: it does if `rest`, which is left after it, is shorter
-/// than `bytes`.
+/// Whether a place's error, `fault`, is an invalid component of this name, and the place's text isn't empty. `bytes`
+/// begins with that text, and `rest` is what follows it.
 pub(crate) fn is_place_of(
     fault: ParseFromDescription,
     name: &str,
@@ -65,7 +66,7 @@ pub(crate) fn is_place_of(
     rest.len() < bytes.len() && has_name(fault, name)
 }
 
-/// The index in the text at which that number of bytes is left.
+/// The index in the input at which `mark` bytes are left (0 if the input is shorter), or `None` if `mark` is `None`.
 pub(crate) fn index_of(mark: Option<usize>, input: &[u8]) -> Option<usize>
     ensures text { result ≡ option_map (λ left. length input.now - left) mark }
     ensures tree { (t : Tree) (name : List ℕ) (r : Record) → MarksTree t name input.now r mark
@@ -75,7 +76,7 @@ pub(crate) fn index_of(mark: Option<usize>, input: &[u8]) -> Option<usize>
     Some(input.len().saturating_sub(left))
 }
 
-/// What isn't there: a byte of a literal, a component, or the end of a text that has further bytes.
+/// What doesn't match: a literal from some byte on, a component, or the end of a text that has further bytes.
 #[derive(Clone, Copy)]
 pub(crate) struct Miss<'a> {
     /// How many bytes were left at the point at which it was expected.
@@ -84,7 +85,7 @@ pub(crate) struct Miss<'a> {
     pub(crate) expected: Expected<'a>,
 }
 
-/// The miss of what is expected at the front of these bytes and isn't there.
+/// The miss of what is expected at the front of these bytes and isn't there. Never `None`.
 #[inline]
 pub(crate) fn missed_at<'a>(expected: Expected<'a>, input: &[u8]) -> Option<Miss<'a>>
     ensures { erased_miss result ≡ Some (misses.missed (length input.now) (wants expected.entry)) }
@@ -95,8 +96,8 @@ pub(crate) fn missed_at<'a>(expected: Expected<'a>, input: &[u8]) -> Option<Miss
     })
 }
 
-/// The miss in a literal: its first byte that isn't there, with those of it that follow. `None` if the input begins
-/// with the literal.
+/// The miss in a literal: it expects the literal's bytes from the first one that doesn't match. `None` if the input
+/// begins with the literal.
 pub(crate) fn missed_in<'a>(text: &'a [u8], input: &[u8]) -> Option<Miss<'a>>
     ensures { erased_miss result ≡ furthest (literal_misses all_bytes text.now input.now) }
 {
@@ -114,7 +115,7 @@ pub(crate) fn missed_in<'a>(text: &'a [u8], input: &[u8]) -> Option<Miss<'a>>
     None
 }
 
-/// The first miss, or the second if that leaves fewer bytes.
+/// The first miss, or the second if it leaves fewer bytes or is the only one. `None` if both are `None`.
 pub(crate) fn further<'a>(first: Option<Miss<'a>>, second: Option<Miss<'a>>) -> Option<Miss<'a>>
     ensures { erased_miss result ≡ misses.further (erased_miss first.entry) (erased_miss second.entry) }
 {
@@ -125,7 +126,7 @@ pub(crate) fn further<'a>(first: Option<Miss<'a>>, second: Option<Miss<'a>>) -> 
     }
 }
 
-/// What was expected at a component with that error.
+/// What was expected at a component with that error: the component it names, or the end for any other error.
 pub(crate) fn expected_of(fault: ParseFromDescription) -> Expected<'static>
     ensures { wants result ≡ misses.expected_of (refusal_of_description fault) }
 {
@@ -136,7 +137,9 @@ pub(crate) fn expected_of(fault: ParseFromDescription) -> Expected<'static>
     }
 }
 
-/// The place of a text, from its unread rest (`None` if it isn't read) and the furthest of its misses.
+/// The error of a text, from its unread rest (`None` if the format doesn't match) and the furthest of its misses: the
+/// miss, or the end at a nonempty rest unless the miss is further on. `None` if the rest is empty, or if both are
+/// `None`.
 pub(crate) fn place<'d>(
     unread: Option<&[u8]>,
     missed: Option<Miss<'d>>,
@@ -163,7 +166,7 @@ pub(crate) fn place<'d>(
     }
 }
 
-// The place of a miss in the text.
+// The index of a miss in the text, with what it expects. `None` without a miss.
 fn located<'d>(miss: Option<Miss<'d>>, input: &[u8]) -> Option<Located<'d>>
     ensures { erased_located result ≡ place_in (length input.now) (erased_miss miss.entry) }
 {

@@ -24,10 +24,10 @@ use time_readers::rfc2822::{
 use time_readers::{ParsedItem, modifier};
 use time_record::Parsed;
 
-// How many letters a weekday's name has.
+// How many letters a weekday's abbreviated name has.
 const WEEKDAY_LETTERS: usize = 3;
 
-// The places in order.
+// All places of a text, in order.
 const PLACES: [Place; 15] = [
     Place::WeekdayName,
     Place::Day,
@@ -46,7 +46,8 @@ const PLACES: [Place; 15] = [
     Place::EndBlanks,
 ];
 
-// What is expected at a place.
+// What is reported as expected at a place: `,` at the weekday, a space at required blanks, `:` after the hour, or else
+// the component that the place's error names. The blanks at the end always match.
 fn expected_at(place: Place) -> Expected<'static>
     ensures { wants result ≡ expected_at place }
 {
@@ -60,7 +61,10 @@ fn expected_at(place: Place) -> Expected<'static>
     }
 }
 
-// The bytes that are left where the expected text should begin, given those that are left at the place's start.
+// The bytes that are left where the expected text should begin, given those that are left at the place's start. At the
+// weekday they begin after its blanks and three letters (none if fewer are left), at the hour's colon after the blanks
+// before it, and at a second after its colon and the blanks beside it. Otherwise, or if a second has no colon, they are
+// the input.
 fn expected_from(place: Place, input: &[u8]) -> &[u8]
     ensures { result.now ≡ spec.expected_from place input.now }
 {
@@ -81,14 +85,15 @@ struct Passed {
     offset_has_sign: bool,
 }
 
-// The rest after blanks, if they match.
+// The rest after blanks that were parsed, or `None` if they weren't.
 fn past_blanks(found: Option<ParsedItem<'_, ()>>) -> Option<&[u8]>
     ensures { option_copied result ≡ option_map (λ p. p.0.now) found.entry }
 {
     Some(found?.0)
 }
 
-// The rest after the weekday's part.
+// The rest after optional blanks and, if the first three letters of a weekday's name follow in any case, these, a comma
+// and optional blanks. The contract doesn't cover a missing comma.
 fn past_weekday(input: &[u8]) -> Option<&[u8]>
     ensures { (rest : List ℕ) (v : Option Weekday) → Cut IsWeekdayPart input.now rest v → option_copied result ≡ Some rest }
 {
@@ -105,7 +110,7 @@ fn past_weekday(input: &[u8]) -> Option<&[u8]>
     }
 }
 
-// The rest after a day.
+// The rest after the one or two digits of a day, or `None` without a digit.
 fn past_day(input: &[u8]) -> Option<&[u8]>
     ensures { (rest : List ℕ) (v : ℕ) → Cut (IsDigitRun 1 2) input.now rest v → option_copied result ≡ Some rest }
 {
@@ -113,7 +118,8 @@ fn past_day(input: &[u8]) -> Option<&[u8]>
     Some(found.0)
 }
 
-// The rest after a year, and whether the year has four digits.
+// The rest after a year, and whether the year has four digits. Otherwise it has two bytes, and the rest is `None` if
+// fewer are left.
 fn past_year(input: &[u8]) -> (Option<&[u8]>, bool)
     ensures { (full : Bool) (rest : List ℕ) (v : ℕ) → Cut (IsYear full) input.now rest v
         → (option_copied result.0 ≡ Some rest) × (result.1 ≡ full) }
@@ -124,7 +130,8 @@ fn past_year(input: &[u8]) -> (Option<&[u8]>, bool)
     }
 }
 
-// The rest after an optional second.
+// The rest after a colon, with optional blanks beside it, and a second's two bytes (`None` if fewer are left). Without
+// a colon the rest is the input.
 fn past_second(input: &[u8]) -> Option<&[u8]>
     ensures { (rest : List ℕ) (v : Option ℕ) → Cut (IsSecond true) input.now rest v → option_copied result ≡ Some rest }
 {
@@ -134,7 +141,8 @@ fn past_second(input: &[u8]) -> Option<&[u8]>
     }
 }
 
-// The rest after a zone name, or after a sign and an hour, and whether there is a sign.
+// The rest after a zone name, and `false`; or else the rest after a sign and two digits (`None` if fewer than three
+// bytes are left), and `true`.
 fn past_offset_hour(input: &[u8]) -> (Option<&[u8]>, bool)
     ensures { (n m : Numbers) (rest : List ℕ) → Cut (PlaceSyntax true place.OffsetHour n) input.now rest m
         → (option_copied result.0 ≡ Some rest) × (result.1 ≡ is_some m.offset_sign) }
@@ -145,7 +153,9 @@ fn past_offset_hour(input: &[u8]) -> (Option<&[u8]>, bool)
     }
 }
 
-// The rest after a place that matches.
+// The rest after a place that matches. The year and the hour of the offset set their fields of `passed`, on which the
+// blanks after the year and the minute of the offset depend. Whether the place matches isn't fully checked, so the
+// result is only meant for one that does.
 fn past<'a>(place: Place, input: &'a [u8], passed: &mut Passed) -> Option<&'a [u8]>
     ensures { (n m : Numbers) (rest : List ℕ) → Agrees n passed.old → Cut (PlaceSyntax true place n) input.now rest m
         → (option_copied result ≡ Some rest) × Agrees m passed.new }
@@ -180,14 +190,14 @@ fn past<'a>(place: Place, input: &'a [u8], passed: &mut Passed) -> Option<&'a [u
     }
 }
 
-// How many places precede this one.
+// How many of the fifteen places precede this one.
 fn places_before(place: Place) -> usize
     ensures { result ≡ rank place }
 {
     place as usize
 }
 
-// The bytes that are left at the place that doesn't match, if those before it match.
+// The bytes from the start of this place on, if the places before it match.
 fn rest_before<'a>(place: Place, input: &'a [u8]) -> Option<&'a [u8]>
     ensures { (stop : FailsAt true input.now place) → option_copied result ≡ Some stop.mid }
 {
@@ -202,7 +212,8 @@ fn rest_before<'a>(place: Place, input: &'a [u8]) -> Option<&'a [u8]>
     Some(rest)
 }
 
-// How many bytes are left at the start of the text of this name, if all places match.
+// How many bytes are left at the start of the component of this name, in a text whose places all match. `None` if no
+// place has the name, or if its text is empty.
 fn mark_of_place(input: &[u8], name: &str) -> Option<usize>
     ensures { (rest : List ℕ) (n : Numbers) → HasForm true input.now rest n
         → MarksPlaces (PlaceSyntax true) spec.expected_from fault name.now places nothing_read input.now result }
@@ -222,6 +233,10 @@ fn mark_of_place(input: &[u8], name: &str) -> Option<usize>
     None
 }
 
+/// The error is in the first of the fifteen places of RFC 2822 that doesn't match, or at the first byte after them. A
+/// missing comma is located right after the three letters of the weekday, a missing colon after the hour and the blanks
+/// that follow it, and a second after its colon and the blanks beside it. Any other place is located at its start. The
+/// defaults have no effect.
 impl Locate for Rfc2822 {
     ghost use Rattle.time_locating.specs.Rfc2822.{Locates};
 

@@ -20,10 +20,10 @@ use time_readers::combinator::{ascii_char_ignore_case, leading_digits};
 use time_readers::rfc3339::{Place, place_fault, read};
 use time_record::Parsed;
 
-// How many bytes the places up to the second take.
+// How many bytes the places from the year to the second have.
 const TO_SECOND: usize = 19;
 
-// The places in order.
+// All places of a text, in order.
 const PLACES: [Place; 15] = [
     Place::Year,
     Place::YearDash,
@@ -42,7 +42,7 @@ const PLACES: [Place; 15] = [
     Place::OffsetMinute,
 ];
 
-// What is expected at a place.
+// What is reported as expected at a place: its fixed byte, or else the component that the place's error names.
 fn expected_at(place: Place) -> Expected<'static>
     ensures { wants result ≡ expected_at place }
 {
@@ -53,7 +53,8 @@ fn expected_at(place: Place) -> Expected<'static>
     }
 }
 
-// How many bytes a second's fraction takes with its point, or 0 without a fraction.
+// How many bytes a second's fraction has with its point, or 0 if the input doesn't begin with a point. For a point
+// without digits the contract only states that the result is at most the input's length.
 fn fraction_len(input: &[u8]) -> usize
     ensures within { result ≤ length input.now }
     ensures is { (text rest : List ℕ) (v : Option ℕ) → input.now ≡ text ++ rest → IsSubsecond text rest v
@@ -65,7 +66,7 @@ fn fraction_len(input: &[u8]) -> usize
     }
 }
 
-// The index of the place that doesn't match, if those before it match.
+// The index at which this place begins, if the places before it match and this one doesn't.
 fn index_of(place: Place, input: &[u8]) -> usize
     ensures { (stop : FailsAt true input.now place) → result + length stop.mid ≡ length input.now }
 {
@@ -94,7 +95,8 @@ fn index_of(place: Place, input: &[u8]) -> usize
     (TO_SECOND + fraction).saturating_add(past_fraction)
 }
 
-// The rest after an offset's `Z`, or after its sign and hour, and whether the text is then in UTC.
+// The rest after an offset's `Z`, in either case, or else after its sign and two digits (`None` if fewer than three
+// bytes are left). The `bool` is true after `Z`, and else `is_utc`.
 fn past_offset_hour(input: &[u8], is_utc: bool) -> (Option<&[u8]>, bool)
     ensures { (n m : Numbers) (rest : List ℕ) → n.is_utc ≡ is_utc → Cut (PlaceSyntax true place.OffsetHour n) input.now rest m
         → (option_copied result.0 ≡ Some rest) × (m.is_utc ≡ result.1) }
@@ -105,7 +107,8 @@ fn past_offset_hour(input: &[u8], is_utc: bool) -> (Option<&[u8]>, bool)
     }
 }
 
-// The rest after a place that matches. After `Z` the places of the offset are empty.
+// The rest after a place that matches. `Z` sets `is_utc`, and the colon and the minute of the offset are then empty.
+// Whether the place matches isn't checked, so the result is only meant for one that does.
 fn past<'a>(place: Place, input: &'a [u8], is_utc: &mut bool) -> Option<&'a [u8]>
     ensures { (n m : Numbers) (rest : List ℕ) → n.is_utc ≡ is_utc.old → Cut (PlaceSyntax true place n) input.now rest m
         → (option_copied result ≡ Some rest) × (m.is_utc ≡ is_utc.new) }
@@ -131,7 +134,8 @@ fn past<'a>(place: Place, input: &'a [u8], is_utc: &mut bool) -> Option<&'a [u8]
     }
 }
 
-// How many bytes are left at the start of the place of this name, if it has a text and all places match.
+// How many bytes are left at the start of the place of this name, in a text whose places all match. `None` if no place
+// has the name, or if its text is empty.
 fn mark_of_place(input: &[u8], name: &str) -> Option<usize>
     ensures { (rest : List ℕ) (n : Numbers) → HasForm true input.now rest n
         → MarksPlaces (PlaceSyntax true) at_once fault name.now places nothing_read input.now result }
@@ -148,7 +152,7 @@ fn mark_of_place(input: &[u8], name: &str) -> Option<usize>
     None
 }
 
-// The place of the error in a text, or `None` if it is read whole.
+// The place of the error in a text, or `None` if the text is read whole.
 pub(crate) fn error_place(input: &[u8]) -> Option<Located<'static>>
     ensures { (begin : Record) → IsLocated (Reads greatest_year) Locates input.now begin result }
 {
@@ -161,6 +165,8 @@ pub(crate) fn error_place(input: &[u8]) -> Option<Located<'static>>
     }
 }
 
+/// The error is at the start of the first of the fifteen places of RFC 3339 that doesn't match, or at the first byte
+/// after them. The defaults have no effect.
 impl Locate for Rfc3339 {
     ghost use Rattle.time_locating.specs.Rfc3339.{Locates};
 

@@ -4,6 +4,8 @@ use crate::{Locate, Located};
 use time_parsing::{Rfc3339, Rfc3339Strict, strict_text};
 use time_record::Parsed;
 
+/// The error is that of RFC 3339, except after a date that matches: if the eleventh byte, the separator, isn't `T`, `t`
+/// or a space, the error is there. The defaults have no effect.
 impl Locate for Rfc3339Strict {
     ghost use Rattle.time_locating.specs.Rfc3339Strict.{Locates};
 

@@ -20,14 +20,16 @@ use time_record::Parsed;
 pub(crate) struct Walked<'a, 'd> {
     /// The unread rest, if the item matches.
     pub(crate) rest: Option<&'a [u8]>,
-    /// The furthest miss.
+    /// The furthest miss that was found, if any. An item that matches may have one too, in a part that it doesn't need.
     pub(crate) missed: Option<Miss<'d>>,
-    /// How many bytes are left at the start of the last component of the wanted name that is read.
+    /// How many bytes are left at the start of the last component of the wanted name that is read, or `None` if there
+    /// is none or the item doesn't match.
     pub(crate) mark: Option<usize>,
 }
 
-/// Reads an item at the front of the input over the record, and marks the last component of this name. An item that
-/// doesn't match leaves the record unchanged.
+/// Reads an item at the front of the input, and stores the values of its components in the record. Returns the rest,
+/// the furthest miss, and the mark of the last component of this name: how many bytes are left at its start. An item
+/// that doesn't match leaves the record unchanged.
 #[cycle(items)]
 pub(crate) fn walk<'a, 'd, I: Inspect>(
     item: &'d I,
@@ -56,7 +58,9 @@ pub(crate) fn walk<'a, 'd, I: Inspect>(
     }
 }
 
-/// Reads items in turn, each from the rest that the one before leaves.
+/// Reads items in turn, each from the rest that the one before leaves. If one doesn't match, neither does the whole,
+/// and the record is unchanged. Returns the furthest miss; of several at one index, that of the last item. Without any
+/// items the empty text matches.
 #[cycle(items)]
 pub(crate) fn walk_all<'a, 'd, I: Inspect>(
     items: &'d [I],
@@ -96,7 +100,9 @@ pub(crate) fn walk_all<'a, 'd, I: Inspect>(
     }
 }
 
-// Reads the first of the items that matches, or nothing if there are no items.
+// Reads the first of the items that matches. If none does, the record is unchanged. Returns the furthest miss of all
+// items that were tried; of several at one index, that of the first item. Without any items the empty text matches, and
+// the rest is the input.
 #[cycle(items)]
 fn walk_first<'a, 'd, I: Inspect>(
     items: &'d [I],
@@ -135,7 +141,8 @@ fn walk_first<'a, 'd, I: Inspect>(
     }
 }
 
-// Reads a literal of these bytes.
+// Reads a literal, the bytes `text`, at the front of the input. Without a match the miss is at the literal's first byte
+// that isn't there. There is never a mark.
 fn literal<'a, 'd>(text: &'d [u8], input: &'a [u8]) -> Walked<'a, 'd>
     ensures reads { (r : Record) → Attempts greatest_year (tree.literal text.now) input.now r result.rest r }
     ensures misses { (r : Record) → IsFurthest (Misses all_bytes (tree.literal text.now) input.now r)
@@ -156,7 +163,8 @@ fn literal<'a, 'd>(text: &'d [u8], input: &'a [u8]) -> Walked<'a, 'd>
     }
 }
 
-// Reads a component.
+// Reads a component at the front of the input, and stores its value. Without a match the miss is at the start of the
+// input, and the record is unchanged. An `Ignore` may end inside a UTF-8 character.
 fn read_component<'a>(
     component: Component,
     parsed: &mut Parsed,
@@ -182,7 +190,8 @@ fn read_component<'a>(
     }
 }
 
-// Reads a component; an `Ignore` has to end between characters.
+// Reads a component at the front of the input, and stores its value. Without a match the miss is at the start of the
+// input, and the record is unchanged. An `Ignore` must end between UTF-8 characters.
 fn read_whole_component<'a>(
     component: Component,
     parsed: &mut Parsed,

@@ -31,40 +31,44 @@ use Rattle.time_parse.specs.Request.{printable, IsAnswer, Meaning, Means}
 use Rattle.time_parse.specs.Request as request
 use Rattle.time_parse.specs.declared.request.Version.{Version}
 
--- What was expected, as text. The bytes of a literal are quoted, with `?` for each that isn't printable ASCII.
+-- What was expected, as text: the name of a component, `the end`, or the bytes of a literal in single quotes, with `?`
+-- for each that isn't printable ASCII.
 abbrev pub expected_text : Expectation → List ℕ
 expected_text (these_bytes bytes) = codes "'" ++ map printable bytes ++ codes "'"
 expected_text (named name) = name
 expected_text the_end = codes "the end"
 
--- The text of a location: its index, and what was expected there.
+-- The text of a location, as ` at 5: expected month`, or nothing without a location. Here the miss's `left` is the
+-- 0-based byte index.
 abbrev pub place_text : Option Miss → List ℕ
 place_text None = []
 place_text (Some at) = codes " at " ++ decimal at.left ++ codes ": expected " ++ expected_text at.wanted
 
--- The text of an index alone, or nothing.
+-- The text of an index alone, as ` at 5`, or nothing without an index.
 abbrev pub index_text : Option ℕ → List ℕ
 index_text None = []
 index_text (Some index) = codes " at " ++ decimal index
 
--- The error of an outcome, if it has one.
+-- The error of an outcome; none for a value.
 abbrev pub refusal_in : {V : Type 0} → Result V Refusal → Option Refusal
 refusal_in (Ok v) = None
 refusal_in (Err e) = Some e
 
--- The error with which the text is rejected, or nothing where it has a value. In the next three definitions the format
--- parses over an empty record.
+-- The error with which a format with these readings and errors rejects the whole text, parsed over an empty record, or
+-- none if the text has a value. `resolves` relates the parsed record to the value or its error.
 abbrev pub IsRefusal : {V : Type 0} → Resolving V → Reading → Refusing → List ℕ → Option Refusal → Type 0
 IsRefusal {V} resolves reads refuses text refusal =
     (outcome : Result V Refusal) × IsOutcome resolves reads refuses text empty outcome × (refusal ≡ refusal_in outcome)
 
--- The error for a moment, which a format may parse on a direct path.
+-- The error with which the format rejects the text as a moment, on its direct path if it has one, or none if the text
+-- has a value.
 abbrev pub IsMomentRefusal : Path → Reading → Refusing → List ℕ → Option Refusal → Type 0
 IsMomentRefusal path reads refuses text refusal =
     (outcome : Result OffsetDateTime Refusal) × IsMomentOutcome greatest_year path reads refuses text None outcome
     × (refusal ≡ refusal_in outcome)
 
--- The error for the target.
+-- The error with which the format rejects the whole text for the target, or none if the text has a value. Only
+-- `DateTime` depends on the path.
 abbrev pub IsRefusalFor : Target → Path → Reading → Refusing → List ℕ → Option Refusal → Type 0
 IsRefusalFor target.Date path = IsRefusal (IsDated greatest_year)
 IsRefusalFor target.Time path = IsRefusal IsTimed
@@ -75,7 +79,8 @@ IsRefusalFor target.DateTime path = IsMomentRefusal path
 IsRefusalFor target.Staged path = IsRefusal (IsMoment greatest_year)
 IsRefusalFor target.Timestamp path = IsRefusal (IsTimestamp greatest_year)
 
--- The printed location of an error that isn't one of form: the index of the component that it names, if it has one.
+-- The printed index of an error, or nothing without an error or an index. It is the index at which the text doesn't
+-- match the format. In a text that matches, it is the index of the component that the error calls out of range.
 abbrev pub IsErrorPlace : Reading → Locating → Marking → List ℕ → Option Refusal → List ℕ → Type 0
 IsErrorPlace reads locates marks text None printed = printed ≡ []
 IsErrorPlace reads locates marks text (Some e) printed =
@@ -90,13 +95,15 @@ IsPlace target path reads refuses locates marks text printed =
     × (refusal : Option Refusal) × IsRefusalFor target path reads refuses text refusal
     × IsErrorPlace reads locates marks text refusal printed)
 
+-- The printed location of the text's error for the target, by the description with that tree. `bytes` selects which of
+-- a literal's bytes from the mismatch on are printed.
 abbrev pub IsTreePlace : LiteralReport → Tree → Target → List ℕ → List ℕ → Type 0
 IsTreePlace bytes tree target =
     IsPlace target over_record (Description.Reads greatest_year tree) (Description.Refuses greatest_year tree)
     (LocatesTree bytes tree)
     (MarksTree tree)
 
--- The printed location by a named format.
+-- The printed location of the text's error for the target, by a named format.
 abbrev pub IsNamedPlace : Format → Target → List ℕ → List ℕ → Type 0
 IsNamedPlace format.Rfc3339 target =
     IsPlace target (direct (RefusesRfc3339 greatest_year)) (Rfc3339.Reads greatest_year)
@@ -114,12 +121,13 @@ IsNamedPlace format.Clock target = IsTreePlace all_bytes clock target
 IsNamedPlace format.Unix target = IsTreePlace all_bytes unix target
 IsNamedPlace format.Local target = IsTreePlace all_bytes local target
 
--- The printed location by a format's meaning.
+-- The printed location of the text's error for the target, by a named format or a description. Of an expected literal a
+-- description prints only the first byte that doesn't match.
 abbrev pub IsPlaceBy : Meaning → Target → List ℕ → List ℕ → Type 0
 IsPlaceBy (request.named format) target = IsNamedPlace format target
 IsPlaceBy (request.described tree) target = IsTreePlace first_byte tree target
 
--- The answer to a text, followed by the location of its error.
+-- The answer to a text, followed by the printed location of its error, if it has one.
 abbrev pub IsPlacedAnswer : Meaning → Target → List ℕ → List ℕ → Type 0
 IsPlacedAnswer meaning target text answer =
     (outcome : List ℕ) × (place : List ℕ)
@@ -130,8 +138,8 @@ abbrev pub IsRequestedAnswer : Bool → Meaning → Target → List ℕ → List
 IsRequestedAnswer false = IsAnswer
 IsRequestedAnswer true = IsPlacedAnswer
 
--- The writer's contents are followed by the answers to the lines of the input, by the format and for the target with
--- that name.
+-- The format has a meaning, and the target's name is known. The answers to the lines of the input by them, each
+-- followed by LF, are appended to the writer's contents, if they are known.
 abbrev pub WritesAnswers : Bool → Version → List ℕ → List ℕ → Option (List ℕ) → Option (List ℕ) → List ℕ → Type 0
 WritesAnswers prints_places version format target old new input =
     (meaning : Meaning) × (value : Target)
@@ -140,20 +148,21 @@ WritesAnswers prints_places version format target old new input =
 
 -- ---- Laws of answers.
 
--- A format means at most one thing.
+-- The argument for a format has at most one meaning: a named format or one tree.
 abbrev pub OneMeaning : Type 0
 OneMeaning =
     (version : Version) (format : List ℕ) (meaning other : Meaning)
     → Means version format meaning → Means version format other → meaning ≡ other
 
--- A text has at most one answer, with its place or without.
+-- A text has at most one answer, with the location of its error or without it.
 abbrev pub OneAnswer : Type 0
 OneAnswer =
     (prints_places : Bool) (meaning : Meaning) (target : Target) (text answer other : List ℕ)
     → IsRequestedAnswer prints_places meaning target text answer
     → IsRequestedAnswer prints_places meaning target text other → answer ≡ other
 
--- After the answers to one input, a writer of known contents holds at most one text.
+-- After the answers to one input by one format for one target, the contents of a writer whose earlier contents are
+-- known are determined.
 abbrev pub OneWriting : Type 0
 OneWriting =
     (prints_places : Bool) (version : Version) (format target input before new other : List ℕ)

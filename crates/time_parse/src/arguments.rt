@@ -10,14 +10,14 @@ use std::alloc::{AllocError, Global};
 use std::fmt;
 use time_descriptions::InvalidFormatDescription;
 
-/// A format and a target, as on the command line.
+/// What the command line requests of `time_parse`: a format, a target and two options.
 #[derive(Clone, Copy)]
 pub struct Question<'a> {
-    /// Whether an error is printed with its location.
+    /// Whether an error is printed with its location: with `--place`.
     pub prints_places: bool,
-    /// The version of a description in brackets.
+    /// The version of a description in brackets: 1 with `--v1`, else 2.
     pub version: Version,
-    /// The format.
+    /// The format: a name or a description.
     pub format: &'a str,
     /// The name of the target.
     pub target: &'a str,
@@ -26,17 +26,17 @@ pub struct Question<'a> {
 /// What the command line requests.
 #[derive(Clone, Copy)]
 pub enum Command<'a> {
-    /// The page of help.
+    /// The usage and the page of help.
     Help,
     /// The program's name and version.
     Version,
     /// Answers to the lines of standard input.
     Parse(Question<'a>),
-    /// No known request.
+    /// The usage, since the words match none of the above.
     Unknown,
 }
 
-// The request of a single word.
+// The request of a single word: `--help` or `--version`, and `Unknown` for any other.
 fn page<'a>(word: &str) -> Command<'a>
     ensures { spec.value_of result ≡ spec.page word.now }
 {
@@ -47,7 +47,8 @@ fn page<'a>(word: &str) -> Command<'a>
     }
 }
 
-// The request of the words after `--place`, or of all words without it.
+// The request of the words after `--place`, or of all words without it: `[--v1] FORMAT TARGET`. `Unknown` for any other
+// words, as for `--v1` and only one word after it.
 fn question_of(prints_places: bool, words: &[String]) -> Command<'_>
     ensures { spec.value_of result ≡ spec.question_of prints_places (map string_bytes words.now) }
 {
@@ -78,7 +79,8 @@ fn question_of(prints_places: bool, words: &[String]) -> Command<'_>
     }
 }
 
-/// The request of the words after the program's name.
+/// The request of the words after the program's name: `--help` or `--version` alone, or `[--place] [--v1] FORMAT
+/// TARGET`, with the options in this order. `Unknown` for any other words.
 pub fn command_of(words: &[String]) -> Command<'_>
     ensures { spec.value_of result ≡ spec.command_of (map string_bytes words.now) }
 {
@@ -95,24 +97,24 @@ pub fn command_of(words: &[String]) -> Command<'_>
     }
 }
 
-/// The fault of a format or a target.
+/// The fault of the arguments: of the format or of the target.
 #[derive(Clone, Copy, Debug)]
 pub enum Fault<'a> {
-    /// The format is neither a name nor a description.
+    /// The format isn't the name of one, and contains neither `[` nor `%`, as a description does.
     UnknownFormat {
-        /// The format.
+        /// The format that was requested.
         name: &'a [u8],
     },
-    /// The description is malformed.
+    /// The description is malformed, or has more than 1024 steps.
     Description {
         /// The description.
         format: &'a [u8],
-        /// Its first fault.
+        /// Its first fault, or that it has too many steps.
         error: InvalidFormatDescription<'a>,
     },
-    /// The target isn't a name.
+    /// No target has the requested name.
     UnknownTarget {
-        /// The name.
+        /// The requested name.
         name: &'a [u8],
     },
 }
@@ -135,7 +137,8 @@ impl fmt::Display for Fault<'_> {
 }
 
 impl<'a> Fault<'a> {
-    // The faulty argument, and the index of the fault in it.
+    // The faulty argument, and the byte index of the fault in it: 0 for an unknown name. `None` for a description with
+    // too many steps.
     fn place(&self) -> Option<(&'a [u8], usize)>
         ensures { option_map (λ place. (place.0.now, place.1)) result ≡ spec.place_of (reason_of self.now) }
     {
@@ -158,7 +161,8 @@ pub fn printable(byte: u8) -> u8
     }
 }
 
-// The bytes on a line, and on the next a caret below the byte at that index. Each byte is one column wide.
+// Two lines, each with LF: the bytes, as by `printable`, after two spaces, and a caret below the byte at that index, or
+// further right if the bytes end before it. `Err` if memory runs out.
 fn caret_lines(alloc: Global, bytes: &[u8], index: usize) -> Result<Vec<u8>, AllocError>
     ensures { IfOk result (λ lines. lines.items ≡ spec.caret_lines bytes.now index) }
 {
@@ -173,8 +177,9 @@ fn caret_lines(alloc: Global, bytes: &[u8], index: usize) -> Result<Vec<u8>, All
     Ok(lines)
 }
 
-/// The report of a fault: a line with its message, and two lines that point at its index, if it has one. `Err`: out of
-/// memory.
+/// The report of a fault: a line with `error: ` and its message, and unless the fault is that a description has too
+/// many steps, two lines with the argument, as by [`printable`], and a caret below the index of the fault. Each line
+/// ends with LF. `Err` if memory runs out.
 pub fn report(alloc: Global, fault: Fault<'_>) -> Result<Vec<u8>, AllocError>
     ensures { IfOk result (λ lines. IsReport (reason_of fault.entry) lines.items) }
 {

@@ -3,8 +3,8 @@ ghost use Rattle.time_parse.specs.Place.{OneMeaning, OneAnswer, OneWriting};
 
 use time_descriptions::laws::{law_one_description, law_one_strftime_description};
 
-/// A format has at most one meaning, a text has at most one answer by it, and the output of a run is determined by the
-/// command line and the input.
+/// The argument for a format has at most one meaning, and a text has at most one answer by it for a target. The command
+/// line and the input determine the contents of a writer after the answers, if the earlier contents are known.
 pub fn law_one_answer()
     ensures meaning { OneMeaning }
     ensures text { OneAnswer }

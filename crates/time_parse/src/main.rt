@@ -1,6 +1,7 @@
 //! Parses date-time texts from standard input, and prints their values.
 //!
-//! `time_parse FORMAT TARGET` parses each line by the format, and writes one line for it.
+//! `time_parse [--place] [--v1] FORMAT TARGET` parses each line by the format, and writes one line for it: the value,
+//! or `error: ` and the reason. With `--place` the error's location follows, if it has one.
 #![tactic(auto)]
 
 mod arguments;
@@ -31,7 +32,9 @@ With --place an error says where a text goes wrong, as ` at 5: expected month`.
 The status is 0; or 1 after a failed write; or 2 after a fault of the arguments,
 or a failed read.";
 
-// Answers the lines of standard input, and returns the exit status.
+// Writes the answers to the lines of standard input, and returns the exit status: 0, 1 after a failed write, or 2 after
+// another failure. A fault of the arguments is reported on standard error, unless memory for the report runs out. `Err`
+// if the report can't be written.
 fn answer(rt: &HostRuntime, question: Question<'_>) -> io::Result<u8> {
     let mut input = Counted::new(rt.reader());
     let mut out = BufferedSink::new(Counted::new(io::writer(rt)));
@@ -48,13 +51,14 @@ fn answer(rt: &HostRuntime, question: Question<'_>) -> io::Result<u8> {
     }
 }
 
-// Prints the usage to standard error.
+// Prints the usage to standard error, and returns the exit status 2. `Err` if it can't be written.
 fn print_usage(rt: &HostRuntime) -> io::Result<u8> {
     eprintln!(rt; "{USAGE}")?;
     Ok(2)
 }
 
-// Runs what the command line requests.
+// Runs what these words after the program's name request, and returns the exit status. `Err` if a page, the usage or a
+// report can't be written.
 fn follow(rt: &HostRuntime, words: &[String]) -> io::Result<u8> {
     match command_of(words) {
         Command::Help => {
@@ -70,6 +74,8 @@ fn follow(rt: &HostRuntime, words: &[String]) -> io::Result<u8> {
     }
 }
 
+// Runs what the words of the command line request. If they can't be read, as when one isn't UTF-8, prints the usage,
+// and exits with 2.
 fn main(rt: HostRuntime) -> io::Result<ExitCode> {
     let Ok(arguments) = env::args(&rt) else {
         return Ok(ExitCode::from(print_usage(&rt)?));

@@ -1,4 +1,4 @@
-//! Writes where a text is rejected, after its answer.
+//! Writes the index at which a text is rejected, after its answer.
 ghost use Rattle.std.specs.Prelude.{OnOk, codes, map, ◌++◌, ◌≡◌};
 ghost use Rattle.std.specs.Fmt.{decimal};
 ghost use Rattle.std.specs.Io.KnownBytes.{Appends};
@@ -27,14 +27,15 @@ use time_parsing::{Iso8601, Parsable, Rfc2822, Rfc3339};
 use time_record::Parsed;
 use time_values::error::Parse;
 
-/// Answers lines, and appends the location of the error to the answer of a rejected one.
+/// Answers lines as its request does. To the answer of a rejected line it appends ` at ` and the byte index of the
+/// error, if the error has one, and `: expected ` and what was expected there, if the line doesn't match the format.
 #[derive(Drop)]
 pub struct Placing {
     /// The format and the target.
     pub request: Request,
 }
 
-// Writes the bytes, with `?` for each that isn't printable.
+// Writes the bytes, with `?` for each that isn't printable ASCII.
 fn write_printable<W: Sink>(bytes: &[u8], out: &mut W) -> Result<(), Unwritten>
     ensures bytes { OnOk result (Appends (W.contents out.old) (W.contents out.new) (map fault.printable bytes.now)) }
     ensures cause { HasCause result (W.faults out.old) (W.faults out.new) }
@@ -46,7 +47,8 @@ fn write_printable<W: Sink>(bytes: &[u8], out: &mut W) -> Result<(), Unwritten>
     Ok(())
 }
 
-// Writes what was expected.
+// Writes what was expected, without ` at ` and `: expected `: the name of a component, `the end`, or the bytes of a
+// literal in single quotes, with `?` for each that isn't printable ASCII.
 fn write_expected<W: Sink>(expected: Expected<'_>, out: &mut W) -> Result<(), Unwritten>
     ensures bytes { OnOk result (Appends (W.contents out.old) (W.contents out.new) (expected_text (wants expected.entry))) }
     ensures cause { HasCause result (W.faults out.old) (W.faults out.new) }
@@ -64,7 +66,7 @@ fn write_expected<W: Sink>(expected: Expected<'_>, out: &mut W) -> Result<(), Un
     out.write_all(last)
 }
 
-// The error of an outcome, if it has one.
+// The error of an outcome, or `None` for a value.
 fn error_of<V: Drop>(outcome: Result<V, Parse>) -> Option<Parse>
     ensures { option_map refusal_of result ≡ refusal_in (seen outcome) }
 {
@@ -74,7 +76,8 @@ fn error_of<V: Drop>(outcome: Result<V, Parse>) -> Option<Parse>
     }
 }
 
-// The error of the text for the target by the format, or `None` where it has a value.
+// The error of parsing the whole text by the format for the target, or `None` if the text has a value. `Staged` is
+// parsed with an empty record as defaults, and any other target without defaults.
 fn refusal<F: Parsable>(format: &F, target: Target, text: &[u8]) -> Option<Parse>
     ensures { IsRefusalFor target (F.path format.now) (F.reads format.now) (F.refuses format.now) text.now
         (option_map refusal_of result) }
@@ -91,7 +94,7 @@ fn refusal<F: Parsable>(format: &F, target: Target, text: &[u8]) -> Option<Parse
     }
 }
 
-// Writes a number.
+// Writes the number in decimal digits.
 fn write_number<W: Sink>(number: usize, out: &mut W) -> Result<(), Unwritten>
     ensures bytes { OnOk result (Appends (W.contents out.old) (W.contents out.new) (decimal number)) }
     ensures cause { HasCause result (W.faults out.old) (W.faults out.new) }
@@ -101,7 +104,7 @@ fn write_number<W: Sink>(number: usize, out: &mut W) -> Result<(), Unwritten>
     out.write_all(buffer.format(number).as_bytes())
 }
 
-// Writes an index, or nothing for `None`.
+// Writes ` at ` and the index in decimal digits, or nothing for `None`.
 fn write_index<W: Sink>(index: Option<usize>, out: &mut W) -> Result<(), Unwritten>
     ensures bytes { OnOk result (Appends (W.contents out.old) (W.contents out.new) (index_text index)) }
     ensures cause { HasCause result (W.faults out.old) (W.faults out.new) }
@@ -114,7 +117,7 @@ fn write_index<W: Sink>(index: Option<usize>, out: &mut W) -> Result<(), Unwritt
     write_number(index, out)
 }
 
-// Writes an index, before what was expected there.
+// Writes ` at `, the index in decimal digits and `: expected `.
 fn write_found<W: Sink>(index: usize, out: &mut W) -> Result<(), Unwritten>
     ensures bytes { OnOk result (Appends (W.contents out.old) (W.contents out.new) (codes " at " ++ decimal index ++ codes ": expected ")) }
     ensures cause { HasCause result (W.faults out.old) (W.faults out.new) }
@@ -124,7 +127,8 @@ fn write_found<W: Sink>(index: usize, out: &mut W) -> Result<(), Unwritten>
     out.write_all(b": expected ")
 }
 
-// Writes the index of the component that this error of the text is about, or nothing.
+// Writes ` at ` and the index that `locate_error` returns for this error of the text, or nothing without an error or an
+// index.
 fn write_error_place<F: Locate, W: Sink>(
     format: &F,
     error: Option<Parse>,
@@ -142,7 +146,9 @@ fn write_error_place<F: Locate, W: Sink>(
     }
 }
 
-// Writes the location of the text's error by the format for the target, or nothing.
+// Writes ` at `, the byte index at which the text doesn't match the format, `: expected ` and what was expected there.
+// If the whole text matches, writes ` at ` and the index of the component that the error for the target calls out of
+// range, or nothing without an error or such a component.
 fn write_place<F: Locate, W: Sink>(
     format: &F,
     target: Target,
@@ -162,7 +168,7 @@ fn write_place<F: Locate, W: Sink>(
     write_expected(place.expected, out)
 }
 
-// Writes the location by a description of a date.
+// Writes the location of the text's error by the format `ymd`, as `write_place` does.
 fn write_ymd_place<W: Sink>(target: Target, text: &[u8], out: &mut W) -> Result<(), Unwritten>
     ensures bytes { OnOk result (Writes (IsTreePlace all_bytes formats.ymd target text.now)
         (W.contents out.old) (W.contents out.new)) }
@@ -173,7 +179,7 @@ fn write_ymd_place<W: Sink>(target: Target, text: &[u8], out: &mut W) -> Result<
     write_place(&compound(&items), target, text, out)
 }
 
-// Writes the location by a description of a time on a clock of 12 hours.
+// Writes the location of the text's error by the format `clock`, as `write_place` does.
 fn write_clock_place<W: Sink>(target: Target, text: &[u8], out: &mut W) -> Result<(), Unwritten>
     ensures bytes { OnOk result (Writes (IsTreePlace all_bytes formats.clock target text.now)
         (W.contents out.old) (W.contents out.new)) }
@@ -188,7 +194,7 @@ fn write_clock_place<W: Sink>(target: Target, text: &[u8], out: &mut W) -> Resul
     write_place(&compound(&items), target, text, out)
 }
 
-// Writes the location by a description of a date, time and offset, or of a year and its day.
+// Writes the location of the text's error by the format `local`, as `write_place` does.
 fn write_local_place<W: Sink>(target: Target, text: &[u8], out: &mut W) -> Result<(), Unwritten>
     ensures bytes { OnOk result (Writes (IsTreePlace all_bytes formats.local target text.now)
         (W.contents out.old) (W.contents out.new)) }
@@ -201,7 +207,7 @@ fn write_local_place<W: Sink>(target: Target, text: &[u8], out: &mut W) -> Resul
     write_place(&first(&lists), target, text, out)
 }
 
-// Writes the location by a named format.
+// Writes the location of the text's error by a named format, as `write_place` does.
 fn write_named_place<W: Sink>(
     format: Format,
     target: Target,
@@ -223,7 +229,7 @@ fn write_named_place<W: Sink>(
     }
 }
 
-// Writes the location by the chosen format.
+// Writes the location of the text's error by the chosen format, as `write_place` does.
 fn write_chosen_place<W: Sink>(
     chosen: &Chosen,
     target: Target,

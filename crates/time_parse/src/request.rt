@@ -23,15 +23,15 @@ use time_preparing::Prepared;
 use time_record::Parsed;
 use time_values::{Date, OffsetDateTime, PlainDateTime, Time, Timestamp, UtcDateTime, UtcOffset};
 
-// The most steps of a description. One in brackets of at most this many bytes fits.
+// The most steps of a description. A description in brackets of at most this many bytes never has more.
 pub(crate) const MOST_STEPS: usize = 1024;
 
 /// The version of a description in brackets.
 #[derive(Clone, Copy, Debug, PartialEq, Eq)]
 pub enum Version {
-    /// `[[` is a literal bracket.
+    /// Version 1: `[[` is a literal `[`.
     One,
-    /// `\[` is a literal bracket.
+    /// Version 2: `\[` is a literal `[`.
     Two,
 }
 
@@ -40,9 +40,9 @@ pub enum Version {
 pub enum Writing {
     /// The name of a format.
     Name(Format),
-    /// A description in brackets.
+    /// A description with components in brackets, as `[year]-[month]`: the argument isn't a name and contains `[`.
     Brackets,
-    /// A description in strftime's syntax.
+    /// A description in strftime's syntax, as `%Y-%m`: the argument isn't a name, and contains `%` and no `[`.
     Strftime,
     /// Neither a name nor a description.
     Unknown,
@@ -51,7 +51,7 @@ pub enum Writing {
 /// The format that parses the texts.
 #[derive(Drop)]
 pub enum Chosen {
-    /// A named format, with the prepared formats of all names.
+    /// A named format, with the prepared descriptions of those named formats that need one.
     Named(Format, Named),
     /// A description, prepared for many lines.
     Described(Prepared<MOST_STEPS>),
@@ -67,7 +67,7 @@ pub struct Request {
 }
 
 // How the format is written: by its name, else in brackets if it contains `[`, else in strftime's syntax if it contains
-// `%`.
+// `%`. `Unknown` for any other text.
 fn find_writing(format: &[u8]) -> Writing
     ensures { result ≡ writing_of format.now }
 {
@@ -82,7 +82,7 @@ fn find_writing(format: &[u8]) -> Writing
     }
 }
 
-// Parses a description in brackets of the version.
+// Parses a description in brackets of the version. An error is its first fault, or that it has more than 1024 steps.
 fn read_brackets(
     version: Version,
     format: &[u8],
@@ -96,7 +96,7 @@ fn read_brackets(
     }
 }
 
-// The format of a description in brackets.
+// The format of a description in brackets, or the description's fault.
 fn bracket_format(version: Version, format: &[u8]) -> Result<Chosen, Fault<'_>>
     ensures { MatchResult result
         (λ chosen. MeansTree (Describes (version_of (number_of version)) format.now) (meaning_of chosen))
@@ -108,7 +108,7 @@ fn bracket_format(version: Version, format: &[u8]) -> Result<Chosen, Fault<'_>>
     }
 }
 
-// The format of a description in strftime's syntax.
+// The format of a description in strftime's syntax, or the description's fault.
 fn strftime_format(format: &[u8]) -> Result<Chosen, Fault<'_>>
     ensures { MatchResult result
         (λ chosen. MeansTree (DescribesStrftime format.now) (meaning_of chosen))
@@ -120,7 +120,7 @@ fn strftime_format(format: &[u8]) -> Result<Chosen, Fault<'_>>
     }
 }
 
-// The chosen format, or its fault.
+// The format that the argument names or describes, or its fault.
 fn choose(version: Version, format: &[u8]) -> Result<Chosen, Fault<'_>>
     ensures { MatchResult result
         (λ chosen. Means version format.now (meaning_of chosen))
@@ -139,7 +139,7 @@ impl Request {
     ///
     /// # Errors
     ///
-    /// The fault of the format, or else that of the target.
+    /// The fault of the format, or else [`Fault::UnknownTarget`].
     pub fn new<'a>(
         version: Version,
         format: &'a [u8],
@@ -157,8 +157,9 @@ impl Request {
     }
 }
 
-// Writes the outcome of the text by a description: the value, or `error: ` and the error. Each target has a function of
-// its own, so that a line doesn't clear the stack slots of other targets' values.
+// Parses the whole text as a `V` by a description, without defaults, and writes the value, or `error: ` and the error,
+// without LF. Each target has a function of its own, so that a line doesn't clear the stack slots of other targets'
+// values.
 #[inline(never)]
 fn write_as<V: time_parsing::Target + Layout, W: Sink>(
     prepared: &Prepared<MOST_STEPS>,
@@ -173,7 +174,8 @@ fn write_as<V: time_parsing::Target + Layout, W: Sink>(
     write_outcome(V::parse(text, prepared), out)
 }
 
-// Writes the outcome of a moment that is parsed over an empty record.
+// Parses the whole text as a date, time and offset by a description, with an empty record as defaults, and writes the
+// value, or `error: ` and the error, without LF.
 #[inline(never)]
 fn write_staged<W: Sink>(
     prepared: &Prepared<MOST_STEPS>,
@@ -191,7 +193,7 @@ fn write_staged<W: Sink>(
     )
 }
 
-// Writes the outcome for any target.
+// Parses the whole text for the target by a description, and writes the value, or `error: ` and the error, without LF.
 #[inline(never)]
 fn write_described<W: Sink>(
     prepared: &Prepared<MOST_STEPS>,

@@ -20,13 +20,14 @@ use std::alloc::Global;
 /// Why the program exits early.
 #[derive(Clone, Copy)]
 pub enum Failure<'a> {
-    /// The format or the target has a fault.
+    /// The format is unknown, or is a description with a fault, or the target is unknown. Nothing was read or written.
     Arguments(Fault<'a>),
-    /// Reading, writing or allocating failed.
+    /// A read, a write or an allocation failed, or the input didn't end within 4294967296 reads.
     Stopped(Stop),
 }
 
-// Writes the answer to each line of the input, with the locations of errors where those are requested.
+// Reads the input to its end, and writes the answer to each of its lines and an LF after it. With `prints_places` the
+// location of its error follows the answer to a rejected line.
 fn serve_request<R: Source, W: Sink>(
     request: Request,
     prints_places: bool,
@@ -50,11 +51,14 @@ fn serve_request<R: Source, W: Sink>(
     }
 }
 
-/// Reads the input to its end, and writes the answer to each of its lines, by the requested format and for the
-/// requested target. If locations are requested, the answer to a rejected line has the location of its error.
+/// Reads the input to its end, and writes the answer to each of its lines and an LF after it, by the requested format
+/// and for the requested target. If locations are requested, the location of its error follows the answer to a rejected
+/// line.
 ///
-/// Returns early only after a read or a write that failed, when memory runs out, or when 4294967296 reads don't reach
-/// the end. If the format or the target has a fault, nothing is read or written.
+/// LF is optional after the last line. Earlier contents of the buffer are dropped once the whole input is read, and the
+/// sink isn't flushed. If the format or the target has a fault, nothing is read or written. Otherwise it returns early
+/// only after a read or a write that failed, when memory runs out, or when 4294967296 reads don't reach the end. Unless
+/// a write failed, nothing was written then.
 pub fn serve<'a, R: Source, W: Sink>(
     question: Question<'a>,
     alloc: Global,

@@ -23,7 +23,7 @@ use Rattle.time_record.specs.Resolution.{IsConstructed}
 use Rattle.time_parsing.specs.Outcome.{Reading, Refusing}
 use Rattle.time_parsing.specs.Rfc3339.{without_offset_sign, with_leap_second}
 
--- the entries of a date, each with the component that the error names if the value is out of range
+-- the entries of a date by its form, each with the component that the error names if the value is out of range
 abbrev pub date_entries : IsoDate → List (Entry × List ℕ)
 date_entries (calendar y m d) =
     (year_is y, codes "year") ∷ (month_is m, codes "month") ∷ (day_is d, codes "day") ∷ []
@@ -31,88 +31,94 @@ date_entries (ordinal y d) = (year_is y, codes "year") ∷ (ordinal_is d, codes 
 date_entries (week y w d) =
     (iso_year_is y, codes "year") ∷ (iso_week_number_is w, codes "week") ∷ (weekday_is d, codes "weekday") ∷ []
 
--- the entries of a time
+-- the entries of a time: its hour, minute, second and fraction in nanoseconds
 abbrev pub time_entries : TimeNumbers → List Entry
 time_entries t = hour_24_is t.hour ∷ minute_is t.minute ∷ second_is t.second ∷ subsecond_is t.subsecond ∷ []
 
--- the entries of an offset; `Z` also determines the second, 0
+-- the entries of an offset: for `Z`, 0 as hour, minute and second; else its hour and minute, and no second
 abbrev pub offset_entries : OffsetNumbers → List Entry
 offset_entries Zulu = offset_hour_is (pos 0) ∷ offset_minute_is (pos 0) ∷ offset_second_is (pos 0) ∷ []
 offset_entries (Numeric hour minute) = offset_hour_is hour ∷ offset_minute_is minute ∷ []
 
--- the record with the entries stored in turn, or the error of the first whose value is out of range
+-- the record with the entries stored in turn, or an invalid component with the name beside the first entry whose value
+-- is out of range
 abbrev pub put_or_fault : ℕ → List (Entry × List ℕ) → Record → Result Record Refusal
 put_or_fault Y [] r = Ok r
 put_or_fault Y (e ∷ entries) r = need (put Y e.0 r) (component e.1) (put_or_fault Y entries)
 
--- the result of `f` for a value, or the error
+-- the result of `f` for the value, or the unchanged error
 abbrev pub result_and_then : {A B : Type 0} → (A → Result B Refusal) → Result A Refusal → Result B Refusal
 result_and_then f (Err e) = Err e
 result_and_then f (Ok a) = f a
 
--- the rest and the kind after a part, with another value
+-- the part with another value, and with its rest and its kind unchanged
 abbrev pub with_value : {V W : Type 0} → Found V → W → Found W
 with_value f value = record { rest = f.rest; value = value; kind = f.kind }
 
--- the date of the bytes, stored in the record; or the error of the text, or of a value
+-- the record with the date at the start of the bytes, and the rest and the kind after the date; or the error of a text
+-- that doesn't match, or of the first number that is out of its range
 unfoldable pub date_over : ℕ → List ℕ → Record → Result (Found Record) Refusal
 date_over Y bytes r =
     result_and_then (λ d. result_and_then (λ q. Ok (with_value d q)) (put_or_fault Y (date_entries d.value) r))
     (date_text bytes)
 
--- the time of the bytes, of that kind, stored in the record
+-- The record with the time at the start of the bytes, and the rest and the kind after the time. `kind` is the kind
+-- before it, and `T` is required if `needs_t`. None if no time matches, or a number is out of its range.
 unfoldable pub time_over : ℕ → Bool → ExtendedKind → List ℕ → Record → Option (Found Record)
 time_over Y needs_t kind bytes r =
     option_and_then (λ t. option_map (with_value t) (put_all Y (time_entries t.value) r)) (time_text needs_t kind bytes)
 
--- the offset of the bytes, of that kind, stored in the record, which keeps no earlier offset's sign
+-- The record with the offset at the start of the bytes, but without an earlier offset's sign, and the rest and the kind
+-- after the offset. `kind` is the kind before it. None if no offset matches, or a number is out of its range.
 unfoldable pub offset_over : ℕ → ExtendedKind → List ℕ → Record → Option (Found Record)
 offset_over Y kind bytes r =
     option_and_then
     (λ o. option_map (with_value o) (put_all Y (offset_entries o.value) (without_offset_sign r)))
     (offset_text kind bytes)
 
--- Each part is a reader, from the rest, the record and the kind before it to those after it. A date requires no kind
--- before it.
+-- The reader of a date. Each part has a reader, from the rest, the record and the kind before the part to those after
+-- it, or none. A date ignores the kind before it.
 abbrev pub date : ℕ → ReaderOf (Found Record)
 date Y f = result_ok (date_over Y f.rest f.value)
 
--- a time of the kind so far, whose `T` is required if `needs_t`
+-- the reader of a time of the kind so far, whose `T` is required if `needs_t`, and else optional
 abbrev pub time : ℕ → Bool → ReaderOf (Found Record)
 time Y needs_t f = time_over Y needs_t f.kind f.rest f.value
 
--- an offset of the kind so far
+-- the reader of an offset of the kind so far
 abbrev pub offset : ℕ → ReaderOf (Found Record)
 offset Y f = offset_over Y f.kind f.rest f.value
 
--- A date, which a time with its `T` may follow; or else a time; or else an offset. An offset may follow a time.
+-- The reader of a text: a date, which a time with its `T` may follow; or else a time; or else an offset. An offset may
+-- follow a time.
 abbrev pub parts : ℕ → ReaderOf (Found Record)
 parts Y =
     date Y then optional (time Y true then optional (offset Y))
     or time Y false then optional (offset Y)
     or offset Y
 
--- the rest after the parts at the front of the bytes, and the record with their values, or nothing if there is no part
+-- the rest after the parts at the start of the bytes, and the record with their values, or none if there is no part;
+-- the kind isn't known before the first part
 unfoldable pub reading : ℕ → List ℕ → Record → Option (List ℕ × Record)
 reading Y bytes r =
     option_map (λ f. (f.rest, f.value)) (parts Y (record { rest = bytes; value = r; kind = Unknown }))
 
--- the parts are read over the record, which allows a leap second
+-- the bytes begin with the parts of a text; the new record is the old one with their values and a leap second allowed
 abbrev pub Reads : ℕ → Reading
 Reads Y bytes r rest new = reading Y bytes (with_leap_second r) ≡ Some (rest, new)
 
--- there is no part, and the error is the date's
+-- there is no part at the start of the bytes, and the error is the date's
 abbrev pub Refuses : ℕ → Refusing
 Refuses Y bytes r e =
     (reading Y bytes (with_leap_second r) ≡ None) × (date_over Y bytes (with_leap_second r) ≡ Err e)
 
--- ---- The numbers that an ISO 8601 text has for a value, which the short forms need
+-- ---- The numbers that an ISO 8601 text has for a value, which the contracts of the fast path need
 
--- a date, by its year, month and day
+-- the calendar form of a date: its year, month and day
 abbrev pub iso_date_of : Date → IsoDate
 iso_date_of d = calendar (Dates.year d) (Dates.month d) (Dates.day d)
 
--- a time
+-- the numbers of a time: its hour, minute, second and nanosecond
 abbrev pub time_numbers_of : Time → TimeNumbers
 time_numbers_of t = record {
   hour = Times.hour t;
@@ -121,7 +127,7 @@ time_numbers_of t = record {
   subsecond = Times.nanosecond t;
 }
 
--- the offset of these numbers
+-- the offset is UTC for `Z`, and else the offset of this signed hour and minute and 0 seconds, which are in range
 abbrev pub IsOffsetOfNumbers : OffsetNumbers → UtcOffset → Type 0
 IsOffsetOfNumbers Zulu o = IsUtc o
 IsOffsetOfNumbers (Numeric hour minute) o =

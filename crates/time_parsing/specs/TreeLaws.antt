@@ -8,7 +8,8 @@ use Rattle.time_record.specs.Reading.{Answers, Clean, unmarked, Reads, Refuses}
 use Rattle.time_record.specs.Record.{Record, IsInRanges}
 use Rattle.time_parsing.specs.Outcome.{Reading}
 
--- A list that joins two lists reads as the first, and then as the second on what the first leaves.
+-- A list that joins two lists has the readings of the first, and then of the second from the rest and the record after
+-- the first.
 abbrev pub JoinedReads : ℕ → Type 0
 JoinedReads Y =
     (xs ys : List Tree) (bytes : List ℕ) (r : Record) (rest : List ℕ) (q : Record)
@@ -16,14 +17,14 @@ JoinedReads Y =
     ↔ ((mid : List ℕ) × (m : Record) × Reads Y (sequence (trees xs)) bytes r mid m
     × Reads Y (sequence (trees ys)) mid m rest q)
 
--- the first list has this error, or the second has it on what the first leaves
+-- the first list has this error, or the second has it from the rest and the record after the first
 abbrev pub EitherRefuses : ℕ → List Tree → List Tree → List ℕ → Record → Refusal → Type 0
 EitherRefuses Y xs ys bytes r e =
     Refuses Y (sequence (trees xs)) bytes r e
     ⊎ ((mid : List ℕ) × (m : Record) × Reads Y (sequence (trees xs)) bytes r mid m
     × Refuses Y (sequence (trees ys)) mid m e)
 
--- The joined list is rejected if and only if either list is, with that error.
+-- The joined list has an error if and only if one of the two lists has it, by `EitherRefuses`.
 abbrev pub JoinedRefuses : ℕ → Type 0
 JoinedRefuses Y =
     (xs ys : List Tree) (bytes : List ℕ) (r : Record) (e : Refusal)
@@ -38,23 +39,24 @@ pub record AreEquivalentOn (Y : ℕ) (t u : Tree) (bytes : List ℕ) (r : Record
 abbrev pub AreEquivalent : ℕ → Tree → Tree → Type 0
 AreEquivalent Y t u = (bytes : List ℕ) (r : Record) → AreEquivalentOn Y t u bytes r
 
--- A list inside a list may be flattened.
+-- A list inside a list may be flattened: both have equal readings and errors, whatever items are before and after it.
 abbrev pub Flattens : ℕ → Type 0
 Flattens Y =
     (before inside behind : List Tree)
     → AreEquivalent Y (sequence (trees (before ++ sequence (trees inside) ∷ behind)))
     (sequence (trees (before ++ (inside ++ behind))))
 
--- An optional tree is a choice of it and the empty list.
+-- An optional tree has the readings and errors of a choice of it and the empty list, in that order.
 abbrev pub OptionalAsFirst : ℕ → Type 0
 OptionalAsFirst Y = (t : Tree) → AreEquivalent Y (optional t) (first_of (trees (t ∷ sequence none ∷ [])))
 
--- an item's result, viewed without its address
+-- an item's result: the bytes of the rest, or the error viewed without the address of its text
 abbrev pub told : Result (Bor (List ℕ)) ParseFromDescription → Result (List ℕ) Refusal
 told (Ok rest) = Ok rest.now
 told (Err e) = Err (refusal_of_description e)
 
--- If either list is rejected, the joined list has that error, and the record is unchanged.
+-- If the first list is rejected, or the second on the bytes that the first leaves, a call for the joined list returns
+-- that error, and the record is unchanged.
 abbrev pub JoinedLeaves : ℕ → Type 0
 JoinedLeaves Y =
     (xs ys : List Tree) (bytes : List ℕ) (old new : Record) (e : Refusal)
@@ -62,19 +64,20 @@ JoinedLeaves Y =
     → EitherRefuses Y xs ys bytes old e → Answers Y (sequence (trees (xs ++ ys))) bytes old result new
     → (told result ≡ Err e) × (new ≡ old)
 
--- Equal trees give equal results, and leave equal records.
+-- Calls for equal trees, with the same bytes and the same record, have equal results and leave equal records.
 abbrev pub HaveEqualResults : ℕ → Tree → Tree → Type 0
 HaveEqualResults Y t u =
     (bytes : List ℕ) (old : Record) (result other : Result (Bor (List ℕ)) ParseFromDescription) (new other_new : Record)
     → t ≡ u → Answers Y t bytes old result new → Answers Y u bytes old other other_new
     → (told result ≡ told other) × (new ≡ other_new)
 
--- If no `Ignore` ends inside a character, a mark to end between characters makes no difference.
+-- Trees that differ only in the marks on components to end between characters are equivalent on bytes and a record if
+-- no visited `Ignore` ends inside a UTF-8 character.
 abbrev pub WholeCharacters : ℕ → Type 0
 WholeCharacters Y =
     (t u : Tree) (bytes : List ℕ) (r : Record) → unmarked t ≡ u → Clean Y u bytes r → AreEquivalentOn Y t u bytes r
 
--- What is left is a suffix of the bytes.
+-- The unparsed rest after any tree is a suffix of the bytes.
 abbrev pub LeavesSuffix : ℕ → Type 0
 LeavesSuffix Y =
     (t : Tree) (bytes : List ℕ) (r : Record) (rest : List ℕ) (q : Record)
@@ -83,7 +86,7 @@ LeavesSuffix Y =
 -- ---- Readings that are kept in a wider range of years. `Y` is the greatest year of the narrower range, and `Z` of the
 -- wider.
 
--- a tree without an optional tree, and without a choice
+-- a tree that contains no optional tree and no choice, at any depth
 abbrev mutual
   pub HasNoChoice : Tree → Type 0
   HasNoChoice (literal t) = Unit {0}
@@ -92,20 +95,23 @@ abbrev mutual
   HasNoChoice (optional t) = ⊥
   HasNoChoice (first_of ts) = ⊥
 
+  -- each of the trees is without an optional tree and without a choice
   pub HaveNoChoice : Trees → Type 0
   HaveNoChoice none = Unit {0}
   HaveNoChoice (more t ts) = HasNoChoice t × HaveNoChoice ts
 
--- Each reading of such a tree is kept, with its rest and record.
+-- Each reading of a tree without an optional tree and a choice by the range `Y` is also one by `Z`, with equal rest and
+-- record.
 abbrev pub KeepsReadings : ℕ → ℕ → Type 0
 KeepsReadings Y Z =
     (t : Tree) → HasNoChoice t → (bytes : List ℕ) (r : Record) (rest : List ℕ) (q : Record)
     → Reads Y t bytes r rest q → Reads Z t bytes r rest q
 
--- Each text that the format read whole is still read whole, with its record.
+-- Each text that the format parses whole by the reading `before` it parses whole by the reading `now`, with an equal
+-- record.
 abbrev pub KeepsTexts : Reading → Reading → Type 0
 KeepsTexts before now = (bytes : List ℕ) (r q : Record) → before bytes r [] q → now bytes r [] q
 
--- Each record in the narrower range is in the wider one.
+-- If the values of a record are in their ranges by the narrower range of years, they are also by the wider one.
 abbrev pub KeepsRecords : ℕ → ℕ → Type 0
 KeepsRecords Y Z = (r : Record) → IsInRanges Y r → IsInRanges Z r

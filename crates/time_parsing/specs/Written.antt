@@ -16,22 +16,22 @@ use Rattle.time_record.specs.Record.{empty}
 use Rattle.time_record.specs.Resolution.{IsMoment, IsUtcMoment}
 use Rattle.time_parsing.specs.Outcome.{IsOutcome, IsMomentOutcome, Path, Reading, Refusing}
 
--- the nanoseconds that the first k of nine digits represent
+-- n nanoseconds with zeros for all but the first k of their nine digits: 0 for k = 0, and n for k = 9 or more
 abbrev pub kept : ℕ → ℕ → ℕ
 kept k n = n / 10 ^ (9 - k) * 10 ^ (9 - k)
 
--- the second moment is the first with k digits of its fraction
+-- `w` is the moment `v` with the first k digits of its nine-digit fraction, and zeros for the others
 pub record IsCut (k : ℕ) (v w : OffsetDateTime) : Type 0 where
   pub date : offset_date w ≡ offset_date v
   pub clock : Times.HasSecond (offset_time v) (kept k (Times.nanosecond (offset_time v))) (offset_time w)
   pub offset : offset_of w ≡ offset_of v
 
--- how many digits of a moment's fraction are written
+-- how many digits of a moment's fraction are written by this choice of digits
 abbrev pub written : FractionDigits → OffsetDateTime → ℕ
 written digits v = count_of digits (Times.nanosecond (offset_time v))
 
--- The text of a moment parses back as that moment except for the digits that aren't written, without defaults, on the
--- format's path and over a record.
+-- For each moment that has a text of RFC 3339, and each choice of digits, the text parses back as that moment except
+-- for the digits that aren't written, without defaults, on the format's path and over an empty record.
 abbrev pub ReadsBack : ℕ → Path → Reading → Refusing → Type 0
 ReadsBack Y path reads refuses =
     (digits : FractionDigits) (v w : OffsetDateTime)
@@ -39,11 +39,12 @@ ReadsBack Y path reads refuses =
     → IsMomentOutcome Y path reads refuses (moment_text (written digits v) v) None (Ok w)
     × IsOutcome (IsMoment Y) reads refuses (moment_text (written digits v) v) empty (Ok w)
 
--- Only zeros are dropped.
+-- For each fraction in nanoseconds, the digits that this choice doesn't write are zeros.
 abbrev pub KeepsAll : FractionDigits → Type 0
 KeepsAll digits = (n : ℕ) → n < 1_000_000_000 → kept (count_of digits n) n ≡ n
 
--- Moments with equal texts are equal, except for the digits that aren't written.
+-- Moments with equal texts of RFC 3339, by any two choices of digits, are equal except for the digits that aren't
+-- written.
 abbrev pub OneText : Type 0
 OneText =
     (digits others : FractionDigits) (v w a b : OffsetDateTime)
@@ -51,14 +52,15 @@ OneText =
     → unwritable_3339 w ≡ None → IsCut (written others w) w b
     → moment_text (written digits v) v ≡ moment_text (written others w) w → a ≡ b
 
--- Moments with equal texts are equal, if as many digits are written as each has.
+-- Moments with equal texts of RFC 3339 are equal, if as many digits are written as the fraction of each has.
 abbrev pub OneShortText : Type 0
 OneShortText =
     (v w : OffsetDateTime)
     → unwritable_3339 v ≡ None → unwritable_3339 w ≡ None
     → moment_text (written Auto v) v ≡ moment_text (written Auto w) w → v ≡ w
 
--- The text of a mail date parses back as that moment without its fraction.
+-- For each moment that has a mail date, that text parses back as the moment without its fraction, without defaults, on
+-- the format's path and over an empty record.
 abbrev pub ReadsMailBack : ℕ → Path → Reading → Refusing → Type 0
 ReadsMailBack Y path reads refuses =
     (v w : OffsetDateTime) (bytes : List ℕ)
@@ -81,7 +83,8 @@ pub record HasCanonicalText (v : OffsetDateTime) : Type 0 where
   pub hours : IsBetween (neg_ℤ (pos 23)) (pos 23) (Offsets.hours (offset_of v))
   pub whole_minutes : Offsets.seconds (offset_of v) ≡ pos 0
 
--- The canonical text parses back as that moment, without defaults, and over an empty record.
+-- For each moment that has a canonical text, the text parses back as that moment, without defaults, and with an empty
+-- record as defaults.
 abbrev pub ReadsCanonicalBack : ℕ → Path → Reading → Refusing → Type 0
 ReadsCanonicalBack Y path reads refuses =
     (v : OffsetDateTime) → HasCanonicalText v
@@ -90,8 +93,8 @@ ReadsCanonicalBack Y path reads refuses =
 
 -- ---- Written texts of ISO 8601, which are parsed back
 
--- The basic text of a moment parses back as that moment without its fraction, without defaults, on the format's path
--- and over a record.
+-- For each moment that has a basic text, the text parses back as that moment without its fraction, without defaults, on
+-- the format's path and over an empty record.
 abbrev pub ReadsBasicBack : ℕ → Path → Reading → Refusing → Type 0
 ReadsBasicBack Y path reads refuses =
     (v w : OffsetDateTime)
@@ -101,26 +104,27 @@ ReadsBasicBack Y path reads refuses =
 
 -- ---- Written texts of moments, which are parsed as dates and times in UTC
 
--- the date and time in UTC of the moment with k digits of its fraction
+-- `u` is the date and time in UTC of the moment `v` with the first k digits of its fraction, and zeros for the others
 abbrev pub IsUtcCut : ℕ → ℕ → OffsetDateTime → UtcDateTime → Type 0
 IsUtcCut Y k v u =
     (w : OffsetDateTime) × IsCut k v w × (utc_instant Y u ≡ offset_instant Y w) × IsDateWithin Y (utc_date u)
 
--- The text of a moment parses back as its date and time in UTC, except for the digits that aren't written.
+-- For each moment that has a text of RFC 3339, and each choice of digits, the text parses as its date and time in UTC,
+-- except for the digits that aren't written.
 abbrev pub ReadsUtcBack : ℕ → Reading → Refusing → Type 0
 ReadsUtcBack Y reads refuses =
     (digits : FractionDigits) (v : OffsetDateTime) (u : UtcDateTime)
     → unwritable_3339 v ≡ None → IsUtcCut Y (written digits v) v u
     → IsOutcome (IsUtcMoment Y) reads refuses (moment_text (written digits v) v) empty (Ok u)
 
--- the basic text parses back without the fraction
+-- a moment's basic text of ISO 8601 parses as its date and time in UTC, without the fraction
 abbrev pub ReadsBasicUtcBack : ℕ → Reading → Refusing → Type 0
 ReadsBasicUtcBack Y reads refuses =
     (v : OffsetDateTime) (u : UtcDateTime)
     → unwritable_3339 v ≡ None → IsUtcCut Y 0 v u
     → IsOutcome (IsUtcMoment Y) reads refuses (basic_text v) empty (Ok u)
 
--- the text of a mail date parses back without the fraction
+-- a moment's text of RFC 2822 parses as its date and time in UTC, without the fraction
 abbrev pub ReadsMailUtcBack : ℕ → Reading → Refusing → Type 0
 ReadsMailUtcBack Y reads refuses =
     (v : OffsetDateTime) (u : UtcDateTime) (bytes : List ℕ)

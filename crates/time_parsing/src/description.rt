@@ -1,4 +1,4 @@
-//! Descriptions as formats.
+//! Descriptions and their items as formats.
 ghost use Rattle.std.specs.Prelude.{map};
 ghost use Rattle.time_values.specs.Calendar.{greatest_year};
 ghost use Rattle.time_descriptions.specs.Description.{shape};
@@ -15,11 +15,12 @@ use time_record::{AnyFormatItem, Parsed};
 use time_values::OffsetDateTime;
 use time_values::error::Parse;
 
-/// Items that are parsed one after another, as a format.
+/// Items that are parsed one after another, as a format. An empty list of items matches the empty prefix.
 #[derive(Clone, Copy, Debug)]
 pub struct Items<'a, I>(pub &'a [I]);
 
-// Reads a front of the input by an item over the record, and returns the unread rest.
+// Parses a prefix of the input by an item over the record, and returns the unparsed rest. After an error, which is the
+// item's, the record is unchanged.
 fn read_item<'a, I: AnyFormatItem>(
     item: &I,
     input: &'a [u8],

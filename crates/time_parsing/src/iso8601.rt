@@ -1,7 +1,7 @@
 //! The format of ISO 8601, parsed over a record.
 //!
-//! If there are no defaults, `fast` is tried first: it makes a date and time, or a moment, directly from the numbers of
-//! a whole text. A text that `fast` doesn't parse is parsed over the record.
+//! For a date and time, or a moment, without defaults, `fast` is tried first: it makes the value directly from the
+//! numbers of a whole text. A text that `fast` doesn't parse is parsed over the record.
 ghost use Rattle.std.specs.Prelude.{◌≡◌, MatchOption, MatchResult, Some, None, false, true, Ok, Err};
 ghost use Rattle.time_values.specs.Calendar.{greatest_year};
 ghost use Rattle.time_values.specs.Refusal.{refusal_of_description};
@@ -27,12 +27,17 @@ use time_values::{OffsetDateTime, PlainDateTime};
 
 /// The format of ISO 8601, as `2021-01-02T03:04:05Z` or `20210102T030405Z`.
 ///
-/// A text is an optional date, an optional time and an optional offset, and at least one of them. A date is of the
-/// calendar, as `2021-01-02`, by the day of the year, as `2021-002`, or by the week, as `2020-W53-6`. A time has an
-/// hour, and may have a minute and a second; the last of them may have a fraction of any number of digits, after `.` or
-/// `,`, and omitted parts are 0. After a date it requires its `T`. It may be a leap second. An offset is `Z`, or an
-/// hour with a sign, as `-05`, which may have a minute; such an offset keeps the second of the defaults. After a date
-/// an offset requires a time before it.
+/// A text is an optional date, an optional time and an optional offset, and at least one of them. A date begins with a
+/// year of four digits, or of a sign and six digits. It is of the calendar, as `2021-01-02`, by the day of the year, as
+/// `2021-002`, or by the week, as `2020-W53-6`. A time has an hour, and may have a minute and a second, of two digits
+/// each. The last of them may have a fraction of one or more digits, after `.` or `,`, which determines the omitted
+/// parts; without it they are 0. A fraction of a second is rounded half up to nanoseconds, and must not round to 1; any
+/// other is truncated to nanoseconds. After a date a time requires its `T`. An offset is `Z`, or a sign and two digits
+/// of an hour, 00 to 25, as `-05`, which may have a minute; a numeric offset leaves the offset's second of the defaults
+/// unchanged. After a date an offset requires a time before it. `T`, `W` and `Z` are uppercase.
+///
+/// A second of 60 is a leap second. In a moment it is replaced by the last nanosecond before it, which must end a month
+/// in UTC. [`Parsable::parse_time`] and [`Parsable::parse_plain_date_time`] reject it.
 ///
 /// A text is basic, without separators, or extended, with them. The first part that shows which one it is determines it
 /// for the parts after it: in a basic text no colon is read, and in an extended one the colon before a minute may still
@@ -44,7 +49,8 @@ use time_values::{OffsetDateTime, PlainDateTime};
 #[derive(Clone, Copy, Debug, PartialEq, Eq)]
 pub struct Iso8601;
 
-// Stores a date's numbers in turn, up to the first that is out of its range, and returns the error of that one.
+// Stores a date's numbers in turn, up to the first that is out of its range. Returns the error of that one, an invalid
+// component `year`, `day`, `ordinal` or `week`. After an error the record may have changed.
 #[inline(always)]
 fn store_date(numbers: DateNumbers, parsed: &mut Parsed) -> Result<(), ParseFromDescription>
     ensures { MatchResult result
@@ -83,7 +89,8 @@ fn store_date(numbers: DateNumbers, parsed: &mut Parsed) -> Result<(), ParseFrom
     Ok(())
 }
 
-// Stores a date's numbers. If one is out of its range, returns the error of the first such number, and stores nothing.
+// Stores a date's numbers. If one is out of its range, returns the error of the first such number, as `store_date`, and
+// stores nothing.
 #[inline(always)]
 fn put_date(numbers: DateNumbers, parsed: &mut Parsed) -> Result<(), ParseFromDescription>
     ensures { MatchResult result
@@ -99,7 +106,8 @@ fn put_date(numbers: DateNumbers, parsed: &mut Parsed) -> Result<(), ParseFromDe
     stored
 }
 
-// Stores a time's numbers, or nothing.
+// Stores a time's numbers. If the hour is above 23, the minute above 59, the second above 60 or the nanoseconds above
+// 999,999,999, returns `None` and stores nothing.
 #[inline(always)]
 fn put_time(numbers: TimeNumbers, parsed: &mut Parsed) -> Option<()>
     ensures { MatchOption result
@@ -120,7 +128,8 @@ fn put_time(numbers: TimeNumbers, parsed: &mut Parsed) -> Option<()>
     Some(())
 }
 
-// Stores an offset's numbers, and clears the sign that an offset hour of a description left; or changes nothing.
+// Stores an offset's numbers, with 0 as second for `Z`, and clears the flag of a negative offset. If the hour isn't -25
+// to 25 or the minute isn't -59 to 59, returns `None` and changes nothing.
 #[inline(always)]
 fn put_offset(numbers: OffsetNumbers, parsed: &mut Parsed) -> Option<()>
     ensures { MatchOption result
@@ -148,7 +157,8 @@ fn put_offset(numbers: OffsetNumbers, parsed: &mut Parsed) -> Option<()>
     Some(())
 }
 
-// Reads a date over the record, and returns the rest and the kind after it.
+// Parses a date at the start of the input over the record, and returns the rest and the kind after it. If no date
+// matches, or a number of it is out of its range, returns the error; the record is then unchanged.
 #[inline(always)]
 fn date_over<'a>(
     input: &'a [u8],
@@ -169,7 +179,9 @@ fn date_over<'a>(
     }
 }
 
-// Reads a time of that kind over the record, and returns the rest and the kind after it.
+// Parses a time at the start of the input over the record, and returns the rest and the kind after the time. `kind` is
+// the kind before it, and its `T` is required if `needs_t`, and else optional. `None` if there is no such time; the
+// record is then unchanged.
 #[inline(always)]
 fn time_over<'a>(
     input: &'a [u8],
@@ -187,7 +199,8 @@ fn time_over<'a>(
     Some((found.rest, found.kind))
 }
 
-// Reads an offset of that kind over the record, and returns the rest. No later part needs the offset's kind.
+// Parses an offset at the start of the input over the record, and returns the rest. `kind` is the kind before it; no
+// later part needs the kind after it. `None` if there is no such offset; the record is then unchanged.
 #[inline(always)]
 fn offset_over<'a>(input: &'a [u8], parsed: &mut Parsed, kind: ExtendedKind) -> Option<&'a [u8]>
     ensures { MatchOption result
@@ -199,7 +212,8 @@ fn offset_over<'a>(input: &'a [u8], parsed: &mut Parsed, kind: ExtendedKind) -> 
     Some(found.rest)
 }
 
-// Reads an optional offset after a time, and returns the rest.
+// Parses an optional offset after a time over the record, and returns the rest. `kind` is the kind after the time. If
+// there is no offset, the rest is all of the input, and the record is unchanged.
 #[inline(always)]
 fn after_time<'a>(input: &'a [u8], parsed: &mut Parsed, kind: ExtendedKind) -> &'a [u8]
     ensures { steps.after_time greatest_year kind input.now parsed.old ≡ (result.now, parsed.new) }
@@ -210,7 +224,9 @@ fn after_time<'a>(input: &'a [u8], parsed: &mut Parsed, kind: ExtendedKind) -> &
     }
 }
 
-// Reads the parts of a text without a date; `fault` is the error of its date.
+// Parses a text without a date over the record, and returns the rest after it: a time, whose `T` is optional, with an
+// optional offset, or else an offset alone. If neither matches, returns `fault`, the error of the date that was tried
+// before.
 #[inline(never)]
 fn without_date<'a>(
     input: &'a [u8],
@@ -232,7 +248,8 @@ fn without_date<'a>(
     }
 }
 
-// Reads the parts of a text over the record. If none can be read, returns the date's error.
+// Parses the parts at the start of the input over the record, and returns the rest after them. If there is no part,
+// returns the date's error.
 #[inline(always)]
 fn read<'a>(input: &'a [u8], parsed: &mut Parsed) -> Result<&'a [u8], ParseFromDescription>
     ensures { MatchResult result
@@ -249,8 +266,8 @@ fn read<'a>(input: &'a [u8], parsed: &mut Parsed) -> Result<&'a [u8], ParseFromD
     }
 }
 
-// The moment of a whole text over the defaults. The record is created in this function, so that a short cut before it
-// doesn't pay for one.
+// The moment of a whole text, parsed over the defaults (`None`: over an empty record), with the errors of
+// `parse_offset_date_time`. The record is created in this function, so that a fast path before it doesn't pay for one.
 #[inline(always)]
 fn moment_over(input: &[u8], defaults: Option<Parsed>) -> Result<OffsetDateTime, Parse>
     ensures { IsOutcome (IsMoment greatest_year) (spec.Reads greatest_year) (spec.Refuses greatest_year) input.now

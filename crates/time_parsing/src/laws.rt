@@ -17,7 +17,8 @@ pub use crate::rfc3339::text_3339;
 use time_descriptions::Description;
 use time_record::AnyFormatItem;
 
-/// A parse has one outcome, whatever the format, the defaults and the target.
+/// A parse of given bytes over given defaults has at most one outcome, a value or an error, whatever the format and the
+/// type of the value, and so has a parse of a prefix as a moment.
 pub fn law_one_outcome<T: Parsable>(format: &T)
     ensures date { OneOutcome (IsDated greatest_year) (T.reads format.now) (T.refuses format.now) }
     ensures time { OneOutcome IsTimed (T.reads format.now) (T.refuses format.now) }
@@ -38,14 +39,15 @@ pub fn law_two_paths()
         (IsDirectRfc2822 greatest_year) }
 {}
 
-/// [`Rfc3339Strict`](crate::Rfc3339Strict) reads the texts of [`Rfc3339`](crate::Rfc3339) whose byte 10 is `T`, `t` or a
-/// space, with equal rests and records.
+/// [`Rfc3339Strict`](crate::Rfc3339Strict) reads exactly the texts of [`Rfc3339`](crate::Rfc3339) whose eleventh byte
+/// is `T`, `t` or a space, with equal rests and records.
 pub fn law_strict_texts()
     ensures { Strict.StrictTexts greatest_year }
 {}
 
-/// A list that joins two lists reads as the first, and then as the second on what the first leaves. It is rejected if
-/// either is, with that error, and the record is then unchanged, as after every error.
+/// A list of items that joins two lists parses as the first, and then as the second on the rest and the record after
+/// the first. It is rejected exactly if the first is, or the second is there, with that error. The record is then
+/// unchanged, even by the first list.
 pub fn law_joined_lists()
     ensures reads { JoinedReads greatest_year }
     ensures refuses { JoinedRefuses greatest_year }
@@ -58,7 +60,7 @@ pub fn law_flattened()
     ensures { Flattens greatest_year }
 {}
 
-/// An optional item reads as a choice of it and the empty list, and neither is ever rejected.
+/// An optional item parses as a choice of it and the empty list, and neither is ever rejected.
 #[tactic(auto, using(crate::proofs::TreeLemmas::optional_as_first))]
 pub fn law_optional_as_first()
     ensures { OptionalAsFirst greatest_year }
@@ -81,17 +83,17 @@ pub fn law_whole_characters()
     ensures { WholeCharacters greatest_year }
 {}
 
-/// What a description leaves unread is a suffix of the input.
+/// The unparsed rest after a description is a suffix of the input.
 #[tactic(auto, using(crate::proofs::TreeLemmas::leaves_suffix))]
 pub fn law_suffix()
     ensures { LeavesSuffix greatest_year }
 {}
 
-/// The text that [`text_3339`](time_formatting::text_3339) writes of a moment parses back by [`Rfc3339`](crate::Rfc3339)
-/// and [`Rfc3339Strict`](crate::Rfc3339Strict) as that moment except for the digits that aren't written, without
-/// defaults, directly and over a record. As many
-/// digits as the fraction has, or nine, keep all of it. The canonical text, which [`text_3339`] of this module writes,
-/// parses back as the whole moment.
+/// The text that [`text_3339`](time_formatting::text_3339) writes of a moment parses back by
+/// [`Rfc3339`](crate::Rfc3339) and [`Rfc3339Strict`](crate::Rfc3339Strict) as that moment except for the digits that
+/// aren't written, without defaults, directly and over a record. As many digits as the fraction has, or nine, keep all
+/// of it. The canonical text, which [`text_3339`] of this module writes, parses back by [`Rfc3339`](crate::Rfc3339) as
+/// the whole moment.
 pub fn law_read_back()
     ensures text { ReadsBack greatest_year (direct (RefusesRfc3339 greatest_year)) (Rfc3339.Reads greatest_year)
         (Rfc3339.Refuses greatest_year) }
@@ -110,8 +112,8 @@ pub fn law_one_text()
     ensures auto { OneShortText }
 {}
 
-/// The text that [`text_2822`](time_formatting::text_2822) writes of a moment parses back by [`Rfc2822`](crate::Rfc2822)
-/// as that moment without its fraction, without defaults, directly and over a record.
+/// The text that [`text_2822`](time_formatting::text_2822) writes of a moment parses back by
+/// [`Rfc2822`](crate::Rfc2822) as that moment without its fraction, without defaults, directly and over a record.
 pub fn law_mail_read_back()
     ensures { ReadsMailBack greatest_year (direct (RefusesRfc2822 greatest_year)) (Rfc2822.Reads greatest_year)
         (Rfc2822.Refuses greatest_year) }
@@ -150,13 +152,14 @@ pub fn law_one_iso_text()
     ensures apart { ExtendedOrBasic }
 {}
 
-/// The wider range of years changed no result of the years -9999 to 9999. Each reading by a description without an
-/// optional item and without a choice is kept, with the same rest and record. So is each text that
-/// [`Rfc3339`](crate::Rfc3339), [`Rfc2822`](crate::Rfc2822) or [`Iso8601`](crate::Iso8601) reads whole, and each record
-/// of that range.
+/// The wider range of years, -999999 to 999999, keeps these results of the range -9999 to 9999. A text that a
+/// description without an optional item and without a choice accepts is still accepted, with equal rest and record. A
+/// text that [`Rfc3339`](crate::Rfc3339), [`Rfc2822`](crate::Rfc2822) or [`Iso8601`](crate::Iso8601) parses whole is
+/// still parsed whole, with an equal record, and each record of the narrower range is one of the wider. Errors may
+/// differ.
 ///
-/// A choice may read otherwise: a choice of an extended year and the literal `+012345` read the text `+012345` as the
-/// literal, and now reads it as the year.
+/// A choice may parse otherwise: a choice of an extended year and the literal `+012345` parsed the text `+012345` as
+/// the literal, and now parses it as the year.
 pub fn law_kept_readings()
     ensures readings { KeepsReadings 9999 greatest_year }
     ensures rfc3339 { KeepsTexts (Rfc3339.Reads 9999) (Rfc3339.Reads greatest_year) }

@@ -1,8 +1,8 @@
-//! Parses whole texts into date-time values.
+//! Parses texts into date-time values: whole texts, or a moment at the start of a text.
 #![tactic(auto)]
 
-// Stores a value in a record by a setter that can't reject it. `unreachable!` shows the compiler that the option is
-// set.
+// Evaluates `$set`, a call of a record's setter with a value in its range, which returns `Some(())`. `unreachable!`
+// shows the compiler that it never returns `None`.
 macro_rules! put {
     ($set:expr) => {
         let Some(()) = $set else { unreachable!() };

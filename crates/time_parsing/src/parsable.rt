@@ -1,4 +1,4 @@
-//! What texts can be parsed by.
+//! Formats, by which texts can be parsed, and the value of a parsed record.
 ghost use Rattle.std.specs.Prelude.{◌≡◌, ◌≢◌, ◌⊎◌, [], Ok, Err, MatchResult};
 ghost use Rattle.time_values.specs.Calendar.{greatest_year};
 ghost use Rattle.time_values.specs.Refusal.{refusal_of, refusal_of_parsed, trailing};
@@ -13,25 +13,26 @@ use time_values::{Date, OffsetDateTime, PlainDateTime, Time, Timestamp, UtcDateT
 
 /// A format by which texts can be parsed.
 ///
-/// The calls that parse a text take defaults for components that it omits, such as the year of `03-04`. The text is
+/// The calls that parse a text accept defaults for components that it omits, such as the year of `03-04`. The text is
 /// parsed over them, and each of its components replaces its default. `None` means no defaults.
 pub trait Parsable {
-    // A front of the bytes is read over a record: the rest, and the record after it.
+    // The format matches a prefix of the bytes, parsed over a record, with this rest and this record after it.
     ghost reads: { Self → Reading };
 
-    // Nothing is read, with this error.
+    // The format matches no prefix of the bytes over a record, and this is the error.
     ghost refuses: { Self → Refusing };
 
-    // How a moment is parsed without defaults: over a record, or directly.
+    // How a moment is parsed without defaults: over an empty record, or directly, with errors of its own.
     ghost path: { Self → Path };
 
-    /// Parses a front of the input over the record, and returns the unparsed rest. The text's components replace those
-    /// of the record. An error leaves the record unchanged.
+    /// Parses a prefix of the input over the record, and returns the unparsed rest, which may be empty. The text's
+    /// components replace those of the record. If the format matches no prefix, returns the format's error and leaves
+    /// the record unchanged.
     fn parse_into<'a>(&self, input: &'a [u8], parsed: &mut Parsed) -> Result<&'a [u8], Parse>
         ensures { ParsesInto (reads self.now) (refuses self.now) input.now parsed.old result parsed.new };
 
-    /// The record of the whole input, parsed over the defaults. If bytes remain, the error is
-    /// [`ParseFromDescription::UnexpectedTrailingCharacters`].
+    /// The record of the whole input, parsed over the defaults (`None`: over an empty record). An error is that of
+    /// [`Parsable::parse_into`], or [`ParseFromDescription::UnexpectedTrailingCharacters`] if bytes remain.
     #[inline]
     fn parse_internal(&self, input: &[u8], defaults: Option<Parsed>) -> Result<Parsed, Parse>
         ensures { IsWhole (reads self.now) (refuses self.now) input.now (begun defaults) (seen result) }
@@ -47,7 +48,9 @@ pub trait Parsable {
         }
     }
 
-    /// The date of the whole input, parsed over the defaults.
+    /// The date of the whole input, parsed over the defaults (`None`: over an empty record). An error is that of
+    /// [`Parsable::parse_internal`], or of `Date::try_from` if the record has too few components, or no such date
+    /// exists.
     fn parse_date(&self, input: &[u8], defaults: Option<Parsed>) -> Result<Date, Parse>
         ensures { IsOutcome (IsDated greatest_year) (reads self.now) (refuses self.now) input.now
             (begun defaults) (seen result) }
@@ -57,7 +60,8 @@ pub trait Parsable {
         value_before::<Date>(rest, &parsed)
     }
 
-    /// The time of the whole input, parsed over the defaults.
+    /// The time of the whole input, parsed over the defaults (`None`: over an empty record). An error is that of
+    /// [`Parsable::parse_internal`], or of `Time::try_from` if the record has too few components, or a second of 60.
     fn parse_time(&self, input: &[u8], defaults: Option<Parsed>) -> Result<Time, Parse>
         ensures { IsOutcome IsTimed (reads self.now) (refuses self.now) input.now
             (begun defaults) (seen result) }
@@ -67,7 +71,8 @@ pub trait Parsable {
         value_before::<Time>(rest, &parsed)
     }
 
-    /// The offset of the whole input, parsed over the defaults.
+    /// The offset of the whole input, parsed over the defaults (`None`: over an empty record). An error is that of
+    /// [`Parsable::parse_internal`], or of `UtcOffset::try_from` if the record has no hour of an offset.
     fn parse_offset(&self, input: &[u8], defaults: Option<Parsed>) -> Result<UtcOffset, Parse>
         ensures { IsOutcome IsOffset (reads self.now) (refuses self.now) input.now
             (begun defaults) (seen result) }
@@ -77,7 +82,9 @@ pub trait Parsable {
         value_before::<UtcOffset>(rest, &parsed)
     }
 
-    /// The date and time of the whole input, parsed over the defaults.
+    /// The date and time of the whole input, parsed over the defaults (`None`: over an empty record). An offset is
+    /// ignored. An error is that of [`Parsable::parse_internal`], or of `PlainDateTime::try_from` for the record: that
+    /// of [`Parsable::parse_date`], or else that of [`Parsable::parse_time`].
     fn parse_plain_date_time(
         &self,
         input: &[u8],
@@ -91,7 +98,10 @@ pub trait Parsable {
         value_before::<PlainDateTime>(rest, &parsed)
     }
 
-    /// The date and time in UTC of the whole input, parsed over the defaults.
+    /// The date and time in UTC of the whole input, parsed over the defaults (`None`: over an empty record). The offset
+    /// converts them to UTC; without an offset they are in UTC. An error is that of [`Parsable::parse_internal`], or of
+    /// `UtcDateTime::try_from` if the record has too few components, if its date doesn't exist or is out of range in
+    /// UTC, or if a second of 60 isn't allowed as a leap second, or doesn't end a month in UTC.
     fn parse_utc_date_time(
         &self,
         input: &[u8],
@@ -105,8 +115,12 @@ pub trait Parsable {
         value_before::<UtcDateTime>(rest, &parsed)
     }
 
-    /// The date, time and offset of the whole input, parsed over the defaults. Without defaults a format may take a
-    /// direct path, which has the same values and errors of its own.
+    /// The date, time and offset of the whole input, parsed over the defaults (`None`: over an empty record). An error
+    /// is that of [`Parsable::parse_internal`], or of `OffsetDateTime::try_from` if the record has too few components,
+    /// if its date doesn't exist, or if a second of 60 isn't allowed as a leap second, or doesn't end a month in UTC.
+    ///
+    /// Without defaults, a format may parse directly: it accepts the texts that it accepts over an empty record, with
+    /// equal values, but has its own errors.
     fn parse_offset_date_time(
         &self,
         input: &[u8],
@@ -115,7 +129,9 @@ pub trait Parsable {
         ensures { IsMomentOutcome greatest_year (path self.now) (reads self.now) (refuses self.now) input.now
             defaults (seen result) };
 
-    /// The instant of the whole input, parsed over the defaults.
+    /// The instant of the whole input, parsed over the defaults (`None`: over an empty record). Without an offset the
+    /// date and time are in UTC. An error is that of [`Parsable::parse_internal`], or of `Timestamp::try_from` for the
+    /// record. The latter is always `InsufficientInformation`.
     fn parse_timestamp(&self, input: &[u8], defaults: Option<Parsed>) -> Result<Timestamp, Parse>
         ensures { IsOutcome (IsTimestamp greatest_year) (reads self.now) (refuses self.now) input.now
             (begun defaults) (seen result) }
@@ -125,9 +141,9 @@ pub trait Parsable {
         value_before::<Timestamp>(rest, &parsed)
     }
 
-    /// The date, time and offset of a front of the input, parsed over the defaults, and the unread rest. The text is
-    /// parsed over a record, so its errors are those of [`Parsable::parse_into`] and of the record. Bytes that remain
-    /// are no error.
+    /// The date, time and offset of a prefix of the input, parsed over the defaults (`None`: over an empty record), and
+    /// the unparsed rest. An error is that of [`Parsable::parse_into`], or of `OffsetDateTime::try_from` for the
+    /// record. Bytes that remain aren't an error. The prefix is always parsed over a record, never directly.
     fn parse_front<'a>(
         &self,
         input: &'a [u8],
@@ -142,14 +158,14 @@ pub trait Parsable {
         Ok((value, rest))
     }
 
-    // The format has one answer for a text over a record.
+    // The format has at most one reading or one error for a text over a record, and never both.
     ghost exact: { (s : Self) → IsExact (reads s) (refuses s) };
 
-    // Its direct path has one error, if it has no moment.
+    // Its direct path, if it has one, has at most one error for a text, and none for a text with a moment.
     ghost exact_path: { (s : Self) → IsExactPath greatest_year (path s) (reads s) (refuses s) };
 }
 
-/// The record that a parse begins with: the defaults, or an empty one.
+/// The record that a parse begins with: the defaults, or an empty one for `None`.
 ///
 /// The empty one is made before the defaults are inspected, since a choice between two records would be made piece by
 /// piece.
@@ -164,8 +180,8 @@ pub fn begin(defaults: Option<Parsed>) -> Parsed
     record
 }
 
-/// The value of a record that was read up to this rest. If bytes remain, the error is
-/// [`ParseFromDescription::UnexpectedTrailingCharacters`].
+/// Converts the record of a parsed text to a value. If `rest`, the unparsed end of the text, isn't empty, the error is
+/// [`ParseFromDescription::UnexpectedTrailingCharacters`]. Otherwise an error is that of `V::try_from`.
 #[inline(always)]
 pub fn value_before<V: TryFrom<Parsed, Error = TryFromParsed> + Drop>(
     rest: &[u8],
@@ -182,8 +198,9 @@ pub fn value_before<V: TryFrom<Parsed, Error = TryFromParsed> + Drop>(
     Ok(V::try_from(*parsed)?)
 }
 
-/// The date, time and offset of a record that was read up to this rest. If bytes remain, the error is
-/// [`ParseFromDescription::UnexpectedTrailingCharacters`].
+/// Converts the record of a parsed text to a date, time and offset. If `rest`, the unparsed end of the text, isn't
+/// empty, the error is [`ParseFromDescription::UnexpectedTrailingCharacters`]. Otherwise an error is that of
+/// `OffsetDateTime::try_from`.
 #[inline(always)]
 pub(crate) fn moment_before(rest: &[u8], parsed: &Parsed) -> Result<OffsetDateTime, Parse>
     ensures { MatchResult (seen result)
@@ -193,7 +210,8 @@ pub(crate) fn moment_before(rest: &[u8], parsed: &Parsed) -> Result<OffsetDateTi
     value_before(rest, parsed)
 }
 
-/// A reference to a format parses as the format does, always over a record.
+/// A reference to a format parses as the format does, but always over a record: without defaults too, errors of
+/// `parse_offset_date_time` are those of the parse over a record.
 impl<T: Parsable> Parsable for &T {
     ghost reads = { λ x. T.reads x.now };
 

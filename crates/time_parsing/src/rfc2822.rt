@@ -20,17 +20,28 @@ use time_values::error::Parse;
 
 /// The format of mail dates, RFC 2822, as `Mon, 02 Jan 2021 03:04:05 +0000`.
 ///
-/// Blanks and comments may separate its parts. A weekday is read, but not compared with the date. The year may have two
-/// digits, and the offset may be a zone name, as `GMT`.
+/// A text needs the date, the time and the offset, whatever value it is parsed as. Blanks and comments may separate its
+/// parts, as [`Place`](time_readers::rfc2822::Place) lists them. The weekday may be missing, and isn't compared with
+/// the date. Names match in any case. The year has four digits, from 1900, or two: 00 to 49 are 2000 to 2049, and 50 to
+/// 99 are 1950 to 1999. The second may be missing. A missing second and the second of a numeric offset are those of the
+/// defaults, or else 0.
 ///
-/// The error is that of the first place that doesn't have its form, or whose number is out of its range, by
-/// [`place_fault`]. But a moment without defaults is parsed by [`direct::rfc2822`], which first checks only the form of
-/// the places, and then rejects bytes that remain. After that it rejects, as out of range, the first of `day`, `hour`,
-/// `minute`, `second`, `hours` and `minutes` that the calendar doesn't have.
+/// The offset is a sign and four digits, with an hour of 0 to 25, or a zone name: `GMT`, or `EST`, `EDT`, `CST`, `CDT`,
+/// `MST`, `MDT`, `PST` or `PDT`; or, if fewer than three bytes remain, `UT` or one letter except `J`, both for UTC.
+///
+/// A second of 60 is a leap second. In a moment it is replaced by the last nanosecond before it, which must end a month
+/// in UTC. [`Parsable::parse_time`] and [`Parsable::parse_plain_date_time`] reject it.
+///
+/// [`Parsable::parse_into`] returns the error of [`place_fault`] for the first of the fifteen places that doesn't match
+/// or whose number is out of its range. But [`Parsable::parse_offset_date_time`] without defaults is
+/// [`direct::rfc2822`]. It first checks the places without the ranges, and then rejects bytes that remain. Last it
+/// rejects the first of `day`, `hour`, `minute`, `second` and the offset's `hours` and `minutes` that is out of range,
+/// and a leap second that isn't the last second of a month in UTC.
 #[derive(Clone, Copy, Debug, PartialEq, Eq)]
 pub struct Rfc2822;
 
-// Stores the weekday, if there is one, and day, month and year.
+// Stores day, month and year in the record, and the weekday if the text has one. Otherwise the record's weekday is
+// unchanged.
 #[inline(always)]
 fn put_date(numbers: Numbers, parsed: &mut Parsed)
     requires day { IsInRange 1 31 numbers.day }
@@ -48,7 +59,7 @@ fn put_date(numbers: Numbers, parsed: &mut Parsed)
     put!(parsed.set_year(i32::from(numbers.year)));
 }
 
-// Stores hour, minute and, if there is one, the second.
+// Stores hour and minute in the record, and the second if the text has one. Otherwise the record's second is unchanged.
 #[inline(always)]
 fn put_time(numbers: Numbers, parsed: &mut Parsed)
     requires hour { numbers.hour ≤ 23 }
@@ -63,7 +74,9 @@ fn put_time(numbers: Numbers, parsed: &mut Parsed)
     }
 }
 
-// Stores the offset, and clears the sign that an offset hour of a description left.
+// Stores the hour of the offset in the record. For a numeric offset, which has a sign, also stores the minute, and
+// leaves the second unchanged. For a zone name, sets minute and second to 0. Clears the flag of a negative offset,
+// which only a description's offset hour sets.
 #[inline(always)]
 fn put_offset(numbers: Numbers, parsed: &mut Parsed)
     requires hour { unsigned_abs numbers.offset_hour ≤ 25 }

@@ -28,17 +28,24 @@ use time_values::{Date, Month, OffsetDateTime, Time, UtcOffset};
 
 /// The format of RFC 3339, as `1985-04-12T23:20:50.52Z`.
 ///
-/// Any one byte may separate the date from the time, and `Z` may be a small letter.
+/// A text needs the date, the time and the offset, whatever value it is parsed as. Any one byte may separate the date
+/// from the time, and `Z` may be lowercase. The year has four digits. Month, day, hour, minute and second have two, and
+/// so have the hour and the minute of a numeric offset, which is -23:59 to +23:59. The fraction of the second, a point
+/// and one or more digits, may be missing, and its digits after the ninth are dropped. A missing fraction and the
+/// second of a numeric offset are those of the defaults, or else 0.
 ///
-/// The error is that of the first place that doesn't have its form, or whose number is out of its range, by
-/// [`place_fault`]. But a moment without defaults is parsed by [`direct::rfc3339`]. It first checks only the form of the
-/// places. Then it rejects an offset's minute above 59, as `minutes` out of range, and after that bytes that remain. At
-/// last it rejects, as out of range, the first of `month`, `day`, `hour`, `minute` and `second` that the calendar
-/// doesn't have.
+/// A second of 60 is a leap second. In a moment it is replaced by the last nanosecond before it, which must end a month
+/// in UTC. [`Parsable::parse_time`] and [`Parsable::parse_plain_date_time`] reject it.
+///
+/// [`Parsable::parse_into`] returns the error of [`place_fault`] for the first of the fifteen places that doesn't match
+/// or whose number is out of its range. But [`Parsable::parse_offset_date_time`] without defaults is
+/// [`direct::rfc3339`]. It first checks the places without the ranges. Then it rejects an offset's minute above 59, as
+/// `minutes` out of range, and after that bytes that remain. Last it rejects the first of `month`, `day`, `hour`,
+/// `minute` and `second` that is out of range, and a leap second that isn't the last second of a month in UTC.
 #[derive(Clone, Copy, Debug, PartialEq, Eq)]
 pub struct Rfc3339;
 
-// Stores year, month and day.
+// Stores year, month and day in the record.
 #[inline(always)]
 fn put_date(numbers: Numbers, parsed: &mut Parsed)
     requires year { numbers.year ≤ greatest_year }
@@ -56,7 +63,8 @@ fn put_date(numbers: Numbers, parsed: &mut Parsed)
     put!(parsed.set_day(day));
 }
 
-// Stores hour, minute, second and, if there is one, the fraction of the second.
+// Stores hour, minute and second in the record, and the fraction of the second if the text has one. Otherwise the
+// record's fraction is unchanged.
 #[inline(always)]
 fn put_time(numbers: Numbers, parsed: &mut Parsed)
     requires hour { numbers.hour ≤ 23 }
@@ -73,7 +81,9 @@ fn put_time(numbers: Numbers, parsed: &mut Parsed)
     }
 }
 
-// Stores the offset, and clears the sign that an offset hour of a description left.
+// Stores the hour and the minute of the offset in the record, both with its sign. For `Z` these are 0, and the second
+// is set to 0, too; a numeric offset leaves the second unchanged. Clears the flag of a negative offset, which only a
+// description's offset hour sets.
 #[inline(always)]
 fn put_offset(numbers: Numbers, parsed: &mut Parsed)
     requires hour { numbers.offset_hour ≤ 23 }
@@ -137,7 +147,7 @@ impl Parsable for Rfc3339 {
     ghost exact_path = { λ _. rfc3339_exact_path };
 }
 
-// `YYYY-MM-DD`.
+// The text of a date whose year is 0 to 9999: `YYYY-MM-DD`, with leading zeros.
 fn date_of(date: &Date) -> [u8; 10]
     requires { IsBetween (pos 0) (pos 9999) (Dates.year date.now) }
     ensures { result ≡ date_text date.now }
@@ -148,7 +158,7 @@ fn date_of(date: &Date) -> [u8; 10]
     [y1, y2, y3, y4, b'-', m1, m2, b'-', d1, d2]
 }
 
-// `HH:MM:SS`.
+// The text of a time, with leading zeros and without its fraction: `HH:MM:SS`.
 fn clock_of(time: &Time) -> [u8; 8]
     ensures { result ≡ clock_text time.now }
 {
@@ -158,7 +168,7 @@ fn clock_of(time: &Time) -> [u8; 8]
     [h1, h2, b':', m1, m2, b':', s1, s2]
 }
 
-// `-` for an offset behind UTC, and else `+`.
+// The ASCII sign of an offset: `-` if its hours or its minutes are negative, and else `+`. Its seconds don't count.
 fn sign_of(offset: UtcOffset) -> u8
     ensures { result ≡ offset_sign offset }
 {
@@ -166,7 +176,7 @@ fn sign_of(offset: UtcOffset) -> u8
     if hours < 0 || minutes < 0 { b'-' } else { b'+' }
 }
 
-// `+HH:MM` or `-HH:MM`.
+// The text of an offset, with the sign of `sign_of` and without its seconds: `+HH:MM` or `-HH:MM`.
 #[tactic(auto, using(time_values::proofs::NumberLemmas::two))]
 fn offset_with_colon(offset: UtcOffset) -> [u8; 6]
     ensures { result ≡ numeric_text offset }
@@ -178,10 +188,10 @@ fn offset_with_colon(offset: UtcOffset) -> [u8; 6]
 }
 
 /// The canonical text of a moment by RFC 3339, section 5.6: `2021-01-02T03:04:05.500000000-00:30`, always with nine
-/// digits of a fraction, and with `+00:00` in UTC.
+/// digits of a fraction, and with `+00:00` in UTC. Its date and time are local, at the moment's offset.
 ///
-/// The year has to be 0 to 9999, and the offset whole minutes, at most 23:59. [`time_formatting::text_3339`] has no such
-/// requirement.
+/// The caller must ensure that the local year is 0 to 9999, and that the offset is whole minutes, -23:59 to +23:59.
+/// [`time_formatting::text_3339`] returns an error instead.
 pub fn text_3339(value: OffsetDateTime) -> [u8; 35]
     requires year { IsBetween (pos 0) (pos 9999) (Dates.year (offset_date value)) }
     requires hours { IsBetween (neg_ℤ (pos 23)) (pos 23) (Offsets.hours (offset_of value)) }

@@ -8,14 +8,14 @@ use time_record::Parsed;
 use time_values::OffsetDateTime;
 use time_values::error::Parse;
 
-/// The format of RFC 3339, as [`Rfc3339`] has it, with only `T`, `t` or a space between the date and the time.
+/// The format [`Rfc3339`], but with only `T`, `t` or a space between the date and the time.
 ///
-/// With another byte there, or none, the error is that of the first place of the date that doesn't match, or an invalid
-/// component `separator`.
+/// With another byte there, or none, the error is that of the first place of the date that doesn't match, or else an
+/// invalid component `separator`. All other texts have the results of [`Rfc3339`].
 #[derive(Clone, Copy, Debug, PartialEq, Eq)]
 pub struct Rfc3339Strict;
 
-/// Whether `T`, `t` or a space follows the ten bytes of a date.
+/// Whether the input has an eleventh byte and it is `T`, `t` or a space. The ten bytes before it aren't checked.
 #[inline(always)]
 pub fn has_separator(input: &[u8]) -> bool
     ensures { result ≡ spec.has_separator input.now }
@@ -23,8 +23,8 @@ pub fn has_separator(input: &[u8]) -> bool
     input.len() > 10 && (input[10] == b'T' || (input[10] == b't' || input[10] == b' '))
 }
 
-/// The text, or only its first ten bytes if no `T`, `t` or space follows them. By [`Rfc3339`] it parses as the whole
-/// text does by [`Rfc3339Strict`].
+/// The input, or only its first ten bytes (or fewer) if no `T`, `t` or space follows them. [`Rfc3339`] parses the
+/// result as [`Rfc3339Strict`] parses the input.
 #[inline(always)]
 pub fn strict_text(input: &[u8]) -> &[u8]
     ensures { result.now ≡ spec.strict_text input.now }

@@ -13,7 +13,8 @@ use time_values::{Date, OffsetDateTime, PlainDateTime, Time, Timestamp, UtcDateT
 
 /// A type of value into which any format parses a whole text: `Date::parse("2021-01-02", &Iso8601)`.
 pub trait Target: Sized {
-    // The outcome for given bytes, by a format with this path for moments, these readings and these errors.
+    // The bytes have this result without defaults, by a format with this path for moments, these readings and these
+    // errors. The error is viewed without the address of its text.
     ghost outcome: { Path → Reading → Refusing → List ℕ → Result Self Refusal → Type 0 };
 
     /// The value of a whole text, passed as text or as bytes. There are no defaults for components that the text omits.

@@ -19,77 +19,81 @@ use Rattle.time_preparing.specs.declared.forms.TheConstants.{YEAR, STANDARD_YEAR
 use Rattle.time_preparing.specs.declared.joined.Joined.{Joined}
 use Rattle.time_preparing.specs.declared.joined.Joined.TheVariants as joined
 
--- a year by this component, a month and a day, with this byte between them
+-- the steps of a year by this component, a month's number and a day, with this byte between them
 abbrev pub year_first_parts : Component → ℕ → List Step
 year_first_parts year b =
     step.Component year ∷ step.Literal b ∷ step.Component (MonthNumerical MONTH) ∷ step.Literal b
     ∷ step.Component (Day DAY) ∷ []
 
--- a year, a month and a day
+-- the steps of a year of four digits, or of a sign and four to six, a month's number and a day, with this byte between
+-- them
 abbrev pub date_parts : ℕ → List Step
 date_parts b = year_first_parts (CalendarYearFullExtendedRange YEAR) b
 
--- a year of four digits at most, a month and a day
+-- the steps of a year of four digits, with or without a sign, a month's number and a day, with this byte between them
 abbrev pub standard_date_parts : ℕ → List Step
 standard_date_parts b = year_first_parts (CalendarYearFullStandardRange STANDARD_YEAR) b
 
--- a day, the short name of a month and a year
+-- the steps of a day, the short name of a month and a year, with this byte between them
 abbrev pub day_first_parts : ℕ → List Step
 day_first_parts b =
     step.Component (Day DAY) ∷ step.Literal b
     ∷ step.Component (MonthShort MONTH_NAME) ∷ step.Literal b
     ∷ step.Component (CalendarYearFullExtendedRange YEAR) ∷ []
 
+-- the steps of a date of this form
 abbrev pub dated_parts : Dated → List Step
 dated_parts (YearFirst b) = date_parts b
 dated_parts (StandardYearFirst b) = standard_date_parts b
 dated_parts (DayFirst b) = day_first_parts b
 
--- an hour, a minute and a second
+-- the steps of an hour of the 24-hour clock, a minute and a second, with this byte between them
 abbrev pub time_parts : ℕ → List Step
 time_parts b =
     step.Component (Hour24 HOUR) ∷ step.Literal b
     ∷ step.Component (Minute MINUTE) ∷ step.Literal b
     ∷ step.Component (Second SECOND) ∷ []
 
--- an optional byte
+-- the list of an optional byte, empty without one
 abbrev pub bytes_of : Option ℕ → List ℕ
 bytes_of None = []
 bytes_of (Some b) = b ∷ []
 
+-- the steps of a literal of an optional byte, none without one
 abbrev pub byte_parts : Option ℕ → List Step
 byte_parts None = []
 byte_parts (Some b) = step.Literal b ∷ []
 
--- an offset with a sign, its hour and its minute
+-- the steps of an offset's hour with its sign, this byte if there is one, and the offset's minute
 abbrev pub offset_parts : Option ℕ → List Step
 offset_parts b =
     step.Component (OffsetHour OFFSET_HOUR) ∷ byte_parts b ++ step.Component (OffsetMinute OFFSET_MINUTE) ∷ []
 
--- the record with a year, a month and a day
+-- the record with its year, month and day set to these
 abbrev pub with_date : DateNumbers → Record → Record
 with_date n r = record r { year = Some n.year; month = Some n.month; day = Some (non_zero_u8_get n.day) }
 
--- the record with an hour, a minute and a second
+-- the record with its hour of the 24-hour clock, minute and second set to these
 abbrev pub with_clock : ClockNumbers → Record → Record
 with_clock n r = record r { hour_24 = Some n.hour; minute = Some n.minute; second = Some n.second }
 
--- the record with an offset's hour and its sign, and its minute
+-- the record with the offset's hour, its sign and its minute set to these
 abbrev pub with_offset : OffsetNumbers → Record → Record
 with_offset n r =
     record r { offset_hour = Some n.hour; offset_is_negative = n.is_negative; offset_minute = Some n.minute }
 
--- the record with nanoseconds of the second, if there are any
+-- the record with these nanoseconds of the second, or unchanged without any
 abbrev pub with_subsecond : Option ℕ → Record → Record
 with_subsecond None r = r
 with_subsecond (Some n) r = record r { subsecond = Some n }
 
--- the record with a second and its nanoseconds, if there is one
+-- the record with this second, and its nanoseconds if there are any; or unchanged without a second
 abbrev pub with_second : Option (ℕ × Option ℕ) → Record → Record
 with_second None r = r
 with_second (Some (s, n)) r = with_subsecond n (record r { second = Some s })
 
--- the record with an hour of the 12-hour clock, a minute, a second if there is one, and the half
+-- the record with its hour of the 12-hour clock, minute, and AM or PM set to these, and its second and nanoseconds too,
+-- as far as there are any
 abbrev pub with_half : HalfNumbers → Record → Record
 with_half n r =
     let hour = record r { hour_12 = Some n.hour; minute = Some n.minute } in
@@ -97,20 +101,20 @@ with_half n r =
 
 -- ---- Which steps of a description are joined
 
--- the short name of a month, and a day
+-- the steps of the short name of a month and a day, which may be padded with a space, with this byte between them
 abbrev pub month_day_parts : ℕ → List Step
 month_day_parts b =
     step.Component (MonthShort MONTH_NAME) ∷ step.Literal b ∷ step.Component (Day SPACED_DAY) ∷ []
 
--- an optional fraction of a second
+-- the steps of an optional group: this byte and a fraction of a second
 abbrev pub fraction_parts : ℕ → List Step
 fraction_parts p = step.Group Optional 2 ∷ step.Literal p ∷ step.Component (Subsecond SUBSECOND) ∷ []
 
--- an optional second with an optional fraction
+-- the steps of an optional group: the first byte, a second, and optionally the other byte and a fraction
 abbrev pub second_parts : ℕ → ℕ → List Step
 second_parts b p = step.Group Optional 5 ∷ step.Literal b ∷ step.Component (Second SECOND) ∷ fraction_parts p
 
--- the steps that a joined step replaces
+-- the steps that are parsed together as this `Joined`, none for `Nothing`
 abbrev pub parts : Joined → List Step
 parts joined.Nothing = []
 parts (joined.Byte b) = step.Literal b ∷ []
@@ -122,15 +126,15 @@ parts (joined.Time b) = time_parts b
 parts (joined.Fraction p) = fraction_parts p
 parts (joined.Seconds b p) = second_parts b p
 
--- The steps begin with the front, and no literal continues after it.
+-- The steps begin with those of `front`, and the next step is no further byte of a literal (`More`).
 abbrev pub BeginsWith : List Step → List Step → Type 0
 BeginsWith front steps = (after : List Step) × (steps ≡ front ++ after) × (further after ≡ [])
 
--- The steps begin with the joined ones, if there are joined ones and enough steps.
+-- The steps begin with the joined ones, unless nothing is joined or there are fewer steps than joined ones.
 abbrev pub BeginsWithParts : Joined → List Step → Type 0
 BeginsWithParts j steps = 0 < length (parts j) → length (parts j) ≤ length steps → BeginsWith (parts j) steps
 
--- each joined step is at the position of its steps
+-- at each index that both lists have, the steps from there on begin with the joined ones, as in `BeginsWithParts`
 abbrev pub Fits : List Joined → List Step → Type 0
 Fits [] steps = Unit {0}
 Fits (j ∷ js) [] = Unit {0}

@@ -8,20 +8,20 @@ use Rattle.time_components.specs.declared.inspect.Step.TheVariants as step
 use Rattle.time_preparing.specs.declared.items.Unprepared.{Unprepared}
 use Rattle.time_preparing.specs.declared.items.Unprepared.TheVariants.{EmptyLiteral, OptionalNotCompound, TooLong}
 
--- a step, or why this place has none
+-- a step, or the reason why a part of an item has no step
 abbrev pub Place : Type 0
 Place = Result Step Unprepared
 
--- the further bytes of a literal
+-- a step for each further byte of a literal
 abbrev pub further_places : List ℕ → List Place
 further_places bytes = map (λ b. Ok (step.More b)) bytes
 
--- the bytes of a literal
+-- a step for each byte of a literal, or `EmptyLiteral` if it has none
 abbrev pub literal_places : List ℕ → List Place
 literal_places [] = Err EmptyLiteral ∷ []
 literal_places (b ∷ bytes) = Ok (step.Literal b) ∷ further_places bytes
 
--- a group of the places inside it
+-- the step of a group, which counts the places inside it, followed by these places
 abbrev pub group_places : Group → List Place → List Place
 group_places g inside = Ok (step.Group g (length inside)) ∷ inside
 
@@ -34,7 +34,7 @@ abbrev mutual
   places_of (optional t) = optional_places_of t
   places_of (first_of ts) = group_places groups.First (places_of_all ts)
 
-  -- the places of an optional tree
+  -- the places of an optional tree: those of a group if the tree is a sequence, or else `OptionalNotCompound`
   pub optional_places_of : Tree → List Place
   optional_places_of (sequence ts) = group_places groups.Optional (places_of_all ts)
   optional_places_of _ = Err OptionalNotCompound ∷ []
@@ -44,24 +44,24 @@ abbrev mutual
   places_of_all none = []
   places_of_all (more t ts) = places_of t ++ places_of_all ts
 
--- the first reason why places can't be prepared, if there is room for n steps
+-- the first reason why places can't be prepared, with room for n steps; none if all are steps, and at most n
 abbrev pub first_reason : ℕ → List Place → Option Unprepared
 first_reason n [] = None
 first_reason n (Err reason ∷ places) = Some reason
 first_reason zero (Ok s ∷ places) = Some TooLong
 first_reason (suc n) (Ok s ∷ places) = first_reason n places
 
--- No row of at most n steps has these trees.
+-- No list of at most n steps has the tree of these trees in sequence.
 abbrev pub HasNoSteps : ℕ → Trees → Type 0
 HasNoSteps n ts = (steps : List Step) → length steps ≤ n → steps_shape steps ≢ sequence ts
 
--- The steps are those of the trees, at most n, and have these trees; or this is the first reason, and no row of at most
--- n steps has them.
+-- The steps are those of the trees, at most n, and have the tree of these trees in sequence; or the error is the first
+-- reason, and no list of at most n steps has this tree.
 abbrev pub Prepares : ℕ → Trees → Result (List Step) Unprepared → Type 0
 Prepares n ts (Ok steps) = (places_of_all ts ≡ map Ok steps) × (length steps ≤ n) × (steps_shape steps ≡ sequence ts)
 Prepares n ts (Err reason) = (first_reason n (places_of_all ts) ≡ Some reason) × HasNoSteps n ts
 
--- the text that is printed
+-- the text that `Display` writes for the reason
 abbrev pub unprepared_text : Unprepared → List ℕ
 unprepared_text EmptyLiteral = codes "a literal is empty"
 unprepared_text OptionalNotCompound = codes "an optional item is no compound"

@@ -14,12 +14,12 @@ use time_components::{BorrowedFormatItem, Component, Group, Step};
 /// Why items can't be prepared.
 #[derive(Clone, Copy, Debug, PartialEq, Eq)]
 pub enum Unprepared {
-    /// A literal is empty, so no step represents it.
+    /// A literal is empty. Each step of a literal is one of its bytes, so it would have no step.
     EmptyLiteral,
-    /// An optional item is no `Compound`. Only a list of steps can be optional: in a `Compound` of its own the item
-    /// parses as it does by itself.
+    /// The item of an `Optional` is no `Compound`. Only a list of steps can be optional. To prepare the item, wrap it
+    /// in a `Compound`, which parses as the item does.
     OptionalNotCompound,
-    /// There is no room for all steps.
+    /// There are more steps than the prepared description has room for.
     TooLong,
 }
 
@@ -37,7 +37,7 @@ impl fmt::Display for Unprepared {
 
 impl std::error::Error for Unprepared {}
 
-// Appends a step, if there is room.
+// Appends a step. Fails with `TooLong`, without a change, if there is no room.
 fn put<const N: usize>(steps: &mut ArrayVec<Step, N>, step: Step) -> Result<(), Unprepared>
     ensures ok { OnOk result (steps.new.items ≡ steps.old.items ++ step ∷ []) }
     ensures room { OnOk result (length steps.new.items ≤ N) }
@@ -49,7 +49,8 @@ fn put<const N: usize>(steps: &mut ArrayVec<Step, N>, step: Step) -> Result<(), 
     }
 }
 
-// Appends the further bytes of a literal, if there is room.
+// Appends a `Step::More` for each further byte of a literal. Fails with `TooLong` if there is no room; some steps may
+// then be appended.
 fn put_further<const N: usize>(
     bytes: &[u8],
     steps: &mut ArrayVec<Step, N>,
@@ -64,7 +65,8 @@ fn put_further<const N: usize>(
     Ok(())
 }
 
-// Appends the steps of a literal of these bytes, if there is room.
+// Appends a step for the first and for each further byte of a literal. Fails with `TooLong` if there is no room; some
+// steps may then be appended.
 #[tactic(auto, using(crate::proofs::Placing::puts_bytes))]
 fn put_bytes<const N: usize>(
     first: u8,
@@ -78,7 +80,8 @@ fn put_bytes<const N: usize>(
     put_further(further, steps)
 }
 
-// Appends the steps of a literal, if it has any and there is room.
+// Appends a step for each byte of a literal. Fails with `EmptyLiteral` if it has none, or with `TooLong` if there is no
+// room; some steps may then be appended.
 fn put_literal<const N: usize>(
     bytes: &[u8],
     steps: &mut ArrayVec<Step, N>,
@@ -92,7 +95,7 @@ fn put_literal<const N: usize>(
     }
 }
 
-// Appends the step of a component, if there is room.
+// Appends the step of a component. Fails with `TooLong`, without a change, if there is no room.
 #[tactic(auto, using(crate::proofs::Placing::puts_component))]
 fn put_component<const N: usize>(
     component: Component,
@@ -104,7 +107,7 @@ fn put_component<const N: usize>(
     put(steps, Step::Component(component))
 }
 
-// Appends the steps of an item, if it has any and there is room.
+// Appends the steps of an item. Fails with the first reason in the order of its parts; some steps may then be appended.
 #[cycle(items)]
 fn put_item<const N: usize>(
     item: &BorrowedFormatItem<'_>,
@@ -123,7 +126,8 @@ fn put_item<const N: usize>(
     }
 }
 
-// Appends the steps of an optional item, if it has any and there is room.
+// Appends the steps of an `Optional` of this item. Fails with `OptionalNotCompound` if the item is no `Compound`, or
+// with the first reason in the order of its parts; some steps may then be appended.
 #[cycle(items)]
 fn put_optional<const N: usize>(
     item: &BorrowedFormatItem<'_>,
@@ -138,7 +142,7 @@ fn put_optional<const N: usize>(
     }
 }
 
-// Makes all steps after the index belong to the group at the index.
+// Replaces the step at the index by the group, with all steps after the index as its steps.
 fn close_group<const N: usize>(steps: &mut ArrayVec<Step, N>, group: Group, index: usize)
     requires { index < length steps.old.items }
     ensures { steps.new.items ≡ slice_set steps.old.items index
@@ -148,7 +152,8 @@ fn close_group<const N: usize>(steps: &mut ArrayVec<Step, N>, group: Group, inde
     steps[index] = Step::Group(group, len);
 }
 
-// Appends the steps of a group of these items, if they have any and there is room.
+// Appends a group step and the steps of these items in it. Fails with the first reason in the order of the items; some
+// steps may then be appended.
 #[cycle(items)]
 fn put_group<const N: usize>(
     group: Group,
@@ -165,7 +170,8 @@ fn put_group<const N: usize>(
     Ok(())
 }
 
-/// Appends the steps of items in turn, if they have any and there is room.
+/// Appends the steps of items in turn. Fails with the first reason in the order of the items; some steps may then be
+/// appended.
 #[cycle(items)]
 pub(crate) fn put_items<const N: usize>(
     items: &[BorrowedFormatItem<'_>],

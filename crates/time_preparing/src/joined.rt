@@ -8,7 +8,7 @@ use crate::forms::{
 };
 use time_components::{Component, Group, Step};
 
-/// The steps at an index that are parsed together, without a walk over them.
+/// Steps of a description, from some index on, that are parsed together. A `u8` is the byte of a literal.
 #[derive(Clone, Copy, Debug, PartialEq, Eq)]
 pub(crate) enum Joined {
     /// None: the step at this index is parsed on its own.
@@ -17,17 +17,17 @@ pub(crate) enum Joined {
     Byte(u8),
     /// A component.
     Component(Component),
-    /// A year of four digits, a month and a day, with this byte between them.
+    /// A year of the extended range, a month's number and a day, with this byte between them.
     Date(u8),
-    /// A day, the short name of a month and a year of four digits, with this byte between them.
+    /// A day, the short name of a month and a year of the extended range, with this byte between them.
     DayFirst(u8),
     /// The short name of a month and a day, whose first digit may be a space, with this byte between them.
     MonthDay(u8),
     /// An hour up to 23, a minute and a second, with this byte between them.
     Time(u8),
-    /// A fraction after this byte, or nothing.
+    /// An optional group of this byte and a fraction of a second.
     Fraction(u8),
-    /// A second after the first byte, and then a fraction after the other or nothing; or nothing at all.
+    /// An optional group of the first byte, a second, and an optional group of the other byte and a fraction.
     Seconds(u8, u8),
 }
 
@@ -40,7 +40,7 @@ impl Default for Joined {
     }
 }
 
-// The steps of a month's name and a day.
+// The steps of the short name of a month and a day, whose first digit may be a space, with this byte between them.
 fn month_day_steps(between: u8) -> [Step; 3]
     ensures { result ≡ month_day_parts between }
 {
@@ -51,7 +51,7 @@ fn month_day_steps(between: u8) -> [Step; 3]
     ]
 }
 
-// The steps of an optional fraction.
+// The steps of an optional group of this byte and a fraction of a second.
 fn fraction_steps(point: u8) -> [Step; 3]
     ensures { result ≡ fraction_parts point }
 {
@@ -62,7 +62,8 @@ fn fraction_steps(point: u8) -> [Step; 3]
     ]
 }
 
-// The steps of an optional second with its optional fraction.
+// The steps of an optional group of the byte `between`, a second, and an optional group of the byte `point` and a
+// fraction.
 fn second_steps(between: u8, point: u8) -> [Step; 6]
     ensures { result ≡ second_parts between point }
 {
@@ -76,7 +77,8 @@ fn second_steps(between: u8, point: u8) -> [Step; 6]
     ]
 }
 
-// Whether the steps begin with `front`, and no literal continues after it.
+// `true` only if the steps begin with `front`, and the next step, if there is one, is no `Step::More`. `false` also if
+// `are_same` is `false` for equal steps.
 fn begins(steps: &[Step], front: &[Step]) -> bool
     ensures { IsTrue result → BeginsWith front.now steps.now }
 {
@@ -87,7 +89,7 @@ fn begins(steps: &[Step], front: &[Step]) -> bool
     are_same(first, front) && !continues_literal(behind)
 }
 
-// Whether a literal before these steps continues in them.
+// Whether the first of these steps is a further byte (`Step::More`) of a literal before them.
 fn continues_literal(steps: &[Step]) -> bool
     ensures { result ≡ false → further steps.now ≡ [] }
 {
@@ -97,7 +99,10 @@ fn continues_literal(steps: &[Step]) -> bool
     }
 }
 
-/// The joined steps at the front of these.
+/// The steps at the front of these that are parsed together: those of a date with a year of the extended range, a
+/// month's name and a day, a time, an optional fraction, or an optional second with an optional fraction, or else a
+/// literal of one byte or a component. `Joined::Nothing`: there are no steps, they begin with none of these, or only
+/// with ones that a `Step::More` follows.
 pub(crate) fn joined_at(steps: &[Step]) -> Joined
     ensures { BeginsWithParts result steps.now }
 {
@@ -107,7 +112,8 @@ pub(crate) fn joined_at(steps: &[Step]) -> Joined
     }
 }
 
-// Joined steps at the front of these, if the second is a literal of one byte. This is no second way of reading.
+// Three, five or six joined steps at the front of these, or `None` if they can't be joined or the second isn't a
+// literal's first byte. This is not a fast path.
 fn several_at(steps: &[Step]) -> Option<Joined>
     ensures { IfSome result (λ joined. BeginsWithParts joined steps.now) }
 {
@@ -127,7 +133,9 @@ fn several_at(steps: &[Step]) -> Option<Joined>
     }
 }
 
-// Three joined steps at the front of these, if the second is a literal of this byte. This is no second way of reading.
+// Three or five joined steps at the front of these, with a literal of this byte as the second: those of a date with a
+// year of the extended range, of a month's name and a day, of a time or of an optional fraction. `None`: the steps
+// begin with none of these, or a `Step::More` follows. This is not a fast path.
 fn three_at(steps: &[Step], byte: u8) -> Option<Joined>
     ensures { IfSome result (λ joined. BeginsWithParts joined steps.now) }
 {
@@ -146,7 +154,8 @@ fn three_at(steps: &[Step], byte: u8) -> Option<Joined>
     }
 }
 
-// A literal of one byte or a component at the front of these steps.
+// A literal of one byte, or a component, at the front of these steps, or `Joined::Nothing` if they begin otherwise, are
+// empty, or have a `Step::More` after it.
 fn alone_at(steps: &[Step]) -> Joined
     ensures { BeginsWithParts result steps.now }
 {

@@ -7,7 +7,8 @@ ghost use Rattle.time_parsing.specs.TreeLaws.{HaveEqualResults};
 use crate::Prepared;
 use time_descriptions::Description;
 
-/// A prepared description and a description of its tree give the same results, and leave the same record.
+/// If a prepared description and a description have equal trees, then parsing a prefix of any input over any record
+/// gives equal rests or equal errors, and equal new records.
 pub fn law_prepared<const N: usize, const M: usize>(
     prepared: &Prepared<N>,
     description: &Description<M>,

@@ -1,7 +1,8 @@
 //! Prepared descriptions as formats.
 //!
-//! If there are no defaults, `fast` is tried first: it makes a value directly from the numbers of a whole text. A text
-//! that `fast` doesn't parse is parsed over the record.
+//! `fast` is tried first for a date, a time, or both, with or without an offset: it makes the value directly from the
+//! numbers of a whole text. With defaults it is tried only for a date and time without an offset. A text that `fast`
+//! doesn't parse is parsed over a record, and so is each text for another type of value.
 ghost use Rattle.std.specs.Prelude.{◌≡◌, ◌≢◌, ◌⊎◌, [], Ok, Err, MatchResult};
 ghost use Rattle.time_values.specs.Calendar.{greatest_year};
 ghost use Rattle.time_values.specs.Refusal.{refusal_of_parsed, trailing};
@@ -21,7 +22,8 @@ use time_record::Parsed;
 use time_values::error::{Parse, TryFromParsed};
 use time_values::{Date, OffsetDateTime, PlainDateTime, Time};
 
-// The value of the whole input, parsed over a record that begins with the defaults.
+// The value of the whole input, parsed over a record that begins as the defaults, or empty without defaults. An error
+// is that of the description, of bytes that remain, or of the record's conversion.
 #[inline(never)]
 fn over_record<const N: usize, V: TryFrom<Parsed, Error = TryFromParsed> + Drop>(
     format: &Prepared<N>,

@@ -19,10 +19,10 @@ use time_descriptions::Description;
 use time_record::Parsed;
 use time_values::error::ParseFromDescription;
 
-/// A description of at most `N` steps that is prepared for many texts.
+/// A description of at most `N` steps that is prepared once and then parses many texts.
 ///
 /// It has the steps of the description, in their order. It stores for each step which steps from there on are parsed
-/// together, and whether all whole texts have one known form.
+/// together, and the form of the whole texts that are parsed directly as values, if it is a known form.
 #[derive(Drop)]
 pub struct Prepared<const N: usize> {
     steps: ArrayVec<Step, N>,
@@ -64,13 +64,14 @@ impl<const N: usize> Prepared<N> {
     }
 
     /// Prepares items in turn, those of a description that was built by hand. There is a step for each component, for
-    /// each byte of a literal, and for each `Compound`, `Optional` and `First` in addition to those inside it.
+    /// each byte of a literal, and for each `Compound`, `Optional` and `First` in addition to those inside it, but only
+    /// one step for an `Optional` with its `Compound`.
     ///
     /// # Errors
     ///
     /// The first failure in the order of the items: [`Unprepared::EmptyLiteral`] at an empty literal,
     /// [`Unprepared::OptionalNotCompound`] at an `Optional` of anything but a `Compound`, and [`Unprepared::TooLong`]
-    /// at the item with step `N + 1`. There is an error if and only if no steps, or more than `N`, have the tree of the
+    /// at the item with step `N + 1`. There is an error if and only if no list of at most `N` steps has the tree of the
     /// items.
     pub fn from_items(items: &[BorrowedFormatItem<'_>]) -> Result<Prepared<N>, Unprepared>
         ensures { Prepares N (trees (map borrowed_shape items.now)) result }
@@ -87,7 +88,7 @@ impl<const N: usize> Prepared<N> {
         self.steps.as_slice()
     }
 
-    // The form of the whole texts.
+    // The known form of whole texts, or `Whole::Nothing`.
     #[inline(always)]
     pub(crate) fn whole(&self) -> &Whole
         ensures { Leads result.now self.now }
@@ -95,7 +96,8 @@ impl<const N: usize> Prepared<N> {
         &self.whole
     }
 
-    // Parses a front of the input into the record. After an error the record may have changed.
+    // Parses a prefix of the input into the record, and returns the unread rest. The errors are those of
+    // `parse_front_into`. After an error the record may have changed.
     #[inline(always)]
     pub(crate) fn walk_into<'a>(
         &self,
@@ -107,8 +109,9 @@ impl<const N: usize> Prepared<N> {
         walk(self.steps.as_slice(), self.joined.as_slice(), parsed, input)
     }
 
-    /// Parses a front of the input into the record, and returns the unread rest. An error names what isn't there, and
-    /// leaves the record unchanged.
+    /// Parses a prefix of the input into the record, and returns the unread rest. An error is the invalid component
+    /// with its name, an invalid literal, or unexpected trailing characters at an `End`. It leaves the record
+    /// unchanged.
     pub fn parse_front_into<'a>(
         &self,
         input: &'a [u8],
@@ -127,7 +130,7 @@ impl<const N: usize> Prepared<N> {
     }
 }
 
-// The steps, with the joined steps at each index.
+// The prepared description of these steps, at most `N`.
 #[tactic(auto, using(crate::proofs::Rows::kept_all, crate::proofs::Rows::room))]
 fn prepare<const N: usize>(steps: &[Step]) -> Prepared<N>
     requires { length steps.now ≤ N }

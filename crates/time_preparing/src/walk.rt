@@ -1,7 +1,7 @@
 //! Walks the steps of a prepared description.
 //!
 //! It parses joined steps, as far as they match. Then it parses the item at which they stop on its own, over the record
-//! so far, and after that joined steps again. So no step is parsed twice.
+//! so far, and after that joined steps again. So no step that matched is parsed again.
 mod fast;
 mod front;
 
@@ -16,8 +16,9 @@ use time_components::{Group, Step, item_len};
 use time_record::Parsed;
 use time_values::error::ParseFromDescription;
 
-// Parses joined steps as far as they match, and returns how many steps were parsed, and the rest. It is a call of its
-// own, so that the inlined parsers of steps occur once.
+// Parses joined steps as far as they match, stores their values, and returns how many of `steps` were parsed, and the
+// unread rest. `joined` has what is parsed together at each of the steps. It isn't inlined, so that the inlined parsers
+// of steps occur once.
 #[inline(never)]
 fn read_joined<'a>(
     steps: &[Step],
@@ -44,7 +45,9 @@ fn read_joined<'a>(
     (next, rest)
 }
 
-/// Parses the steps at the front of the input as a list. After an error the record may have changed.
+/// Parses the steps in sequence at the front of the input, and returns the unread rest. `joined` has what is parsed
+/// together at each of the steps. The error is that of the first item that doesn't match. After an error the record may
+/// have changed.
 #[cycle(walk)]
 #[inline(always)]
 pub(crate) fn walk<'a>(
@@ -95,7 +98,7 @@ fn walk_list<'a>(
     walk(steps, joined, parsed, input)
 }
 
-// Parses the steps of one item. After an error the record may have changed.
+// Parses the steps of one item, and returns the unread rest. After an error the record may have changed.
 #[cycle(walk)]
 #[inline(always)]
 fn walk_item<'a>(
@@ -124,7 +127,8 @@ fn walk_item<'a>(
     }
 }
 
-// Parses a group of these steps. After an error the record may have changed.
+// Parses a group with these steps inside, by its kind: in sequence, as optional, or as alternatives. Returns the unread
+// rest. After an error the record may have changed.
 #[cycle(walk)]
 #[inline(always)]
 fn walk_group<'a>(
@@ -145,7 +149,8 @@ fn walk_group<'a>(
     }
 }
 
-// Parses optional steps.
+// Parses optional steps. If they don't match, returns the input as the rest, and the record is unchanged. It never
+// returns an error.
 #[cycle(walk)]
 #[inline(always)]
 #[tactic(auto, unfolding(time_record::specs::Reading::Reads))]
@@ -169,7 +174,8 @@ fn walk_optional<'a>(
     }
 }
 
-// Parses the first item that matches. If none does, the error is the first item's, and the record is unchanged.
+// Parses the first item that matches. If none does, the error is the first item's, and the record is unchanged. If
+// there are no items, returns the input as the rest.
 #[cycle(walk)]
 fn walk_first<'a>(
     steps: &[Step],

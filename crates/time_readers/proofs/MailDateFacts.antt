@@ -51,7 +51,9 @@ no_weekday c cs low (d ∷ text) rest v e h =
 abbrev to_month_places : List Place
 to_month_places = WeekdayName ∷ Day ∷ DayBlanks ∷ MonthName ∷ MonthBlanks ∷ []
 
-to_month : (check : Bool) (after : List ℕ) → MatchesPlaces (PlaceSyntax check) to_month_places nothing_read (codes "02 Jan 2" ++ after) (codes "2" ++ after) (dated 2 0 false)
+to_month : (check : Bool) (after : List ℕ)
+    → MatchesPlaces (PlaceSyntax check) to_month_places nothing_read (codes "02 Jan 2" ++ after) (codes "2" ++ after)
+    (dated 2 0 false)
 unfolding opt_cfws cfws fws blanks line_fold no_crlf comment comment_end zero_or_more repeat
 to_month check after = form_of (
     ([], refl, (None, (refl, no_weekday 48 _ (omega arith)), refl)) next
@@ -67,7 +69,9 @@ clock_places = Year ∷ YearBlanks ∷ Hour ∷ HourColon ∷ Minute ∷ []
 abbrev pub front : Numbers
 front = at_clock (dated 2 2021 true) 3 4 None
 
-to_minute : (check : Bool) (after : List ℕ) → MatchesPlaces (PlaceSyntax check) (to_month_places ++ clock_places) nothing_read (codes "02 Jan 2021 03:04" ++ after) after front
+to_minute : (check : Bool) (after : List ℕ)
+    → MatchesPlaces (PlaceSyntax check) (to_month_places ++ clock_places) nothing_read (codes "02 Jan 2021 03:04" ++ after)
+    after front
 unfolding opt_cfws_colon_opt_cfws opt_cfws cfws fws blanks line_fold no_crlf comment comment_end zero_or_more repeat
 to_minute check after = MatchesPlaces-append (PlaceSyntax check) to_month_places clock_places nothing_read (dated 2 0 false) front
     (codes "02 Jan 2021 03:04" ++ after) (codes "2021 03:04" ++ after) after (to_month check (codes "021 03:04" ++ after)) (form_of (
@@ -265,8 +269,12 @@ year_1899 = record {
 }
 
 -- the places up to the year
-to_year : (after : List ℕ) → MatchesPlaces (PlaceSyntax true) (to_month_places ++ Year ∷ []) nothing_read (codes "02 Jan 2021" ++ after) after (dated 2 2021 true)
-to_year after = MatchesPlaces-append (PlaceSyntax true) to_month_places (Year ∷ []) nothing_read (dated 2 0 false) (dated 2 2021 true) (codes "02 Jan 2021" ++ after)
+to_year : (after : List ℕ)
+    → MatchesPlaces (PlaceSyntax true) (to_month_places ++ Year ∷ []) nothing_read (codes "02 Jan 2021" ++ after) after
+    (dated 2 2021 true)
+to_year after =
+    MatchesPlaces-append (PlaceSyntax true) to_month_places (Year ∷ []) nothing_read (dated 2 0 false) (dated 2 2021 true)
+    (codes "02 Jan 2021" ++ after)
     (codes "2021" ++ after) after (to_month true (codes "021" ++ after)) (form_of ((codes "2021", refl, (true, 2021, search rules, refl)) next done))
 
 no_blanks_after_the_year : (after : List ℕ) → fws after ≡ None → FailsAt true (codes "02 Jan 2021" ++ after) YearBlanks
@@ -290,9 +298,11 @@ comment_after_a_full_year = no_blanks_after_the_year (codes "(x)03:04 GMT") refl
 
 -- the places before the offset
 before_offset : (c : ℕ) (after : List ℕ) → cfws (32 ∷ c ∷ after) ≡ Some (c ∷ after) → opt_cfws_colon_opt_cfws (32 ∷ c ∷ after) ≡ None
-    → MatchesPlaces (PlaceSyntax true) ((to_month_places ++ clock_places) ++ Second ∷ TimeBlanks ∷ []) nothing_read (codes "02 Jan 2021 03:04 " ++ c ∷ after) (c ∷ after) front
+    → MatchesPlaces (PlaceSyntax true) ((to_month_places ++ clock_places) ++ Second ∷ TimeBlanks ∷ []) nothing_read
+    (codes "02 Jan 2021 03:04 " ++ c ∷ after) (c ∷ after) front
 before_offset c after blank no_colon =
-    MatchesPlaces-append (PlaceSyntax true) (to_month_places ++ clock_places) (Second ∷ TimeBlanks ∷ []) nothing_read front front (codes "02 Jan 2021 03:04 " ++ c ∷ after)
+    MatchesPlaces-append (PlaceSyntax true) (to_month_places ++ clock_places) (Second ∷ TimeBlanks ∷ []) nothing_read front front
+    (codes "02 Jan 2021 03:04 " ++ c ∷ after)
     (32 ∷ c ∷ after) (c ∷ after) (to_minute true (32 ∷ c ∷ after))
     (form_of (([], refl, (None, (refl, no_colon), refl)) next (codes " ", refl, (blank, refl)) next done))
 

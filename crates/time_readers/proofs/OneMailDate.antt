@@ -268,31 +268,32 @@ minute_one check_ranges None n a b x y m k p q e = (ap (λ t. t ++ x) (sym p.0) 
 minute_one check_ranges (Some s) n a b x y m k p q e =
     run_says 2 2 (λ v. record n { offset_minute = signed_by (is_negative s) (pos v) }) a b x y p.0 q.0 m k p.1.0 q.1.0 e p.2 q.2
 
-asks_one : (check_ranges : Bool) (p : Place) (n : Numbers) (a b x y : List ℕ) (m k : Numbers) → PlaceSyntax check_ranges p n a x m → PlaceSyntax check_ranges p n b y k
+syntax_once : (check_ranges : Bool) (p : Place) (n : Numbers) (a b x y : List ℕ) (m k : Numbers)
+    → PlaceSyntax check_ranges p n a x m → PlaceSyntax check_ranges p n b y k
     → a ++ x ≡ b ++ y
     → (x ≡ y) × (m ≡ k)
-asks_one check_ranges WeekdayName n a b x y m k p q e =
+syntax_once check_ranges WeekdayName n a b x y m k p q e =
     let is = weekday_part_one a b x y p.0 q.0 p.1 q.1 e in
     (is.0, p.2 ∙ ap (λ v. record n { weekday = v }) is.1 ∙ sym q.2)
-asks_one check_ranges Day n a b x y m k p q e = run_says 1 2 (λ v. record n { day = v }) a b x y p.0 q.0 m k p.1 q.1 e p.3 q.3
-asks_one check_ranges DayBlanks n a b x y m k p q e = blanks_one cfws n a b x y m k p q e
-asks_one check_ranges MonthName n a b x y m k p q e =
+syntax_once check_ranges Day n a b x y m k p q e = run_says 1 2 (λ v. record n { day = v }) a b x y p.0 q.0 m k p.1 q.1 e p.3 q.3
+syntax_once check_ranges DayBlanks n a b x y m k p q e = blanks_one cfws n a b x y m k p q e
+syntax_once check_ranges MonthName n a b x y m k p q e =
     let is = month_one a b x y p.0 q.0 p.1 q.1 e in
     (is.0, p.2 ∙ ap (λ v. record n { month = v }) is.1 ∙ sym q.2)
-asks_one check_ranges MonthBlanks n a b x y m k p q e = blanks_one cfws n a b x y m k p q e
-asks_one check_ranges Year n a b x y m k p q e = year_one n a b x y p.0 q.0 p.1 q.1 m k p.2 q.2 e p.3 q.3
-asks_one check_ranges YearBlanks n a b x y m k p q e = blanks_one (year_blanks n.year_is_full) n a b x y m k p q e
-asks_one check_ranges Hour n a b x y m k p q e = run_says 2 2 (λ v. record n { hour = v }) a b x y p.0 q.0 m k p.1.0 q.1.0 e p.2 q.2
-asks_one check_ranges HourColon n a b x y m k p q e = blanks_one opt_cfws_colon_opt_cfws n a b x y m k p q e
-asks_one check_ranges Minute n a b x y m k p q e = run_says 2 2 (λ v. record n { minute = v }) a b x y p.0 q.0 m k p.1.0 q.1.0 e p.2 q.2
-asks_one check_ranges Second n a b x y m k p q e =
+syntax_once check_ranges MonthBlanks n a b x y m k p q e = blanks_one cfws n a b x y m k p q e
+syntax_once check_ranges Year n a b x y m k p q e = year_one n a b x y p.0 q.0 p.1 q.1 m k p.2 q.2 e p.3 q.3
+syntax_once check_ranges YearBlanks n a b x y m k p q e = blanks_one (year_blanks n.year_is_full) n a b x y m k p q e
+syntax_once check_ranges Hour n a b x y m k p q e = run_says 2 2 (λ v. record n { hour = v }) a b x y p.0 q.0 m k p.1.0 q.1.0 e p.2 q.2
+syntax_once check_ranges HourColon n a b x y m k p q e = blanks_one opt_cfws_colon_opt_cfws n a b x y m k p q e
+syntax_once check_ranges Minute n a b x y m k p q e = run_says 2 2 (λ v. record n { minute = v }) a b x y p.0 q.0 m k p.1.0 q.1.0 e p.2 q.2
+syntax_once check_ranges Second n a b x y m k p q e =
     let is = second_one check_ranges a b x y p.0 q.0 p.1 q.1 e in
     (is.0, p.2 ∙ ap (λ v. record n { second = v }) is.1 ∙ sym q.2)
-asks_one check_ranges TimeBlanks n a b x y m k p q e = blanks_one cfws n a b x y m k p q e
-asks_one check_ranges OffsetHour n a b x y m k p q e = hour_one check_ranges n a b x y m k p q e
-asks_one check_ranges OffsetMinute n a b x y m k p q e = minute_one check_ranges n.offset_sign n a b x y m k p q e
-asks_one check_ranges EndBlanks n a b x y m k p q e = blanks_one opt_cfws n a b x y m k p q e
+syntax_once check_ranges TimeBlanks n a b x y m k p q e = blanks_one cfws n a b x y m k p q e
+syntax_once check_ranges OffsetHour n a b x y m k p q e = hour_one check_ranges n a b x y m k p q e
+syntax_once check_ranges OffsetMinute n a b x y m k p q e = minute_one check_ranges n.offset_sign n a b x y m k p q e
+syntax_once check_ranges EndBlanks n a b x y m k p q e = blanks_one opt_cfws n a b x y m k p q e
 
 -- each place of a mail date matches at most one prefix
 pub MailAsks-unique : (check_ranges : Bool) → AtMostOneEach (PlaceSyntax check_ranges)
-MailAsks-unique check_ranges p n input x y m k s t = asks_one check_ranges p n s.0 t.0 x y m k s.2 t.2 (sym s.1 ∙ t.1)
+MailAsks-unique check_ranges p n input x y m k s t = syntax_once check_ranges p n s.0 t.0 x y m k s.2 t.2 (sym s.1 ∙ t.1)

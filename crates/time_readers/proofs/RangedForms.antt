@@ -139,7 +139,8 @@ minute true n m text ranged_after i a = a
 minute false n m text ranged_after i a = (a.0, (a.1.0, subst (IsWithin true 0 59) (ap (λ x. x.offset_minute) a.2) i), a.2)
 
 -- a text of a place without range checks matches with them, if its number is in range
-ranged_check_ranges : (p : Place) (n m : Numbers) (text ranged_after : List ℕ) → In p m → PlaceSyntax false p n text ranged_after m → PlaceSyntax true p n text ranged_after m
+ranged_check_ranges : (p : Place) (n m : Numbers) (text ranged_after : List ℕ)
+    → In p m → PlaceSyntax false p n text ranged_after m → PlaceSyntax true p n text ranged_after m
 ranged_check_ranges Year n m text ranged_after i a = a
 ranged_check_ranges YearDash n m text ranged_after i a = a
 ranged_check_ranges Month n m text ranged_after i a = (a.0, (a.1.0, subst (IsWithin true 1 12) (ap (λ x. x.month) a.3) i), a.2, a.3)

@@ -28,7 +28,8 @@ unfolding MatchesPlaces
 MatchesPlaces-unique A one [] n m k bytes x y s t = (s.0 ∙ sym t.0, s.1 ∙ sym t.1)
 MatchesPlaces-unique A one (p ∷ ps) n m k bytes x y s t =
     let first = one p n bytes s.0 t.0 s.1 t.1 s.2 t.2 in
-    MatchesPlaces-unique A one ps t.1 m k t.0 x y (subst (λ j. MatchesPlaces A ps j t.0 x m) first.1 (subst (λ b. MatchesPlaces A ps s.1 b x m) first.0 s.3)) t.3
+    MatchesPlaces-unique A one ps t.1 m k t.0 x y
+    (subst (λ j. MatchesPlaces A ps j t.0 x m) first.1 (subst (λ b. MatchesPlaces A ps s.1 b x m) first.0 s.3)) t.3
 
 -- the first place doesn't match, or it does and one of the others is the first that doesn't
 abbrev pub Stops : {P N : Type 0} → Format P N → List P → N → List ℕ → P → Type 0
@@ -125,29 +126,30 @@ minute_one : (check_ranges utc : Bool) (n : Numbers) (a b x y : List ℕ) (m k :
 minute_one check_ranges true n a b x y m k p q e = ((same_front a b x y (ap length (p.0 ∙ sym q.0)) e).1, p.1 ∙ sym q.1)
 minute_one check_ranges false n a b x y m k p q e = run_says 2 2 (λ v. record n { offset_minute = v }) a b x y p.0 q.0 m k p.1.0 q.1.0 e p.2 q.2
 
-asks_one : (check_ranges : Bool) (p : Place) (n : Numbers) (a b x y : List ℕ) (m k : Numbers) → PlaceSyntax check_ranges p n a x m → PlaceSyntax check_ranges p n b y k
+syntax_once : (check_ranges : Bool) (p : Place) (n : Numbers) (a b x y : List ℕ) (m k : Numbers)
+    → PlaceSyntax check_ranges p n a x m → PlaceSyntax check_ranges p n b y k
     → a ++ x ≡ b ++ y → (x ≡ y) × (m ≡ k)
-asks_one check_ranges Year n a b x y m k p q e = run_says 4 4 (λ v. record n { year = v }) a b x y p.0 q.0 m k p.1 q.1 e p.2 q.2
-asks_one check_ranges YearDash n a b x y m k p q e = ((same_front a b x y (ap length (p.0 ∙ sym q.0)) e).1, p.1 ∙ sym q.1)
-asks_one check_ranges Month n a b x y m k p q e = run_says 2 2 (λ v. record n { month = v }) a b x y p.0 q.0 m k p.1.0 q.1.0 e p.3 q.3
-asks_one check_ranges MonthDash n a b x y m k p q e = ((same_front a b x y (ap length (p.0 ∙ sym q.0)) e).1, p.1 ∙ sym q.1)
-asks_one check_ranges Day n a b x y m k p q e = run_says 2 2 (λ v. record n { day = v }) a b x y p.0 q.0 m k p.1.0 q.1.0 e p.2 q.2
-asks_one check_ranges Separator n a b x y m k p q e = ((same_front a b x y (p.0 ∙ sym q.0) e).1, p.1 ∙ sym q.1)
-asks_one check_ranges Hour n a b x y m k p q e = run_says 2 2 (λ v. record n { hour = v }) a b x y p.0 q.0 m k p.1.0 q.1.0 e p.2 q.2
-asks_one check_ranges HourColon n a b x y m k p q e = ((same_front a b x y (ap length (p.0 ∙ sym q.0)) e).1, p.1 ∙ sym q.1)
-asks_one check_ranges Minute n a b x y m k p q e = run_says 2 2 (λ v. record n { minute = v }) a b x y p.0 q.0 m k p.1.0 q.1.0 e p.2 q.2
-asks_one check_ranges MinuteColon n a b x y m k p q e = ((same_front a b x y (ap length (p.0 ∙ sym q.0)) e).1, p.1 ∙ sym q.1)
-asks_one check_ranges Second n a b x y m k p q e = run_says 2 2 (λ v. record n { second = v }) a b x y p.0 q.0 m k p.1.0 q.1.0 e p.2 q.2
-asks_one check_ranges Subsecond n a b x y m k p q e =
+syntax_once check_ranges Year n a b x y m k p q e = run_says 4 4 (λ v. record n { year = v }) a b x y p.0 q.0 m k p.1 q.1 e p.2 q.2
+syntax_once check_ranges YearDash n a b x y m k p q e = ((same_front a b x y (ap length (p.0 ∙ sym q.0)) e).1, p.1 ∙ sym q.1)
+syntax_once check_ranges Month n a b x y m k p q e = run_says 2 2 (λ v. record n { month = v }) a b x y p.0 q.0 m k p.1.0 q.1.0 e p.3 q.3
+syntax_once check_ranges MonthDash n a b x y m k p q e = ((same_front a b x y (ap length (p.0 ∙ sym q.0)) e).1, p.1 ∙ sym q.1)
+syntax_once check_ranges Day n a b x y m k p q e = run_says 2 2 (λ v. record n { day = v }) a b x y p.0 q.0 m k p.1.0 q.1.0 e p.2 q.2
+syntax_once check_ranges Separator n a b x y m k p q e = ((same_front a b x y (p.0 ∙ sym q.0) e).1, p.1 ∙ sym q.1)
+syntax_once check_ranges Hour n a b x y m k p q e = run_says 2 2 (λ v. record n { hour = v }) a b x y p.0 q.0 m k p.1.0 q.1.0 e p.2 q.2
+syntax_once check_ranges HourColon n a b x y m k p q e = ((same_front a b x y (ap length (p.0 ∙ sym q.0)) e).1, p.1 ∙ sym q.1)
+syntax_once check_ranges Minute n a b x y m k p q e = run_says 2 2 (λ v. record n { minute = v }) a b x y p.0 q.0 m k p.1.0 q.1.0 e p.2 q.2
+syntax_once check_ranges MinuteColon n a b x y m k p q e = ((same_front a b x y (ap length (p.0 ∙ sym q.0)) e).1, p.1 ∙ sym q.1)
+syntax_once check_ranges Second n a b x y m k p q e = run_says 2 2 (λ v. record n { second = v }) a b x y p.0 q.0 m k p.1.0 q.1.0 e p.2 q.2
+syntax_once check_ranges Subsecond n a b x y m k p q e =
     let is = subsecond_one a b x y p.0 q.0 p.1 q.1 e in
     (is.0, p.2 ∙ ap (λ v. record n { subsecond = v }) is.1 ∙ sym q.2)
-asks_one check_ranges OffsetHour n a b x y m k p q e = hour_one n a b x y m k p q e
-asks_one check_ranges OffsetColon n a b x y m k p q e = ((same_front a b x y (ap length (colon_one n.is_utc a b p.0 q.0)) e).1, p.1 ∙ sym q.1)
-asks_one check_ranges OffsetMinute n a b x y m k p q e = minute_one check_ranges n.is_utc n a b x y m k p q e
+syntax_once check_ranges OffsetHour n a b x y m k p q e = hour_one n a b x y m k p q e
+syntax_once check_ranges OffsetColon n a b x y m k p q e = ((same_front a b x y (ap length (colon_one n.is_utc a b p.0 q.0)) e).1, p.1 ∙ sym q.1)
+syntax_once check_ranges OffsetMinute n a b x y m k p q e = minute_one check_ranges n.is_utc n a b x y m k p q e
 
 -- each place of RFC 3339 matches at most one prefix
 pub PlaceSyntax-unique : (check_ranges : Bool) → AtMostOneEach (PlaceSyntax check_ranges)
-PlaceSyntax-unique check_ranges p n input x y m k s t = asks_one check_ranges p n s.0 t.0 x y m k s.2 t.2 (sym s.1 ∙ t.1)
+PlaceSyntax-unique check_ranges p n input x y m k s t = syntax_once check_ranges p n s.0 t.0 x y m k s.2 t.2 (sym s.1 ∙ t.1)
 
 -- the input is the text that the reader consumes and its rest
 abbrev pub Leaves : Reader → Type 0

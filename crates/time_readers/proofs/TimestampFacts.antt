@@ -50,7 +50,8 @@ date_2021 check after = form_of (
     (codes "-", refl, (refl, refl)) next
     (codes "02", refl, (2, (search rules, within check 1 31 2 (omega arith) (omega arith)), refl)) next done)
 
-clock_030405 : (check : Bool) (n : Numbers) (after : List ℕ) → MatchesPlaces (PlaceSyntax check) clock_places n (codes "T03:04:05" ++ after) after (at_clock n 3 4 5)
+clock_030405 : (check : Bool) (n : Numbers) (after : List ℕ)
+    → MatchesPlaces (PlaceSyntax check) clock_places n (codes "T03:04:05" ++ after) after (at_clock n 3 4 5)
 clock_030405 check n after = form_of (
     (codes "T", refl, (refl, refl)) next
     (codes "03", refl, (3, (search rules, within check 0 23 3 (omega arith) (omega arith)), refl)) next

@@ -97,8 +97,10 @@ Reads-last A p n m bytes answer result reads e = Walks-last A p n m bytes result
 pub MatchesPlaces-append : {P N : Type 0} (A : Format P N) (ps qs : List P) (n k m : N) (bytes mid rest : List ℕ) → MatchesPlaces A ps n bytes mid k
     → MatchesPlaces A qs k mid rest m → MatchesPlaces A (ps ++ qs) n bytes rest m
 unfolding MatchesPlaces
-MatchesPlaces-append A [] qs n k m bytes mid rest first others = subst (λ b. MatchesPlaces A qs n b rest m) first.0 (subst (λ x. MatchesPlaces A qs x mid rest m) first.1 others)
-MatchesPlaces-append A (p ∷ ps) qs n k m bytes mid rest first others = (first.0, first.1, first.2, MatchesPlaces-append A ps qs first.1 k m first.0 mid rest first.3 others)
+MatchesPlaces-append A [] qs n k m bytes mid rest first others =
+    subst (λ b. MatchesPlaces A qs n b rest m) first.0 (subst (λ x. MatchesPlaces A qs x mid rest m) first.1 others)
+MatchesPlaces-append A (p ∷ ps) qs n k m bytes mid rest first others =
+    (first.0, first.1, first.2, MatchesPlaces-append A ps qs first.1 k m first.0 mid rest first.3 others)
 
 -- the first places match, and not all of the others
 pub StopsAt-after : {P N : Type 0} (A : Format P N) (ps qs : List P) (n k : N) (bytes mid : List ℕ) (e : P) → MatchesPlaces A ps n bytes mid k

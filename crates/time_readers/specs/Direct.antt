@@ -20,18 +20,22 @@ use Rattle.time_readers.specs.declared.direct.MomentNumbers.{MomentNumbers}
 use Rattle.time_readers.specs.declared.rfc2822.Numbers as mail
 use Rattle.time_readers.specs.declared.rfc3339.Numbers.{Numbers}
 
--- the second and the nanosecond of the moment, in which a leap second is the last nanosecond before it
+-- the second of the moment: 59 if the text's second is 60
 abbrev pub moment_second : MomentNumbers → ℕ
 moment_second s = if s.second == 60 then 59 else s.second
 
+-- the nanosecond of the moment: 999999999 if the text's second is 60, whatever its fraction
 abbrev pub moment_nanosecond : MomentNumbers → ℕ
 moment_nanosecond s = if s.second == 60 then 999_999_999 else s.nanosecond
 
--- the error of the month's number, or else of the date
+-- The error of the month's number, or else of the year, or else of the day; or nothing if the calendar has the date. A
+-- month of 0, which neither format's form allows, has no error of its own and counts as a month of 31 days.
 abbrev pub date_refusal : ℕ → MomentNumbers → Option Refusal
 date_refusal Y s = option_or (month_refusal s.month) (calendar_date_refusal Y (pos s.year) s.month s.day)
 
--- the error of the first number that is out of its range
+-- The error of the first number that is out of its range, in the order month, year, day, hour, minute, second,
+-- nanosecond, hour of the offset and minute of the offset; or nothing if each is in its range. A second of 60 is in
+-- range, with any nanosecond.
 abbrev pub first_refusal : ℕ → MomentNumbers → Option Refusal
 first_refusal Y s =
     option_or (date_refusal Y s)
@@ -50,44 +54,49 @@ pub record IsMoment (s : MomentNumbers) (v : OffsetDateTime) : Type 0 where
   pub clock : HasClock s.hour s.minute (moment_second s) (moment_nanosecond s) (offset_time v)
   pub offset : HasOffset s.offset_hour s.offset_minute (pos 0) (offset_of v)
 
--- a second of 60 is the last second of a month in UTC
+-- if the second is 60, the moment is the last nanosecond of a month in UTC
 unfoldable pub IsLeapSecondValid : ℕ → MomentNumbers → OffsetDateTime → Type 0
 IsLeapSecondValid Y s v = s.second ≡ 60 → IsLeapSecondMoment Y (offset_instant Y v)
 
--- each number is in its range, the moment is that of the numbers, and a leap second is only where one may be
+-- each number is in its range, the moment is that of the numbers, and a second of 60 is the last of a month in UTC
 abbrev pub IsMade : ℕ → MomentNumbers → OffsetDateTime → Type 0
 IsMade Y s v = (first_refusal Y s ≡ None) × IsMoment s v × IsLeapSecondValid Y s v
 
--- the error of the first number that is out of its range, or else of a leap second where none may be
+-- the error of the first number out of its range, or else `second` if a second of 60 isn't the last of a month in UTC
 abbrev pub IsNotMade : ℕ → MomentNumbers → Refusal → Type 0
 IsNotMade Y s e =
     (first_refusal Y s ≡ Some e)
     ⊎ ((first_refusal Y s ≡ None) × (e ≡ range (codes "second") true)
     × ((v : OffsetDateTime) × IsMoment s v × (¬ IsLeapSecondValid Y s v)))
 
--- The error if all places have their form: that of the last place's range, or else of trailing bytes, or else of the
+-- The error if each place matches its syntax: that of the last place's range, or else of trailing bytes, or else of the
 -- calendar.
 abbrev pub IsRefusedAfter : ℕ → Option Refusal → MomentNumbers → List ℕ → Refusal → Type 0
 IsRefusedAfter Y (Some r) s rest e = e ≡ r
 IsRefusedAfter Y None s [] e = IsNotMade Y s e
 IsRefusedAfter Y None s (c ∷ rest) e = e ≡ trailing
 
--- the moment of a whole text whose places have their form
-abbrev pub IsDirect : {N : Type 0} → Form N → (N → Option Refusal) → (N → MomentNumbers) → ℕ → List ℕ → OffsetDateTime → Type 0
+-- The moment of a whole text: the text has the form with some numbers, `last` finds no error in them, and `says` maps
+-- them to the moment's numbers, which are in range and make that moment (`IsMade`).
+abbrev pub IsDirect : {N : Type 0} → Form N → (N → Option Refusal) → (N → MomentNumbers) → ℕ → List ℕ
+    → OffsetDateTime → Type 0
 IsDirect {N} form last says Y bytes v = (n : N) × form bytes [] n × (last n ≡ None) × IsMade Y (says n) v
 
--- the error of the first place that doesn't have its form, or else the error if all places have theirs
+-- the error of a text: `fault` of the place at which it fails; or, if a prefix of it has the form, the first error of
+-- `last`, of remaining bytes, and of the moment's numbers that `says` returns
 abbrev pub RefusesDirectly : {P N : Type 0} → Form N → (List ℕ → P → Type 0) → (P → Refusal) → (N → Option Refusal)
     → (N → MomentNumbers) → ℕ → List ℕ → Refusal → Type 0
 RefusesDirectly {P} {N} form fails fault last says Y bytes e =
     ((p : P) × fails bytes p × (e ≡ fault p))
     ⊎ ((rest : List ℕ) × ((n : N) × form bytes rest n × IsRefusedAfter Y (last n) (says n) rest e))
 
--- the error of an offset's minute above 59, which the direct path of RFC 3339 reports for its last place
+-- The error of an offset's minute above 59, which the direct path of RFC 3339 reports for its last place. Nothing for a
+-- minute up to 59.
 abbrev pub minute_refusal : Numbers → Option Refusal
 minute_refusal n = if nat_le n.offset_minute 59 then None else Some (range (codes "minutes") false)
 
--- the moment's numbers from those of RFC 3339: a missing fraction is 0
+-- the moment's numbers from those of RFC 3339: a missing fraction is 0, and the hour and minute of the offset have its
+-- sign
 abbrev pub rfc3339_numbers : Numbers → MomentNumbers
 rfc3339_numbers n = record {
   year = n.year;
@@ -101,7 +110,8 @@ rfc3339_numbers n = record {
   offset_minute = signed_by n.offset_is_negative (pos n.offset_minute);
 }
 
--- the moment's numbers from those of a mail date: a missing second is 0
+-- the moment's numbers from those of a mail date: a missing second is 0, the nanosecond is 0, and the weekday is
+-- dropped
 abbrev pub rfc2822_numbers : mail.Numbers → MomentNumbers
 rfc2822_numbers n = record {
   year = n.year;
@@ -115,25 +125,30 @@ rfc2822_numbers n = record {
   offset_minute = n.offset_minute;
 }
 
--- RFC 3339 on the direct path: its moments, its errors, and its results
+-- the moment of a whole text of RFC 3339, parsed by the direct path
 abbrev pub IsDirectRfc3339 : ℕ → List ℕ → OffsetDateTime → Type 0
 IsDirectRfc3339 = IsDirect (rfc3339.HasForm false) minute_refusal rfc3339_numbers
 
+-- the error of a text that the direct path of RFC 3339 rejects
 abbrev pub RefusesRfc3339 : ℕ → List ℕ → Refusal → Type 0
 RefusesRfc3339 =
     RefusesDirectly (rfc3339.HasForm false) (rfc3339.FailsAt false) rfc3339.fault minute_refusal rfc3339_numbers
 
+-- the result of the direct path of RFC 3339: the moment of the whole text, or the error
 abbrev pub DirectRfc3339 : ℕ → List ℕ → Result OffsetDateTime Parse → Type 0
 DirectRfc3339 Y bytes result =
     MatchResult result (λ v. IsDirectRfc3339 Y bytes v) (λ e. RefusesRfc3339 Y bytes (refusal_of e))
 
--- RFC 2822 on the direct path
+-- the moment of a whole mail date of RFC 2822, parsed by the direct path
 abbrev pub IsDirectRfc2822 : ℕ → List ℕ → OffsetDateTime → Type 0
 IsDirectRfc2822 = IsDirect (rfc2822.HasForm false) (λ n. None) rfc2822_numbers
 
+-- the error of a text that the direct path of RFC 2822 rejects
 abbrev pub RefusesRfc2822 : ℕ → List ℕ → Refusal → Type 0
-RefusesRfc2822 = RefusesDirectly (rfc2822.HasForm false) (rfc2822.FailsAt false) rfc2822.fault (λ n. None) rfc2822_numbers
+RefusesRfc2822 =
+    RefusesDirectly (rfc2822.HasForm false) (rfc2822.FailsAt false) rfc2822.fault (λ n. None) rfc2822_numbers
 
+-- the result of the direct path of RFC 2822: the moment of the whole text, or the error
 abbrev pub DirectRfc2822 : ℕ → List ℕ → Result OffsetDateTime Parse → Type 0
 DirectRfc2822 Y bytes result =
     MatchResult result (λ v. IsDirectRfc2822 Y bytes v) (λ e. RefusesRfc2822 Y bytes (refusal_of e))

@@ -10,17 +10,17 @@ use Rattle.time_readers.specs.declared.iso8601.DateNumbers.TheVariants as number
 use Rattle.time_readers.specs.declared.iso8601.fast.CalendarDigits.{CalendarDigits}
 use Rattle.time_readers.specs.IsoPieces.{Found, year, month, months, numbered, weekday, positive, byte}
 
--- the value of a date
+-- a date: year, month and day; or year and day of the year; or ISO year, week and weekday
 pub data IsoDate : Type 0 where
   calendar : ℤ → Month → ℕ → IsoDate
   ordinal : ℤ → ℕ → IsoDate
   week : ℤ → ℕ → Weekday → IsoDate
 
--- the rest and the value of a form, or its error
+-- the bytes after a form and its date, or its error
 abbrev pub FormOrFault : Type 0
 FormOrFault = Result (List ℕ × IsoDate) Refusal
 
--- a required part, or else that error
+-- the function's result for the part, or the error if the part is missing
 abbrev pub need : {A B : Type 0} → Option A → Refusal → (A → Result B Refusal) → Result B Refusal
 need None e f = Err e
 need (Some a) e f = f a
@@ -30,7 +30,7 @@ abbrev pub dash : Bool → List ℕ → Option (List ℕ)
 dash true bytes = byte 45 bytes
 dash false bytes = Some bytes
 
--- a month and a day
+-- a month and a day in the year y, with a `-` between them if extended; or the error of the first piece that is missing
 abbrev pub first_form : Bool → ℤ → List ℕ → FormOrFault
 first_form extended y bytes =
     need (month bytes) (component (codes "month")) (λ m.
@@ -38,11 +38,12 @@ first_form extended y bytes =
     need (positive 2 after) (component (codes "day")) (λ d.
     Ok (d.0, calendar y m.1 d.1))))
 
--- a day of the year
+-- a day of the year y, or nothing
 abbrev pub second_form : ℤ → List ℕ → Option (List ℕ × IsoDate)
 second_form y bytes = option_map (λ d. (d.0, ordinal y d.1)) (positive 3 bytes)
 
--- a week and a weekday, after the `W`
+-- a week and a weekday in the year y, after the `W`, with a `-` between them if extended; or the error of the first
+-- piece that is missing
 abbrev pub third_form : Bool → ℤ → List ℕ → FormOrFault
 third_form extended y bytes =
     need (positive 2 bytes) (component (codes "week")) (λ w.
@@ -57,18 +58,19 @@ first_standing (Err e) (Some a) third = Ok a
 first_standing (Err e) None (Some third) = third
 first_standing (Err e) None None = Err e
 
--- the form of a date after its year
+-- the form of a date after its year y and, if extended, the `-` after the year; or the error
 unfoldable pub forms : Bool → ℤ → List ℕ → FormOrFault
 forms extended y bytes =
     first_standing (first_form extended y bytes) (second_form y bytes)
     (option_map (third_form extended y) (byte 87 bytes))
 
--- the date with its kind
+-- the date with its kind, or the error unchanged
 abbrev pub of_kind : ExtendedKind → FormOrFault → Result (Found IsoDate) Refusal
 of_kind kind (Err e) = Err e
 of_kind kind (Ok f) = Ok (record { rest = f.0; value = f.1; kind = kind })
 
--- the date after its year: a `-` makes the kind extended, and else it is basic
+-- The date after its year y: a `-` makes the kind extended, and else it is basic. The last parameter is the bytes after
+-- the `-`, or nothing without one.
 abbrev pub after_year : ℤ → List ℕ → Option (List ℕ) → Result (Found IsoDate) Refusal
 after_year y bytes None = of_kind Basic (forms false y bytes)
 after_year y bytes (Some after) = of_kind Extended (forms true y after)

@@ -18,7 +18,7 @@ use Rattle.time_readers.specs.IsoOffsets.{numbers_of}
 use Rattle.time_readers.specs.IsoDates.{AreCalendarDigits}
 use Rattle.time_readers.specs.declared.iso8601.fast.dates_and_times.FirstSixteen.{FirstSixteen}
 
--- the parser of a byte returns the rest
+-- the parser of a byte returns the rest that is found, or `None` if none is
 abbrev pub Leaves : Option (List ℕ) → Option (Bor (List ℕ)) → Type 0
 Leaves found None = found ≡ None
 Leaves found (Some rest) = found ≡ Some rest.now
@@ -33,16 +33,19 @@ ReturnsForm view found (Ok p) = found ≡ Ok (p.0.now, view p.1)
 abbrev pub hour_and_minute : ℕ → ℕ → TimeNumbers
 hour_and_minute h m = record nothing_given { hour = h; minute = m }
 
--- the time with a second, from the number parsed for it and the rest
+-- The time with a second and that kind, from the rest and the number parsed for the second. Nothing for a second above
+-- 60 and for a fraction that rounds to 1.
 abbrev pub second_found : TimeNumbers → ExtendedKind → (List ℕ × Number) → Option (Found TimeNumbers)
 second_found t kind f = option_map (λ u. record { rest = f.0; value = u; kind = kind }) (says any_second f.1 t)
 
--- the rest of a time after an hour and a minute without separators: a second, or nothing
+-- The rest of a time after an hour and a minute without separators: a second, or no bytes. The last parameter is the
+-- number at the front of the bytes with the bytes after it, if there is one. Nothing if that number isn't a second.
 abbrev pub basic_second : TimeNumbers → List ℕ → Option (List ℕ × Number) → Option (Found TimeNumbers)
 basic_second t bytes None = Some (record { rest = bytes; value = t; kind = Basic })
 basic_second t bytes (Some f) = second_found t Basic f
 
--- the rest of a time after an hour and a minute with separators: a colon and a second, or nothing
+-- The rest of a time after an hour and a minute with separators: a colon and a second, or no bytes. The last parameter
+-- is the bytes after a colon, if there is one. Nothing if no second follows the colon.
 abbrev pub extended_second : TimeNumbers → List ℕ → Option (List ℕ) → Option (Found TimeNumbers)
 extended_second t bytes None = Some (record { rest = bytes; value = t; kind = Extended })
 extended_second t bytes (Some after) = option_and_then (second_found t Extended) (number after)
@@ -56,16 +59,18 @@ minute_or_none bytes (Some f) = up_to 59 2 bytes
 abbrev pub with_kind : {V : Type 0} → ExtendedKind → (List ℕ × V) → Found V
 with_kind kind p = record { rest = p.0; value = p.1; kind = kind }
 
--- a minute after a colon if there is one, or without a colon
+-- The minute of an offset after a colon, which makes the kind extended, or without a colon, which doesn't change it.
+-- The last parameter is the bytes after the colon, if there is one.
 abbrev pub minute_after : ExtendedKind → List ℕ → Option (List ℕ) → Option (Found ℕ)
 minute_after kind bytes (Some after) = option_map (with_kind Extended) (up_to 59 2 after)
 minute_after kind bytes None = option_map (with_kind kind) (minute_or_none bytes (digits 2 bytes))
 
--- a colon, in a text that may be extended
+-- the bytes after a colon; nothing if there is none, or if the kind is basic
 abbrev pub colon_of : ExtendedKind → List ℕ → Option (List ℕ)
 colon_of kind bytes = if not_basic kind then byte 58 bytes else None
 
--- the minute of an offset, 0 if it is missing
+-- The minute of an offset after its hour, 0 if it is missing, with the kind after it. Nothing if the minute is above
+-- 59, or missing after a colon where the kind isn't basic. In a basic text a colon is left in the rest.
 unfoldable pub offset_minute : ExtendedKind → List ℕ → Option (Found ℕ)
 offset_minute kind bytes = minute_after kind bytes (colon_of kind bytes)
 
@@ -75,6 +80,7 @@ after_hour kind s h =
     option_map (λ m. record { rest = m.rest; value = numbers_of (Some s) h.1 m.value; kind = m.kind })
     (offset_minute kind h.0)
 
+-- `Z` if there is a rest after it, and else the sign, hour and minute at the front of the bytes
 abbrev pub offset_after : ExtendedKind → List ℕ → Option (List ℕ) → Option (Found OffsetNumbers)
 offset_after kind bytes (Some after) = Some (record { rest = after; value = Zulu; kind = kind })
 offset_after kind bytes None =
@@ -86,11 +92,11 @@ offset_by_pieces kind bytes = offset_after kind bytes (byte 90 bytes)
 
 -- ---- The short forms of ISO 8601
 
--- the number of two digits
+-- the number of two digits, which are given as ASCII bytes
 abbrev pub two_digits : ℕ → ℕ → ℕ
 two_digits tens ones = (tens - 48) * 10 + (ones - 48)
 
--- the number is that second of a time, with that many nanoseconds
+-- the number, rounded half up to nanoseconds, is that second of any hour and minute, with that many nanoseconds
 abbrev pub IsSecondOfTime : Number → ℕ → ℕ → Type 0
 IsSecondOfTime n second nanoseconds =
     (h m : ℕ) → says any_second n (hour_and_minute h m)
@@ -107,5 +113,6 @@ IsClock f =
       kind = f.date.kind;
     })
 
+-- the text begins with the date, the hour and the minute of these digits, if they are in range
 abbrev pub IsFirstSixteen : List ℕ → FirstSixteen → Type 0
 IsFirstSixteen text f = AreCalendarDigits text f.date × IsClock f

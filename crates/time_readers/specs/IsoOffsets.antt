@@ -15,10 +15,11 @@ pub data OffsetPlace : Type 0 where
   colon : OffsetPlace
   minute : OffsetPlace
 
--- tests of the bytes after a text
+-- the bytes don't begin with two digits
 abbrev pub no_digits : List ℕ → Bool
 no_digits bytes = is_none (digits 2 bytes)
 
+-- the bytes begin neither with `:` nor with two digits
 abbrev pub no_colon_no_digits : List ℕ → Bool
 no_colon_no_digits bytes = no_colon bytes && no_digits bytes
 
@@ -38,10 +39,11 @@ pub record OffsetParts : Type 0 where
   pub hour : ℕ
   pub minute : ℕ
 
+-- the values before any place is parsed
 abbrev pub no_offset_parts : OffsetParts
 no_offset_parts = record { signed = None; hour = 0; minute = 0 }
 
--- the match of a place: the rest, and the values with that of the place
+-- the match of a place: the rest, and the values o with that of the place; or nothing if the place doesn't match
 abbrev pub stands : PlaceParser OffsetPlace OffsetParts
 stands z bytes o = option_map (λ rest. (rest, o)) (byte 90 bytes)
 stands plus_or_minus bytes o = option_map (λ f. (f.0, record o { signed = Some f.1 })) (sign bytes)
@@ -66,7 +68,7 @@ numbers_found f = record {
   kind = f.kind;
 }
 
--- the offset at the front of the bytes
+-- the offset at the front of the bytes, by the first row that matches; or nothing if none does
 unfoldable pub offset_text : ExtendedKind → List ℕ → Option (Found OffsetNumbers)
 offset_text kind bytes =
     option_map numbers_found

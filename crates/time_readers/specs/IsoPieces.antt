@@ -18,7 +18,7 @@ use Rattle.time_readers.specs.Readers.{Reader, one_of, ◌or◌}
 use Rattle.time_readers.specs.declared.iso8601.ExtendedKind.{ExtendedKind}
 use Rattle.time_readers.specs.declared.iso8601.Part.{Part}
 
--- from bytes to the rest after a matching prefix, and its value
+-- from bytes to the rest after a matching prefix, and its value; or to nothing, if no prefix matches
 abbrev pub Piece : Type 0 → Type 0
 Piece V = List ℕ → Option (List ℕ × V)
 
@@ -26,24 +26,24 @@ Piece V = List ℕ → Option (List ℕ × V)
 abbrev pub is_digit : ℕ → Bool
 is_digit c = nat_le 48 c && nat_le c 57
 
--- each byte of the text is a digit
+-- each byte of the text is a digit, which also holds for no bytes
 abbrev pub all_digits : List ℕ → Bool
 all_digits [] = true
 all_digits (c ∷ cs) = is_digit c && all_digits cs
 
--- exactly n digits, and their decimal value
+-- The first n digits as their decimal value, or nothing if the bytes begin with fewer. Later digits are in the rest.
 unfoldable pub digits : ℕ → Piece ℕ
 digits n bytes =
     if nat_le n (length bytes) && all_digits (take n bytes)
     then Some (drop n bytes, digits_value (take n bytes))
     else None
 
--- the digits with which the bytes begin
+-- all digits with which the bytes begin, none or more
 abbrev pub leading_digits : List ℕ → List ℕ
 leading_digits [] = []
 leading_digits (c ∷ cs) = if is_digit c then c ∷ leading_digits cs else []
 
--- that byte
+-- that byte at the front, as a reader
 unfoldable pub byte : ℕ → Reader
 byte b = one_of (λ c. nat_eq c b)
 
@@ -51,59 +51,65 @@ byte b = one_of (λ c. nat_eq c b)
 unfoldable pub point : Reader
 point = byte 46 or byte 44
 
--- `-` or `+`
+-- `-` or `+`, as a sign
 unfoldable pub sign : Piece Sign
 sign [] = None
 sign (c ∷ cs) =
     if nat_eq c 45 then Some (cs, Negative) else (if nat_eq c 43 then Some (cs, Positive) else None)
 
--- a number with its sign
+-- the number, negated if the sign is `-`
 abbrev pub with_sign : Sign → ℕ → ℤ
 with_sign s n = signed_by (is_negative s) (pos n)
 
--- six digits after a sign, or four without a sign
+-- A year: six digits after a sign, or four without a sign. The last parameter is the sign and the bytes after it, if
+-- the bytes begin with one.
 abbrev pub year_after : List ℕ → Option (List ℕ × Sign) → Option (List ℕ × ℤ)
 year_after bytes None = option_map (λ f. (f.0, pos f.1)) (digits 4 bytes)
 year_after bytes (Some s) = option_map (λ f. (f.0, with_sign s.1 f.1)) (digits 6 s.0)
 
+-- a year: a sign and six digits, or four digits without a sign
 unfoldable pub year : Piece ℤ
 year bytes = year_after bytes (sign bytes)
 
--- the months and the weekdays, whose numbers begin with 1
+-- the months in order, from January
 abbrev pub months : List Month
 months =
     January ∷ February ∷ March ∷ April ∷ May ∷ June ∷ July ∷ August ∷ September ∷ October ∷ November ∷ December ∷ []
 
+-- the weekdays in order, from Monday
 abbrev pub weekdays : List Weekday
 weekdays = Monday ∷ Tuesday ∷ Wednesday ∷ Thursday ∷ Friday ∷ Saturday ∷ Sunday ∷ []
 
+-- the value of that number in a list, from 1 for the first, or nothing for any other number
 abbrev pub numbered : {A : Type 0} → List A → ℕ → Option A
 numbered all zero = None
 numbered all (suc n) = slice_get all n
 
--- exactly n digits, whose number has a value
+-- the first n digits, as the value that `says` maps their number to; nothing if there are fewer digits, or no value
 abbrev pub mapped_digits : {A : Type 0} → ℕ → (ℕ → Option A) → Piece A
 mapped_digits n says bytes = option_and_then (λ f. option_map (λ a. (f.0, a)) (says f.1)) (digits n bytes)
 
--- two digits of 01 to 12
+-- two digits of 01 to 12, as the month
 unfoldable pub month : Piece Month
 month = mapped_digits 2 (numbered months)
 
--- one digit of 1 to 7
+-- one digit of 1 to 7, as the weekday, 1 for Monday
 unfoldable pub weekday : Piece Weekday
 weekday = mapped_digits 1 (numbered weekdays)
 
--- n digits that are not all 0
+-- the number, or nothing if it is 0
 abbrev pub not_zero : ℕ → Option ℕ
 not_zero v = if nat_eq v 0 then None else Some v
 
+-- n digits that are not all 0, as their number
 unfoldable pub positive : ℕ → Piece ℕ
 positive n = mapped_digits n not_zero
 
--- n digits of a number up to the greatest
+-- the number, or nothing if it is above the greatest
 abbrev pub at_most : ℕ → ℕ → Option ℕ
 at_most greatest v = if nat_le v greatest then Some v else None
 
+-- n digits of a number up to the greatest, which is the first parameter
 unfoldable pub up_to : ℕ → ℕ → Piece ℕ
 up_to greatest n = mapped_digits n (at_most greatest)
 
@@ -112,12 +118,14 @@ pub data Number : Type 0 where
   plain : ℕ → Number
   fraction : ℕ → List ℕ → Number
 
--- a number from its whole part, the digits after a point, and all bytes after the point
+-- A number with a fraction, from its whole part, the digits after a point, and all bytes after the point. Nothing
+-- without digits.
 abbrev pub after_point : ℕ → List ℕ → Piece Number
 after_point whole [] bytes = None
 after_point whole (d ∷ ds) bytes = Some (drop (length (d ∷ ds)) bytes, fraction whole (d ∷ ds))
 
--- a number from its whole part, the bytes after that, and the bytes after a point if there is one
+-- a number from its whole part, the bytes after that, and the bytes after a point if there is one; nothing if no digit
+-- follows the point
 abbrev pub after_whole : ℕ → List ℕ → Option (List ℕ) → Option (List ℕ × Number)
 after_whole whole bytes None = Some (bytes, plain whole)
 after_whole whole bytes (Some after) = after_point whole (leading_digits after) after
@@ -140,16 +148,16 @@ abbrev pub number_of : ℕ → Option (Bor (List ℕ)) → Number
 number_of whole None = plain whole
 number_of whole (Some digits) = fraction whole digits.now
 
--- the parser of a piece returns the rest and the value as viewed
+-- the parser of a piece returns the rest and the value as viewed, or `None` if nothing is found
 abbrev pub ReturnsAs : {V W : Type 0} → (V → W) → Option (List ℕ × W) → Option (ParsedItem V) → Type 0
 ReturnsAs view found None = found ≡ None
 ReturnsAs view found (Some p) = found ≡ Some (p.0.now, view p.1)
 
--- the parser of a piece returns the rest and the value
+-- the parser of a piece returns the rest and the value, or `None` if nothing is found
 abbrev pub Returns : {V : Type 0} → Option (List ℕ × V) → Option (ParsedItem V) → Type 0
 Returns found result = ReturnsAs (λ v. v) found result
 
--- the parser of a part returns the rest, the value, and the kind
+-- the parser of a part returns the rest, the value, and the kind, or `None` if nothing is found
 abbrev pub ReturnsPart : {V : Type 0} → Option (Found V) → Option (Part V) → Type 0
 ReturnsPart found None = found ≡ None
 ReturnsPart found (Some p) = found ≡ Some (record { rest = p.rest.now; value = p.value; kind = p.kind })
@@ -171,7 +179,7 @@ abbrev pub IsYear : Form ℤ
 IsYear text rest v =
     (a : Sign × ℕ) × (v ≡ with_sign a.0 a.1) × IsSigned false (IsDigitRun 6 6) (IsDigitRun 4 4) text rest a
 
--- n digits, whose number has that value
+-- n digits, whose number `says` maps to that value
 abbrev pub IsMappedDigits : {A : Type 0} → ℕ → (ℕ → Option A) → Form A
 IsMappedDigits n says text rest a = (v : ℕ) × IsDigitRun n n text rest v × (says v ≡ Some a)
 
@@ -179,7 +187,7 @@ IsMappedDigits n says text rest a = (v : ℕ) × IsDigitRun n n text rest v × (
 abbrev pub IsPoint : ℕ → Type 0
 IsPoint c = (c ≡ 46) ⊎ (c ≡ 44)
 
--- the text doesn't begin with `.` or `,`
+-- the text is empty, or doesn't begin with `.` or `,`
 abbrev pub NoPointFirst : List ℕ → Type 0
 NoPointFirst [] = Unit {0}
 NoPointFirst (c ∷ cs) = ¬ IsPoint c

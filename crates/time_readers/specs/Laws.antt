@@ -10,7 +10,8 @@ use Rattle.time_readers.specs.IsoOffsets.{offset_texts}
 use Rattle.time_readers.specs.IsoPieces as IsoPieces
 use Rattle.time_readers.specs.declared.iso8601.ExtendedKind.{ExtendedKind}
 
--- the places match the bytes in one way, or there is one first place that doesn't match, and never both
+-- by these places, from the numbers `start`, the bytes have at most one result, at most one first place that doesn't
+-- match, and never both
 pub record OneForm {P N : Type 0} (A : Format P N) (ps : List P) (start : N) (bytes : List ℕ) : Type 0 where
   pub one_reading : (x y : List ℕ) (n m : N)
       → MatchesPlaces A ps start bytes x n → MatchesPlaces A ps start bytes y m → (x ≡ y) × (n ≡ m)
@@ -21,7 +22,7 @@ pub record OneForm {P N : Type 0} (A : Format P N) (ps : List P) (start : N) (by
 abbrev pub Consumes : Reader → Type 0
 Consumes p = (s r : List ℕ) → p s ≡ Some r → (c : ℕ) × (text : List ℕ) × (s ≡ c ∷ (text ++ r))
 
--- the reader is repeated until it rejects
+-- `zero_or_more` repeats the reader until it rejects, and consumes nothing if it rejects at once
 pub record IsRepeated (p : Reader) : Type 0 where
   pub repeats : (s r : List ℕ) → p s ≡ Some r → zero_or_more p s ≡ zero_or_more p r
   pub ends : (s : List ℕ) → p s ≡ None → zero_or_more p s ≡ Some s
@@ -45,7 +46,7 @@ OneTimeRow = (kind : ExtendedKind) (bytes : List ℕ) → length (time_texts kin
 abbrev pub OneOffsetRow : Type 0
 OneOffsetRow = (kind : ExtendedKind) (bytes : List ℕ) → length (offset_texts kind bytes) ≤ 1
 
--- a fraction of a unit is exactly one number
+-- exactly one number is the truncated fraction of a unit, and exactly one the rounded fraction
 pub record OneFraction : Type 0 where
   pub floor : (digits : List ℕ) (unit m : ℕ) → IsFloor digits unit m ↔ (m ≡ floor_of digits unit)
   pub rounded : (digits : List ℕ) (unit m : ℕ) → IsRounded digits unit m ↔ (m ≡ round_of digits unit)
@@ -55,7 +56,7 @@ abbrev pub RangedForms : {N : Type 0} → Form N → Form N → (N → Type 0) �
 RangedForms {N} check_ranges formed InRanges =
     (bytes rest : List ℕ) (n : N) → check_ranges bytes rest n ↔ (formed bytes rest n × InRanges n)
 
--- a direct path has one result for a text: one moment or one error, and never both
+-- a direct path has at most one moment and at most one error for a text, and never both
 pub record OneDirect (value : List ℕ → OffsetDateTime → Type 0) (refuses : List ℕ → Refusal → Type 0) : Type 0 where
   pub one_value : (bytes : List ℕ) (v w : OffsetDateTime) → value bytes v → value bytes w → v ≡ w
   pub one_refusal : (bytes : List ℕ) (e f : Refusal) → refuses bytes e → refuses bytes f → e ≡ f

@@ -23,7 +23,7 @@ crlf = one_of (λ c. c == 13) then one_of (λ c. c == 10)
 unfoldable pub line_fold : Reader
 line_fold = crlf then blanks
 
--- no CRLF comes next
+-- consumes nothing if no CRLF comes next, and else rejects
 unfoldable pub no_crlf : Reader
 no_crlf s = if is_some (crlf s) then None else Some s
 
@@ -85,16 +85,16 @@ zone_hours =
     ∷ (codes "pst", neg_ℤ (pos 8)) ∷ (codes "pdt", neg_ℤ (pos 7))
     ∷ (codes "gmt", pos 0) ∷ []
 
--- the number beside the name in the table
+-- the number beside the name in the table, or nothing if the table lacks the name
 abbrev pub beside : List ℕ → List (List ℕ × ℤ) → Option ℤ
 beside name [] = None
 beside name (row ∷ rows) = if bytes_eq name row.0 then Some row.1 else beside name rows
 
--- the hours of a name of three letters in any case
+-- the hours from UTC of a name of three letters in any case, or nothing for any other name
 unfoldable pub hours_of : List ℕ → Option ℤ
 hours_of name = beside (str_to_ascii_lowercase name) zone_hours
 
--- the names of one letter, which are those of military zones: each letter except `j`
+-- the byte is a lower-case letter that names a military zone: each except `j`
 abbrev pub is_military : ℕ → Bool
 is_military c = is_ascii_lowercase c && not (c == 106)
 
@@ -104,7 +104,7 @@ abbrev pub military_zone : List ℕ → Option (ℤ × List ℕ)
 military_zone [] = None
 military_zone (c ∷ rest) = if is_military (to_ascii_lowercase c) then Some (pos 0, rest) else None
 
--- `UT`, which is UTC, or else a military zone
+-- UTC, with no rest, if the bytes are exactly `UT` in any case; or else a military zone
 abbrev pub short_zone : List ℕ → Option (ℤ × List ℕ)
 short_zone s = if bytes_eq (str_to_ascii_lowercase s) (codes "ut") then Some (pos 0, []) else military_zone s
 

@@ -9,22 +9,22 @@ use Rattle.time_digits.specs.Digits.{Form, Cut, NoCut, IsDigitRun}
 abbrev pub ReaderOf : Type 0 → Type 0
 ReaderOf S = S → Option S
 
--- from bytes to the rest after those that the reader consumes
+-- from bytes to the rest after those that the reader consumes, or nothing if it rejects them
 abbrev pub Reader : Type 0
 Reader = ReaderOf (List ℕ)
 
--- one byte that passes the test
+-- consumes one byte that passes the test, and rejects any other byte and the empty text
 abbrev pub one_of : (ℕ → Bool) → Reader
 one_of test [] = None
 one_of test (c ∷ s) = if test c then Some s else None
 
--- the byte of an ASCII character
+-- consumes the byte of an ASCII character
 abbrev pub char : String → Reader
 char x = one_of (λ c. c == byte x)
 
 infixr 20 ◌then◌
 infixl 15 ◌or◌
--- the first reader, and then the second on its rest
+-- the first reader, and then the second on its rest; rejects if either does
 abbrev pub ◌then◌ : {S : Type 0} → ReaderOf S → ReaderOf S → ReaderOf S
 ◌then◌ p q s = option_and_then q (p s)
 
@@ -61,12 +61,14 @@ IsRead p text after = p (text ++ after) ≡ Some after
 abbrev pub Format : Type 0 → Type 0 → Type 1
 Format P N = P → N → Form N
 
--- the places match: the bytes are their texts, each of its form, and then the rest
+-- The places match: the bytes are their texts, each of its form, and then the rest. The numbers are n before the first
+-- place and m after the last.
 unfoldable pub MatchesPlaces : {P N : Type 0} → Format P N → List P → N → List ℕ → List ℕ → N → Type 0
 MatchesPlaces A [] n bytes rest m = (rest ≡ bytes) × (m ≡ n)
-MatchesPlaces {P} {N} A (p ∷ ps) n bytes rest m = (mid : List ℕ) × (k : N) × Cut (A p n) bytes mid k × MatchesPlaces A ps k mid rest m
+MatchesPlaces {P} {N} A (p ∷ ps) n bytes rest m =
+    (mid : List ℕ) × (k : N) × Cut (A p n) bytes mid k × MatchesPlaces A ps k mid rest m
 
--- the first mismatch: the places before this one match, and this one doesn't
+-- the first mismatch: the places before p match, and p doesn't match after them, with the numbers that they give
 pub record StopsAt {P N : Type 0} (A : Format P N) (ps : List P) (n : N) (bytes : List ℕ) (p : P) : Type 0 where
   pub before : List P
   pub after : List P
@@ -78,11 +80,11 @@ pub record StopsAt {P N : Type 0} (A : Format P N) (ps : List P) (n : N) (bytes 
 
 -- ---- Numbers of places, with or without a range check
 
--- the number is in the range, if it is checked
+-- the number is from `least` to `most`, inclusive, if the range is checked; else any number is
 abbrev pub IsWithin : Bool → ℕ → ℕ → ℕ → Type 0
 IsWithin true least most v = (least ≤ v) × (v ≤ most)
 IsWithin false least most v = Unit {0}
 
--- two digits, whose number is in the range if it is checked
+-- two digits, whose number is from `least` to `most` if the range is checked
 abbrev pub IsTwoDigits : Bool → ℕ → ℕ → Form ℕ
 IsTwoDigits check_ranges least most text after v = IsDigitRun 2 2 text after v × IsWithin check_ranges least most v

@@ -19,7 +19,7 @@ use Rattle.time_readers.specs.declared.rfc2822.Place.TheVariants.{WeekdayName, D
 abbrev pub IsShortWeekday : Form Weekday
 IsShortWeekday = IsShortOf false weekday_name
 
--- blanks, and then no weekday, or one with a comma and blanks after it
+-- optional blanks, and then no weekday, or the first three letters of one with a comma and optional blanks after it
 abbrev pub IsWeekdayPart : Form (Option Weekday)
 IsWeekdayPart text after None = IsRead opt_cfws text after × NoCut IsShortWeekday after
 IsWeekdayPart text after (Some w) =
@@ -28,39 +28,39 @@ IsWeekdayPart text after (Some w) =
     × IsShortWeekday name (44 ∷ (more_blanks ++ after)) w
     × IsRead opt_cfws more_blanks after
 
--- the year of two digits
+-- the year of two digits: 00 to 49 are 2000 to 2049, and greater numbers 1950 to 1999
 abbrev pub year_of_two : ℕ → ℕ
 year_of_two v = if nat_lt v 50 then 2000 + v else 1900 + v
 
--- four digits of 1900 or later, or two if there aren't four
+-- a year: for `true` four digits of 1900 or later; for `false` two digits, where there aren't four, as 1950 to 2049
 abbrev pub IsYear : Bool → Form ℕ
 IsYear true text after v = IsDigitRun 4 4 text after v × (1900 ≤ v)
 IsYear false text after v =
     NoCut (IsDigitRun 4 4) (text ++ after) × ((w : ℕ) × IsDigitRun 2 2 text after w × (v ≡ year_of_two w))
 
--- the text that a reader consumes, without a value
+-- the text is all that a reader consumes, and doesn't change the numbers
 abbrev pub IsSilent : Reader → Numbers → Form Numbers
 IsSilent reader n text after m = IsRead reader text after × (m ≡ n)
 
--- blanks after a year of four digits, also comments after a year of two
+-- the blanks after a year: without comments if it has four digits, which is `true`, and with comments if it has two
 abbrev pub year_blanks : Bool → Reader
 year_blanks true = fws
 year_blanks false = cfws
 
--- nothing if there is no colon, or a colon between blanks and two digits
+-- nothing if there is no colon, or a colon between optional blanks, and two digits, 0 to 60 if ranges are checked
 abbrev pub IsSecond : Bool → Form (Option ℕ)
 IsSecond check_ranges text after None = (text ≡ []) × (opt_cfws_colon_opt_cfws after ≡ None)
 IsSecond check_ranges text after (Some v) =
     (colon digits : List ℕ) × (text ≡ colon ++ digits)
     × IsRead opt_cfws_colon_opt_cfws colon (digits ++ after) × IsTwoDigits check_ranges 0 60 digits after v
 
--- a zone name
+-- a zone name, which stores no sign and its hours from UTC
 abbrev pub IsZone : Numbers → Form Numbers
 IsZone n text after m =
     (hours : ℤ) × (zone_literal (text ++ after) ≡ Some (hours, after))
     × (m ≡ record n { offset_sign = None; offset_hour = hours })
 
--- a sign and two digits, if there is no zone name
+-- a sign and two digits, 0 to 25 if ranges are checked, as an hour with the sign, if there is no zone name
 pub record IsSignedHour (check_ranges : Bool) (n : Numbers) (text after : List ℕ) (m : Numbers) : Type 0 where
   pub no_zone : zone_literal (text ++ after) ≡ None
   pub sign : Sign
@@ -70,7 +70,8 @@ pub record IsSignedHour (check_ranges : Bool) (n : Numbers) (text after : List �
   pub run : IsTwoDigits check_ranges 0 25 digits after hour
   pub says : m ≡ record n { offset_sign = Some sign; offset_hour = signed_by (is_negative sign) (pos hour) }
 
--- two digits after a signed hour, and nothing after a zone name
+-- two digits after a signed hour, 0 to 59 if ranges are checked, as a minute with the hour's sign; and nothing after a
+-- zone name, where there is no sign
 abbrev pub IsOffsetMinute : Bool → Option Sign → Numbers → Form Numbers
 IsOffsetMinute check_ranges None n text after m = (text ≡ []) × (m ≡ n)
 IsOffsetMinute check_ranges (Some sign) n text after m =
@@ -151,7 +152,8 @@ HasForm check_ranges bytes rest m = MatchesPlaces (PlaceSyntax check_ranges) pla
 abbrev pub FailsAt : Bool → List ℕ → Place → Type 0
 FailsAt check_ranges bytes p = StopsAt (PlaceSyntax check_ranges) places nothing_read bytes p
 
--- the error of a place that doesn't match: an invalid component for a number or a name, and else an invalid literal
+-- The error of a place that doesn't match: an invalid literal for the weekday (whose comma is missing), for blanks and
+-- for the colon after the hour, and else an invalid component.
 abbrev pub fault : Place → Refusal
 fault Day = component (codes "day")
 fault MonthName = component (codes "month")

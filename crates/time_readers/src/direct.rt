@@ -18,38 +18,42 @@ use time_values::{Date, Month, OffsetDateTime, Time, UtcOffset};
 
 /// The numbers of a text, from which a direct path makes a moment.
 ///
+/// Most ranges aren't checked yet: a number of two digits may be up to 99, apart from its sign.
+///
 /// No parser returns it. It is public because the laws of parses state what both paths make of it.
 #[derive(Clone, Copy, Debug)]
 pub struct MomentNumbers {
     /// The year, 0 to 9999.
     pub year: u16,
-    /// The number of the month, not 0.
+    /// The number of the month, 1 for January. It isn't 0, but may be above 12.
     pub month: u8,
-    /// The day of the month.
+    /// The day of the month, 0 to 99.
     pub day: u8,
-    /// The hour.
+    /// The hour, 0 to 99.
     pub hour: u8,
-    /// The minute.
+    /// The minute, 0 to 99.
     pub minute: u8,
-    /// The second. 60 is a leap second.
+    /// The second, 0 to 99. 60 is a leap second.
     pub second: u8,
-    /// The fraction of the second, in nanoseconds.
+    /// The fraction of the second, in nanoseconds, 0 to 999999999.
     pub nanosecond: u32,
-    /// The hour of the offset, with its sign.
+    /// The hour of the offset, with the offset's sign, -99 to 99.
     pub offset_hour: i8,
-    /// The minute of the offset, with its sign.
+    /// The minute of the offset, with the offset's sign, -99 to 99.
     pub offset_minute: i8,
 }
 
 /// Parses a whole text of RFC 3339, section 5.6, as a moment.
 ///
-/// A missing fraction is 0. A leap second is parsed as the nanosecond before it.
+/// A missing fraction is 0, and digits after its ninth are dropped. A leap second, a second of 60 with any fraction, is
+/// parsed as second 59 and 999999999 nanoseconds.
 ///
 /// # Errors
 ///
-/// In this order: the first place that doesn't match, as [`rfc3339::place_fault`] names it; `minutes`, if the minute of
-/// the offset is above 59; unexpected trailing characters; the first of `month`, `day` (conditional), `hour`, `minute`
-/// and `second` that is out of range; conditional `second`, if a leap second isn't the last second of a month in UTC.
+/// In this order: the error of the first place that doesn't match, by [`rfc3339::place_fault`]; `minutes` out of range,
+/// if the minute of the offset is above 59; unexpected trailing characters; the first of `month`, `day` (conditional),
+/// `hour`, `minute` and `second` that is out of range; conditional `second`, if a leap second isn't the last second of
+/// a month in UTC.
 pub fn rfc3339(input: &[u8]) -> Result<OffsetDateTime, Parse>
     ensures { DirectRfc3339 greatest_year input.now result }
 {
@@ -70,11 +74,12 @@ pub fn rfc3339(input: &[u8]) -> Result<OffsetDateTime, Parse>
 
 /// Parses a whole mail date of RFC 2822, section 3.3, as a moment.
 ///
-/// A missing second is 0. A leap second is parsed as the nanosecond before it.
+/// A missing second is 0. A leap second, a second of 60, is parsed as second 59 and 999999999 nanoseconds. The weekday
+/// isn't compared with the date.
 ///
 /// # Errors
 ///
-/// In this order: the first place that doesn't match, as [`rfc2822::place_fault`] names it; unexpected trailing
+/// In this order: the error of the first place that doesn't match, by [`rfc2822::place_fault`]; unexpected trailing
 /// characters; the first of `day` (conditional), `hour`, `minute`, `second`, `hours` and `minutes` that is out of
 /// range; conditional `second`, if a leap second isn't the last second of a month in UTC.
 pub fn rfc2822(input: &[u8]) -> Result<OffsetDateTime, Parse>
@@ -86,7 +91,8 @@ pub fn rfc2822(input: &[u8]) -> Result<OffsetDateTime, Parse>
     }
 }
 
-/// The moment's numbers from those of RFC 3339. A missing fraction is 0.
+/// The moment's numbers from those of RFC 3339. A missing fraction is 0. The hour and the minute of the offset have its
+/// sign, and are 0 for `Z`.
 #[inline(always)]
 pub fn rfc3339_numbers(numbers: rfc3339::Numbers) -> MomentNumbers
     requires hour { numbers.offset_hour ≤ 23 }
@@ -106,7 +112,8 @@ pub fn rfc3339_numbers(numbers: rfc3339::Numbers) -> MomentNumbers
     }
 }
 
-/// The moment's numbers from those of a mail date. A missing second is 0.
+/// The moment's numbers from those of a mail date. A missing second is 0, and the nanosecond is 0. The weekday is
+/// dropped.
 #[inline(always)]
 pub fn rfc2822_numbers(numbers: rfc2822::Numbers) -> MomentNumbers
     ensures { result ≡ rfc2822_numbers numbers }
@@ -124,7 +131,8 @@ pub fn rfc2822_numbers(numbers: rfc2822::Numbers) -> MomentNumbers
     }
 }
 
-// The moment of a text, or an error if bytes remain after it or its numbers make no moment.
+// The moment of the numbers. The error is unexpected trailing characters if `rest`, the bytes after the text, isn't
+// empty, and else that of `moment`.
 #[inline(always)]
 fn whole(rest: &[u8], said: MomentNumbers) -> Result<OffsetDateTime, Parse>
     requires year { said.year ≤ greatest_year }
@@ -142,7 +150,8 @@ fn whole(rest: &[u8], said: MomentNumbers) -> Result<OffsetDateTime, Parse>
     }
 }
 
-// The moment of the numbers, or an error if one is out of range or a leap second may not be there.
+// The moment of the numbers. The error is that of the first number out of range, and else conditional `second` if a
+// second of 60 isn't the last of a month in UTC.
 #[inline(always)]
 fn moment(said: MomentNumbers) -> Result<OffsetDateTime, ComponentRange>
     requires year { said.year ≤ greatest_year }
@@ -161,7 +170,7 @@ fn moment(said: MomentNumbers) -> Result<OffsetDateTime, ComponentRange>
     })
 }
 
-// Whether a second of 60, if the text has one, is the last second of a month in UTC.
+// Whether the second isn't 60, or `moment`, that of these numbers, is the last nanosecond of a month in UTC.
 #[inline(always)]
 #[tactic(auto, unfolding(crate::specs::Direct::IsLeapSecondValid))]
 fn is_leap_second_valid(said: MomentNumbers, moment: OffsetDateTime) -> bool
@@ -170,7 +179,8 @@ fn is_leap_second_valid(said: MomentNumbers, moment: OffsetDateTime) -> bool
     said.second != 60 || moment.is_valid_leap_second_stand_in()
 }
 
-// The moment of the numbers, with a second of 60 accepted in any minute.
+// The moment of the numbers, or the error of the first of month, day, hour, minute, second and offset that is out of
+// range. A second of 60 is accepted in any minute, and stored as second 59 and 999999999 nanoseconds.
 #[inline(always)]
 fn moment_of(said: MomentNumbers) -> Result<OffsetDateTime, ComponentRange>
     requires year { said.year ≤ greatest_year }
@@ -185,7 +195,7 @@ fn moment_of(said: MomentNumbers) -> Result<OffsetDateTime, ComponentRange>
     Ok(OffsetDateTime::new_in_offset(date, time, offset))
 }
 
-// The date.
+// The date of the numbers, or the error of the month, or else of the day.
 #[inline(always)]
 #[tactic(auto, using(crate::proofs::MailRanges::month_refused, crate::proofs::MailRanges::date_made))]
 fn date(said: MomentNumbers) -> Result<Date, ComponentRange>
@@ -197,7 +207,7 @@ fn date(said: MomentNumbers) -> Result<Date, ComponentRange>
     Date::from_calendar_date(i32::from(said.year), month, said.day)
 }
 
-// The month of that number.
+// The month of that number, 1 for January, or the error of a number above 12.
 #[inline(always)]
 fn month(number: u8) -> Result<Month, ComponentRange>
     requires { number ≢ 0 }
@@ -209,7 +219,8 @@ fn month(number: u8) -> Result<Month, ComponentRange>
     }
 }
 
-// The time. A leap second becomes the nanosecond before it.
+// The time of day of the numbers, or the error of the first that is out of range. A second of 60 is stored as second 59
+// and 999999999 nanoseconds.
 #[inline(always)]
 fn clock(said: MomentNumbers) -> Result<Time, ComponentRange>
     ensures { Constructs (time_refusal said.hour said.minute (moment_second said) (moment_nanosecond said))
@@ -223,7 +234,8 @@ fn clock(said: MomentNumbers) -> Result<Time, ComponentRange>
     Time::from_hms_nano(said.hour, said.minute, second, nanosecond)
 }
 
-// The offset. That of UTC is a constant: a choice between two equal results, and no second way of reading.
+// The offset of the numbers, or the error of the hour or else the minute, if it is out of range. For an hour and a
+// minute of 0 it is a constant, equal to the result of `from_hms`.
 #[inline(always)]
 fn offset(said: MomentNumbers) -> Result<UtcOffset, ComponentRange>
     ensures { Constructs (offset_refusal said.offset_hour said.offset_minute (pos 0))

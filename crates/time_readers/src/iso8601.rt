@@ -1,8 +1,8 @@
 //! The texts of ISO 8601: their pieces, and the date, the time and the offset of a text.
 //!
 //! A text is extended, with separators, as `2021-01-02T03:04:05+06:07`, or basic, without, as `20210102T030405+0607`.
-//! [`ExtendedKind`] is its kind, as far as that is known. Each part's parser takes the kind before it and returns the
-//! kind after it.
+//! [`ExtendedKind`] is its kind, as far as that is known. The parser of a date determines the kind. The parsers of a
+//! time and of an offset are passed the kind before the part, and return the kind after it.
 //!
 //! `grammar` parses any text, piece by piece. `fast` is tried first, and parses the commonest dates and times many
 //! bytes at once. Where it returns `None`, `grammar` decides: without `fast` the results are equal, and take more
@@ -33,7 +33,7 @@ pub enum ExtendedKind {
 }
 
 impl ExtendedKind {
-    /// Whether the kind may be extended: it isn't basic.
+    /// Whether the kind is extended or unknown.
     #[inline]
     pub fn maybe_extended(self) -> bool
         ensures { result ≡ not_basic self }
@@ -49,7 +49,7 @@ impl ExtendedKind {
         matches!(self, ExtendedKind::Extended)
     }
 
-    /// Makes an unknown kind basic, and returns `Some` exactly if the kind is then basic.
+    /// Makes an unknown kind basic. Returns `None` if the kind is extended, which is then unchanged, and else `Some`.
     #[inline]
     pub fn coerce_basic(&mut self) -> Option<()>
         ensures kind { self.new ≡ basic_where_unknown self.old }
@@ -67,7 +67,7 @@ impl ExtendedKind {
         }
     }
 
-    /// Makes an unknown kind extended, and returns `Some` exactly if the kind is then extended.
+    /// Makes an unknown kind extended. Returns `None` if the kind is basic, which is then unchanged, and else `Some`.
     #[inline]
     pub fn coerce_extended(&mut self) -> Option<()>
         ensures kind { self.new ≡ extended_where_unknown self.old }
@@ -99,7 +99,8 @@ pub struct Part<'a, V> {
 
 /// The numbers of a date.
 ///
-/// They are those of the text: a week or a day may be any number of its two or three digits, except 0.
+/// They are those of the text, and the calendar may not have that date: a year is -999999 to 999999, a day of the month
+/// or a week 1 to 99, and a day of the year 1 to 999.
 #[derive(Clone, Copy, Debug)]
 pub enum DateNumbers {
     /// A year, a month and a day.
@@ -110,7 +111,7 @@ pub enum DateNumbers {
     Week(i32, NonZero<u8>, Weekday),
 }
 
-/// The numbers of a time. A number that the text doesn't have is 0.
+/// The numbers of a time. A number that is missing in the text is 0 if no fraction of a larger unit determines it.
 #[derive(Clone, Copy, Debug)]
 pub struct TimeNumbers {
     /// The hour, 0 to 23.
@@ -119,7 +120,7 @@ pub struct TimeNumbers {
     pub minute: u8,
     /// The second, 0 to 60, where 60 is a leap second.
     pub second: u8,
-    /// The fraction of the second, in nanoseconds.
+    /// The fraction of the second, in nanoseconds, 0 to 999999999.
     pub subsecond: u32,
 }
 
@@ -128,7 +129,7 @@ pub struct TimeNumbers {
 pub struct DateAndTime<'a> {
     /// The date, with all bytes after it as the rest.
     pub date: Part<'a, DateNumbers>,
-    /// The time after the date, if there is one.
+    /// The time after the date, or `None` if no `T` with a valid time follows the date.
     pub time: Option<Part<'a, TimeNumbers>>,
 }
 
@@ -137,16 +138,16 @@ pub struct DateAndTime<'a> {
 pub enum OffsetNumbers {
     /// `Z`, for UTC.
     Zulu,
-    /// The hour, up to 25, and the minute, up to 59, both with the sign. A missing minute is 0.
+    /// The hour, -25 to 25, and the minute, -59 to 59, both with the offset's sign. A missing minute is 0.
     Numeric(i8, i8),
 }
 
 /// Parses the date of a text, which determines the kind of the text.
 ///
 /// A date begins with a year: four digits, or a sign and six digits. If `-` follows the year, the text is extended, and
-/// else it is basic. After that the first of these forms that matches is parsed: a month and a day, with `-` between
-/// them in an extended text; three digits of a day of the year; or `W`, two digits of a week and one of a weekday, with
-/// `-` between them in an extended text.
+/// else it is basic. After that the first of these forms that matches is parsed: two digits of a month, 01 to 12, and
+/// two of a day, not `00`, with `-` between them in an extended text; three digits of a day of the year, not `000`; or
+/// `W`, two digits of a week, not `00`, and one of a weekday, 1 to 7, with `-` between them in an extended text.
 ///
 /// # Errors
 ///
@@ -164,13 +165,19 @@ pub fn date(input: &[u8]) -> Result<Part<'_, DateNumbers>, ParseFromDescription>
 
 /// Parses the time of a text of that kind.
 ///
-/// A time is `T`, which is optional unless `needs_t`, and an hour, a minute and a second of two digits each. The second
-/// is optional, and without it also the minute. The last of these numbers may have a fraction: `.` or `,` and one or
-/// more digits. A fraction of an hour or a minute gives the smaller units, truncated to whole nanoseconds. A fraction
-/// of a second gives the nanoseconds, rounded half up. An extended text has `:` between the numbers, and a basic one
-/// doesn't; an unknown kind becomes the kind that the text shows.
+/// A time is `T`, which is optional unless `needs_t`, and an hour, a minute and a second of two digits each: 0 to 23, 0
+/// to 59 and 0 to 60. The second is optional, and without it also the minute. The last of these numbers may have a
+/// fraction: `.` or `,` and one or more digits. A fraction of an hour or a minute determines the smaller units,
+/// truncated to whole nanoseconds. A fraction of a second is rounded half up to nanoseconds.
 ///
-/// Returns `None` for any other text, for a number out of its range, and for a fraction of a second that rounds to 1.
+/// A basic text has no `:`. An extended text needs `:` before the second, while `:` before the minute is optional. A
+/// `:` after the hour makes an unknown kind extended, and a minute without `:` makes it basic.
+///
+/// All bytes after the time are the rest. Two digits with a point, but no digit after it, are no number.
+///
+/// Returns `None` if a required `T` or the hour is missing; for a `:` after a whole hour if the text is basic or no
+/// minute follows; for a `:` after an extended text's whole minute if no second follows; for a number out of its range;
+/// and for a fraction of a second that rounds to 1.
 #[inline(always)]
 pub fn time<'a>(input: &'a [u8], kind: ExtendedKind, needs_t: bool) -> Option<Part<'a, TimeNumbers>>
     ensures { ReturnsPart (time_text needs_t kind input.now) result }
@@ -183,8 +190,8 @@ pub fn time<'a>(input: &'a [u8], kind: ExtendedKind, needs_t: bool) -> Option<Pa
 
 /// Parses the date of a text, and then `T` and a time if they follow.
 ///
-/// The date, or its error, is that of [`date`]. The time is that of [`time`] for the rest after the date, with its `T`
-/// required.
+/// The date, or its error, is that of [`date`]. The time, or `None`, is that of [`time`] for the rest and the kind
+/// after the date, with its `T` required.
 #[inline(always)]
 pub fn date_and_time(input: &[u8]) -> Result<DateAndTime<'_>, ParseFromDescription>
     ensures { ReturnsDateAndTime input.now result }

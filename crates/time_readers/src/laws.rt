@@ -8,13 +8,14 @@ ghost use Rattle.time_readers.specs.Laws.{OneForm, Consumes, IsRepeated, IsoPiec
 ghost use Rattle.time_readers.specs.Rfc2822 as rfc2822;
 ghost use Rattle.time_readers.specs.Rfc3339 as rfc3339;
 
-/// Parsed as RFC 3339, bytes have one result or one first place that doesn't match, and never both.
+/// Parsed as RFC 3339, bytes have at most one result, at most one first place that doesn't match, and never both.
 pub fn law_one_form()
     ensures { (check_ranges : Bool) (bytes : List ℕ)
         → OneForm (rfc3339.PlaceSyntax check_ranges) rfc3339.places rfc3339.nothing_read bytes }
 {}
 
-/// Parsed as a mail date of RFC 2822, bytes have one result or one first place that doesn't match, and never both.
+/// Parsed as a mail date of RFC 2822, bytes have at most one result, at most one first place that doesn't match, and
+/// never both.
 pub fn law_one_mail_date()
     ensures { (check_ranges : Bool) (bytes : List ℕ)
         → OneForm (rfc2822.PlaceSyntax check_ranges) rfc2822.places rfc2822.nothing_read bytes }
@@ -28,7 +29,7 @@ pub fn law_ranged_forms()
     ensures rfc2822 { RangedForms (rfc2822.HasForm true) (rfc2822.HasForm false) rfc2822.InRanges }
 {}
 
-/// A reader that consumes a byte or more whenever it succeeds is repeated until it rejects.
+/// `zero_or_more` repeats a reader until it rejects, if the reader consumes a byte or more whenever it succeeds.
 pub fn law_repeated()
     ensures { (p : Reader) → Consumes p → IsRepeated p }
 {}
@@ -49,12 +50,12 @@ pub fn law_one_offset_row()
     ensures { OneOffsetRow }
 {}
 
-/// A fraction of a unit, truncated or rounded, is exactly one number.
+/// For any digits and any unit, exactly one number is the truncated fraction, and exactly one the rounded fraction.
 pub fn law_one_fraction()
     ensures { OneFraction }
 {}
 
-/// The direct paths of RFC 3339 and RFC 2822 parse a text as one moment or reject it with one error, and never both.
+/// The direct paths of RFC 3339 and RFC 2822 have at most one moment and at most one error for a text, and never both.
 pub fn law_one_direct()
     ensures rfc3339 { OneDirect (IsDirectRfc3339 greatest_year) (RefusesRfc3339 greatest_year) }
     ensures rfc2822 { OneDirect (IsDirectRfc2822 greatest_year) (RefusesRfc2822 greatest_year) }

@@ -6,7 +6,7 @@ ghost use Rattle.time_readers.specs.Readers.{IsTwoDigits, IsWithin};
 use crate::ParsedItem;
 use crate::combinator::{exactly_n_digits, two_digits};
 
-// Whether the number is in the range. Always true without `CHECK_RANGES`.
+// Whether the number is from `least` to `most`, inclusive. Always true without `CHECK_RANGES`.
 #[inline(always)]
 pub(crate) fn is_in_range<const CHECK_RANGES: bool>(value: u8, least: u8, most: u8) -> bool
     ensures { IsTrue result ↔ IsWithin CHECK_RANGES least most value }
@@ -14,7 +14,8 @@ pub(crate) fn is_in_range<const CHECK_RANGES: bool>(value: u8, least: u8, most: 
     !CHECK_RANGES || (least <= value && value <= most)
 }
 
-// Parses two digits, whose number must be in the range if `CHECK_RANGES`.
+// Parses two ASCII digits as their number, which with `CHECK_RANGES` must be from `least` to `most`, inclusive. Returns
+// `None` for any other input.
 #[inline(always)]
 pub(crate) fn two_digits_in<const CHECK_RANGES: bool>(
     input: &[u8],
@@ -31,7 +32,7 @@ pub(crate) fn two_digits_in<const CHECK_RANGES: bool>(
     }
 }
 
-// Parses four digits.
+// Parses the first four ASCII digits as their number, 0 to 9999. Returns `None` if the input begins with fewer.
 #[inline(always)]
 pub(crate) fn four_digits(input: &[u8]) -> Option<ParsedItem<'_, u16>>
     ensures { Finds (IsDigitRun 4 4) (λ v. v) input.now result }

@@ -19,16 +19,17 @@ use grammar::blanks;
 use time_values::error::ParseFromDescription;
 use time_values::{Month, Weekday};
 
-/// A place of the text, in order.
+/// A place of a mail date, in order. Blanks are one or more spaces, tabs, line folds and comments, as in [`cfws`].
 #[derive(Clone, Copy, Debug, PartialEq, Eq)]
 pub enum Place {
-    /// Blanks, and then nothing or a weekday's name with a comma and blanks after it.
+    /// Optional blanks, and then nothing, or the first three letters of a weekday's name in any case, a comma and
+    /// optional blanks.
     WeekdayName,
     /// One or two digits.
     Day,
     /// Blanks.
     DayBlanks,
-    /// The first three letters of a month's name.
+    /// The first three letters of a month's name, in any case.
     MonthName,
     /// Blanks.
     MonthBlanks,
@@ -38,11 +39,11 @@ pub enum Place {
     YearBlanks,
     /// Two digits.
     Hour,
-    /// `:`, with blanks.
+    /// `:`, with optional blanks before and after it.
     HourColon,
     /// Two digits.
     Minute,
-    /// Nothing, or `:` with blanks and two digits.
+    /// Nothing; or `:`, with optional blanks before and after it, and two digits.
     Second,
     /// Blanks.
     TimeBlanks,
@@ -54,35 +55,36 @@ pub enum Place {
     EndBlanks,
 }
 
-/// The numbers of the places of a text.
+/// The numbers of the places of a text. Without range checks, a number of two digits may be 0 to 99, and the offset's
+/// hour and minute -99 to 99.
 #[derive(Clone, Copy, Debug)]
 pub struct Numbers {
-    /// The weekday, if the text has one.
+    /// The weekday, if the text has one. It may differ from that of the date.
     pub weekday: Option<Weekday>,
-    /// The day of the month.
+    /// The day of the month, 1 to 31 with range checks.
     pub day: u8,
     /// The month.
     pub month: Month,
     /// The year, 1900 to 9999.
     pub year: u16,
-    /// Whether the year has four digits.
+    /// Whether the year has four digits in the text. Two digits are 1950 to 2049.
     pub year_is_full: bool,
-    /// The hour.
+    /// The hour, 0 to 23 with range checks.
     pub hour: u8,
-    /// The minute.
+    /// The minute, 0 to 59 with range checks.
     pub minute: u8,
-    /// The second, if the text has one. 60 is a leap second.
+    /// The second, if the text has one, 0 to 60 with range checks. 60 is a leap second.
     pub second: Option<u8>,
     /// The sign of the offset, or `None` for a zone name.
     pub offset_sign: Option<Sign>,
-    /// The hour of the offset.
+    /// The hour of the offset, with its sign: -25 to 25 with range checks, and -8 to 0 for a zone name.
     pub offset_hour: i8,
-    /// The minute of the offset.
+    /// The minute of the offset, with its sign: -59 to 59 with range checks, and 0 for a zone name.
     pub offset_minute: i8,
 }
 
 impl Numbers {
-    /// The numbers before any place is parsed.
+    /// The numbers before any place is parsed: 0, `None`, false, and January.
     pub const NONE: Numbers = Numbers {
         weekday: None,
         day: 0,
@@ -98,10 +100,12 @@ impl Numbers {
     };
 }
 
-/// Parses the fifteen places of a mail date of RFC 2822, section 3.3, as their numbers and the unparsed rest.
+/// Parses the fifteen places of a mail date of RFC 2822, section 3.3. Returns the unparsed rest, and the numbers of the
+/// places.
 ///
-/// Each place must have its form. With `CHECK_RANGES` each number must also be in its range: day 1 to 31, hour 0 to 23,
-/// minute 0 to 59, second 0 to 60, hour of the offset -25 to 25, minute of the offset 0 to 59.
+/// With `CHECK_RANGES` a place matches only if its number is in its range: day 1 to 31, hour 0 to 23, minute 0 to 59,
+/// second 0 to 60, hour of the offset 0 to 25 and minute of the offset 0 to 59, both without the sign. The year is 1900
+/// or later in any case, and the calendar isn't checked.
 ///
 /// # Errors
 ///
@@ -118,7 +122,8 @@ pub fn read<const CHECK_RANGES: bool>(input: &[u8]) -> Result<ParsedItem<'_, Num
     Ok(ParsedItem(rest, numbers))
 }
 
-// Parses the places up to the day.
+// Parses the places of the weekday and the day, and stores their numbers. Returns the rest, or the first place that
+// doesn't match.
 #[inline(always)]
 fn to_day<'a, const CHECK_RANGES: bool>(
     input: &'a [u8],
@@ -130,7 +135,8 @@ fn to_day<'a, const CHECK_RANGES: bool>(
     grammar::day::<CHECK_RANGES>(rest, numbers).ok_or(Place::Day)
 }
 
-// Parses blanks, and then nothing or a weekday's name, a comma and blanks.
+// Parses optional blanks, and then nothing, or a weekday's name, a comma and optional blanks. Stores the weekday, or
+// `None`. Returns the rest, or `None` for a name without a comma.
 #[inline(always)]
 fn weekday_name<'a>(input: &'a [u8], numbers: &mut Numbers) -> Option<&'a [u8]>
     ensures { Reads (PlaceSyntax false place.WeekdayName numbers.old) input.now result numbers.new }
@@ -141,7 +147,8 @@ fn weekday_name<'a>(input: &'a [u8], numbers: &mut Numbers) -> Option<&'a [u8]>
     }
 }
 
-// Parses the places after the day, up to the offset.
+// Parses the places after the day and before the offset, and stores their numbers. Returns the rest, or the first place
+// that doesn't match.
 #[inline(always)]
 fn to_offset<'a, const CHECK_RANGES: bool>(
     input: &'a [u8],
@@ -155,8 +162,9 @@ fn to_offset<'a, const CHECK_RANGES: bool>(
     }
 }
 
-// Parses the places after the day by `grammar`. With range checks it is a call, since inlined it would leave the fast
-// path fewer registers: a mail date over a record would take 17 instructions more. Without them, inlining saves 15.
+// Parses the places after the day and before the offset by `grammar`. With range checks it is a call, since inlined it
+// would leave the fast path fewer registers: a mail date over a record would take 17 instructions more. Without them,
+// inlining saves 15.
 #[inline(always)]
 fn to_offset_by_places<'a, const CHECK_RANGES: bool>(
     input: &'a [u8],
@@ -171,7 +179,7 @@ fn to_offset_by_places<'a, const CHECK_RANGES: bool>(
     }
 }
 
-// Parses the places after the day by `grammar`, not inlined.
+// Parses the places after the day and before the offset by `grammar`, not inlined.
 #[inline(never)]
 fn to_offset_apart<'a, const CHECK_RANGES: bool>(
     input: &'a [u8],
@@ -182,7 +190,8 @@ fn to_offset_apart<'a, const CHECK_RANGES: bool>(
     grammar::to_offset::<CHECK_RANGES>(input, numbers)
 }
 
-// Parses the places of the offset.
+// Parses the places of the offset and the blanks after it, and stores its numbers. Returns the rest, or the first place
+// that doesn't match.
 #[inline(always)]
 fn offset<'a, const CHECK_RANGES: bool>(
     input: &'a [u8],
@@ -198,7 +207,9 @@ fn offset<'a, const CHECK_RANGES: bool>(
 
 /// The error of a text whose first place that doesn't match is this one.
 ///
-/// It is an invalid component with the place's name if the place is a number or a name, and else an invalid literal.
+/// It is an invalid literal for blanks, for the colon after the hour, and for the weekday, whose comma is missing.
+/// Otherwise it is an invalid component `day`, `month`, `year`, `hour`, `minute`, `second`, `offset hour` or
+/// `offset minute`.
 #[cold]
 #[inline(never)]
 pub fn place_fault(place: Place) -> ParseFromDescription
@@ -244,7 +255,7 @@ pub fn fws(input: &[u8]) -> Option<ParsedItem<'_, ()>>
 /// A comment is in parentheses, and contains ASCII text, bytes after a backslash, blanks by [`fws`], and comments,
 /// nested 31 deep at most, counting the outermost. The byte after a backslash isn't NUL, CR, LF or above 127. A comment
 /// of another form isn't parsed. Returns the rest after the last blank or comment, or `None` if the input begins with
-/// neither.
+/// neither a comment of this form nor blanks that [`fws`] accepts.
 #[inline(always)]
 pub fn cfws(input: &[u8]) -> Option<ParsedItem<'_, ()>>
     ensures { option_map (λ p. p.0.now) result ≡ spec.cfws input.now }
@@ -257,7 +268,7 @@ pub fn cfws(input: &[u8]) -> Option<ParsedItem<'_, ()>>
 
 /// Parses blanks and comments if [`cfws`] does, and else nothing: `[CFWS]` of RFC 2822, section 3.2.3.
 ///
-/// Returns the rest, and never fails.
+/// Returns the rest, which is the whole input if [`cfws`] returns `None`. It never fails.
 #[inline(always)]
 pub fn opt_cfws(input: &[u8]) -> ParsedItem<'_, ()>
     ensures { Some result.0.now ≡ spec.opt_cfws input.now }
@@ -281,11 +292,12 @@ pub fn opt_cfws_colon_opt_cfws(input: &[u8]) -> Option<ParsedItem<'_, ()>>
     }
 }
 
-/// Parses a zone name of RFC 2822, section 4.3, in any case, as its hours from UTC.
+/// Parses a zone name of RFC 2822, section 4.3, in any case, as its hours from UTC, -8 to 0.
 ///
 /// An input of three or more bytes must begin with `EST`, `EDT`, `CST`, `CDT`, `MST`, `MDT`, `PST`, `PDT` or `GMT`. A
-/// shorter one must be `UT`, or begin with a letter other than `J`: both are 0 hours from UTC. Returns `None` for any
-/// other input.
+/// shorter one must be `UT`, or begin with a letter other than `J`, which is parsed alone: both are 0 hours from UTC.
+/// `GMT` is 0, `EDT` -4, `EST` and `CDT` -5, `CST` and `MDT` -6, `MST` and `PDT` -7, and `PST` -8. Returns `None` for
+/// any other input.
 #[inline(always)]
 pub fn zone_literal(input: &[u8]) -> Option<ParsedItem<'_, i8>>
     ensures { option_map (λ p. (p.1, p.0.now)) result ≡ zone_literal input.now }

@@ -6,11 +6,11 @@ use Rattle.std.specs.Option.{option_map}
 use Rattle.time_record.specs.Cells.{is_one, month_in, weekday_in, bits_of}
 use Rattle.time_record.specs.Record.{Record}
 
--- f with x at k
+-- f, but x at k
 abbrev pub changed : {T : Type 0} → (ℕ → T) → ℕ → T → ℕ → T
 changed f k x i = if i == k then x else f i
 
--- the record with cell k stored in its option
+-- the record with the cell value v stored in option k, converted to the option's type; unchanged past cell 22
 abbrev pub put_cell : ℕ → ℤ → Record → Record
 put_cell k v r = record {
   year = if 19 == k then Some v else r.year;
@@ -42,7 +42,7 @@ put_cell k v r = record {
   leap_second_allowed = r.leap_second_allowed;
 }
 
--- the record with flag k set or cleared
+-- the record with flag k, 23 to 26, set or cleared; unchanged for another k
 abbrev pub put_flag : ℕ → Bool → Record → Record
 put_flag k on r = record r {
   offset_is_negative = if 23 == k then on else r.offset_is_negative;
@@ -51,7 +51,7 @@ put_flag k on r = record r {
   leap_second_allowed = if 26 == k then on else r.leap_second_allowed;
 }
 
--- the option of cell 16 + k of a record is the value that was read
+-- the record's option of cell 16 + k is the cell value `o`, converted to the option's type; true past cell 22
 abbrev pub ReadsWide : ℕ → Record → Option ℤ → Type 0
 ReadsWide zero r o = r.year_century ≡ o
 ReadsWide (suc zero) r o = r.iso_year_century ≡ o
@@ -62,7 +62,7 @@ ReadsWide (suc (suc (suc (suc (suc zero))))) r o = r.subsecond ≡ option_map un
 ReadsWide (suc (suc (suc (suc (suc (suc zero)))))) r o = r.unix_timestamp_nanos ≡ o
 ReadsWide (suc (suc (suc (suc (suc (suc (suc k))))))) r o = ⊤
 
--- the option of cell 8 + k of a record is the value that was read
+-- the record's option of cell 8 + k is the cell value `o`, converted to the option's type; true past cell 22
 abbrev pub ReadsClock : ℕ → Record → Option ℤ → Type 0
 ReadsClock zero r o = r.hour_24 ≡ option_map unsigned_abs o
 ReadsClock (suc zero) r o = r.hour_12 ≡ option_map unsigned_abs o
@@ -74,7 +74,7 @@ ReadsClock (suc (suc (suc (suc (suc (suc zero)))))) r o = r.offset_minute ≡ o
 ReadsClock (suc (suc (suc (suc (suc (suc (suc zero))))))) r o = r.offset_second ≡ o
 ReadsClock (suc (suc (suc (suc (suc (suc (suc (suc k)))))))) r o = ReadsWide k r o
 
--- the option of cell k of a record is the value that was read
+-- the record's option of cell k is the cell value `o`, converted to the option's type; true past cell 22
 abbrev pub Reads : ℕ → Record → Option ℤ → Type 0
 Reads zero r o = r.year_last_two ≡ option_map unsigned_abs o
 Reads (suc zero) r o = r.iso_year_last_two ≡ option_map unsigned_abs o
@@ -86,6 +86,6 @@ Reads (suc (suc (suc (suc (suc (suc zero)))))) r o = r.weekday ≡ option_map we
 Reads (suc (suc (suc (suc (suc (suc (suc zero))))))) r o = r.day ≡ option_map unsigned_abs o
 Reads (suc (suc (suc (suc (suc (suc (suc (suc k)))))))) r o = ReadsClock k r o
 
--- whether option k of a record is there, or flag k set
+-- whether option k of a record is there (0 to 22), or flag k set (23 to 26); false past 26
 abbrev pub holds : Record → ℕ → Bool
 holds r k = slice_index_or (bits_of r) k false

@@ -9,50 +9,55 @@ use Rattle.time_components.specs.declared.format_description.Period.TheVariants.
 use Rattle.time_components.specs.Spelling.{Value, number, signed, flagged, month, weekday, period}
 use Rattle.time_record.specs.Record.{Record, Entry, put, year_is, year_century_is, year_last_two_is, iso_year_is, iso_year_century_is, iso_year_last_two_is, month_is, sunday_week_number_is, monday_week_number_is, iso_week_number_is, weekday_is, ordinal_is, day_is, hour_24_is, hour_12_is, hour_12_is_pm_is, minute_is, second_is, subsecond_is, offset_hour_is, offset_minute_is, offset_second_is, unix_timestamp_nanos_is}
 
--- the half of the day that begins at noon
+-- whether the half of the day is PM, the second
 abbrev pub is_pm : Period → Bool
 is_pm Am = false
 is_pm Pm = true
 
--- the record with a number stored as that entry, or none if the value has another form
+-- the record with a number stored as that entry, or none if it is out of range or the value is no unsigned number
 abbrev pub put_number : ℕ → (ℕ → Entry) → Value → Record → Option Record
 put_number Y entry (number n) r = put Y (entry n) r
 put_number Y entry value r = None
 
--- the record with a signed number stored as that entry
+-- the record with a signed number stored as that entry, or none if it is out of range or the value is no signed number
 abbrev pub put_signed : ℕ → (ℤ → Entry) → Value → Record → Option Record
 put_signed Y entry (signed n) r = put Y (entry n) r
 put_signed Y entry value r = None
 
--- the record with a century stored, and whether it has a minus
+-- the record with a century stored as that entry, and whether it is negative (by `century_sign`), or none if it is out
+-- of range or the value is no number with a minus flag
 abbrev pub put_century : ℕ → (ℤ → Bool → Entry) → Value → Record → Option Record
 put_century Y entry (flagged n minus) r = put Y (entry n minus) r
 put_century Y entry value r = None
 
--- the record with the flag of a negative offset
+-- the record with the flag of a negative offset set or cleared
 abbrev pub with_offset_sign : Bool → Record → Record
 with_offset_sign minus r = record r { offset_is_negative = minus }
 
--- the record with an offset's hour stored, and the flag of its sign
+-- the record with an offset's hour stored, and whether it has a minus, or none if it is out of range or the value is no
+-- number with a minus flag
 abbrev pub put_offset_hour : ℕ → Value → Record → Option Record
 put_offset_hour Y (flagged n minus) r =
     option_map (with_offset_sign minus) (put Y (offset_hour_is n) r)
 put_offset_hour Y value r = None
 
--- the record with a month, a weekday or a half of the day stored
+-- the record with a month stored, or none if the value is no month
 abbrev pub put_month : ℕ → Value → Record → Option Record
 put_month Y (month m) r = put Y (month_is m) r
 put_month Y value r = None
 
+-- the record with a weekday stored, or none if the value is no weekday
 abbrev pub put_weekday : ℕ → Value → Record → Option Record
 put_weekday Y (weekday w) r = put Y (weekday_is w) r
 put_weekday Y value r = None
 
+-- the record with a half of the day stored, or none if the value is no half of the day
 abbrev pub put_period : ℕ → Value → Record → Option Record
 put_period Y (period p) r = put Y (hour_12_is_pm_is (is_pm p)) r
 put_period Y value r = None
 
--- the record with a component's value stored, or none if the value is out of range
+-- the record with a component's value stored, or none if the value is out of range or not of the component's kind; an
+-- `Ignore` and an `End` leave the record unchanged, whatever the value
 abbrev pub put_value : ℕ → Component → Value → Record → Option Record
 put_value Y (component.Day m) value r = put_number Y day_is value r
 put_value Y (component.MonthShort m) value r = put_month Y value r
@@ -92,7 +97,8 @@ put_value Y (component.UnixTimestampMicrosecond m) value r = put_signed Y unix_t
 put_value Y (component.UnixTimestampNanosecond m) value r = put_signed Y unix_timestamp_nanos_is value r
 put_value Y (component.End m) value r = Some r
 
--- the error of a component that doesn't match, or whose value is out of range
+-- the error of a component that doesn't match, or whose value is out of range: for an `End` trailing characters, and
+-- else invalid component, with a name that related components share, as "year"
 abbrev pub component_fault : Component → Refusal
 component_fault (component.Day m) = of_component (codes "day")
 component_fault (component.MonthShort m) = of_component (codes "month")

@@ -90,7 +90,7 @@ bit_back_as f false x = refl
 
 -- ---- a list of a known length
 
--- n of its items from i on
+-- n items of the list from index i on, with 0 for one past its end
 abbrev items_from : ℕ → ℕ → List ℤ → List ℤ
 items_from zero i l = []
 items_from (suc n) i l = get_or l i (pos 0) ∷ items_from n (suc i) l
@@ -105,7 +105,7 @@ items_from_is (suc n) i l h =
 
 -- ---- the mask
 
--- n of its bits from i on
+-- n bits of the mask from bit i on, the lowest first
 abbrev pub bits_from : ℕ → ℕ → ℕ → List Bool
 bits_from zero i mask = []
 bits_from (suc n) i mask = bit mask i ∷ bits_from n (suc i) mask
@@ -129,6 +129,7 @@ from_bits_is (suc n) i mask =
 -- ---- all of them
 
 module _ (mask : ℕ) (bytes shorts words : List ℤ) (stamp : ℤ) where
+  -- the record that these fields of a `Parsed` represent: `record_of` of them
   abbrev pub seen : Record
   seen = build (option_at (bit mask) (value_at bytes shorts words stamp)) (bit mask)
 
@@ -210,11 +211,11 @@ module _ (mask : ℕ) (bytes shorts words : List ℤ) (stamp : ℤ) where
 
 -- ---- Converting the fields of a `Parsed` to a record and back
 
--- the record that the fields represent
+-- the record that the fields of a `Parsed` represent
 unfoldable pub record_of : Inside → Record
 record_of a = build (option_at (bit a.mask) (value_at a.bytes a.shorts a.words a.stamp)) (bit a.mask)
 
--- the fields that represent a record
+-- the fields that represent a record, with 0 in each cell of an option that isn't set
 unfoldable pub fields_of : Record → Inside
 fields_of r = record {
   mask = mask_of r;
@@ -224,11 +225,11 @@ fields_of r = record {
   stamp = or_zero r.unix_timestamp_nanos;
 }
 
--- the fields satisfy their invariant
+-- the fields of a `Parsed` satisfy their invariant, for the greatest year Y
 abbrev pub AreSound : ℕ → Inside → Type 0
 AreSound Y a = IsSound Y a.mask a.bytes a.shorts a.words a.stamp
 
--- converting the fields to their record and back returns them
+-- converting fields that satisfy their invariant to their record and back returns them
 pub fields_back : (Y : ℕ) (a : Inside) → AreSound Y a → fields_of (record_of a) ≡ a
 unfolding fields_of record_of
 fields_back Y a sound i = record {

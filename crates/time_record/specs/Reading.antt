@@ -11,7 +11,8 @@ use Rattle.time_components.specs.declared.modifier.Ignore.{Ignore as Ignore'}
 use Rattle.time_record.specs.Components.{component_fault, put_value}
 use Rattle.time_record.specs.Record.{Record}
 
--- A text at the start spells the component, and its value is stored in the record.
+-- The bytes are a text that spells the component, followed by `rest`, and r' is the record r with the text's value
+-- stored (r itself for an `Ignore` or an `End`). If `whole` is true, an `Ignore` has to end between characters.
 pub record ReadsComponent (Y : ℕ) (whole : Bool) (c : Component)
     (bytes : List ℕ) (r : Record) (rest : List ℕ) (r' : Record) : Type 0 where
   pub text : List ℕ
@@ -25,7 +26,8 @@ abbrev pub HasNone : (List ℕ → Record → Type 0) → Type 0
 HasNone P = (rest : List ℕ) (r' : Record) → P rest r' → ⊥
 
 unfoldable mutual
-  -- The tree reads the bytes up to the rest, and changes the first record to the second.
+  -- The tree matches the bytes before `rest`, and changes the record r to r'. If the tree in an optional one doesn't
+  -- match, or there are no alternatives, it matches no bytes and leaves the record unchanged.
   pub Reads : ℕ → Tree → List ℕ → Record → List ℕ → Record → Type 0
   Reads Y (literal t) bytes r rest r' = (bytes ≡ t ++ rest) × (r' ≡ r)
   Reads Y (component whole c) bytes r rest r' = ReadsComponent Y whole c bytes r rest r'
@@ -35,28 +37,30 @@ unfoldable mutual
   Reads Y (first_of none) bytes r rest r' = (rest ≡ bytes) × (r' ≡ r)
   Reads Y (first_of (more t ts)) bytes r rest r' = ReadsSome Y (more t ts) bytes r rest r'
 
-  -- each of the trees in turn, from the rest and the record of the one before
+  -- each of the trees in turn, from the rest and the record of the one before; without trees, the rest is all bytes,
+  -- and the record is unchanged
   pub ReadsAll : ℕ → Trees → List ℕ → Record → List ℕ → Record → Type 0
   ReadsAll Y none bytes r rest r' = (rest ≡ bytes) × (r' ≡ r)
   ReadsAll Y (more t ts) bytes r rest r' =
       (mid : List ℕ) × (q : Record) × Reads Y t bytes r mid q × ReadsAll Y ts mid q rest r'
 
-  -- the first of the trees that reads anything
+  -- the first of the trees that matches; false if none does
   pub ReadsSome : ℕ → Trees → List ℕ → Record → List ℕ → Record → Type 0
   ReadsSome Y none bytes r rest r' = ⊥
   ReadsSome Y (more t ts) bytes r rest r' =
       Reads Y t bytes r rest r' ⊎ (HasNone (Reads Y t bytes r) × ReadsSome Y ts bytes r rest r')
 
--- The tree reads nothing of the bytes with this record.
+-- The tree doesn't match at the start of the bytes with this record.
 abbrev pub NoReading : ℕ → Tree → List ℕ → Record → Type 0
 NoReading Y t bytes r = HasNone (Reads Y t bytes r)
 
--- trees in turn read nothing of the bytes with this record
+-- The trees, one after another, don't all match at the start of the bytes with this record.
 abbrev pub NoReadingAll : ℕ → Trees → List ℕ → Record → Type 0
 NoReadingAll Y ts bytes r = HasNone (ReadsAll Y ts bytes r)
 
 unfoldable mutual
-  -- the error of a tree that reads nothing; for alternatives that of the first
+  -- the error of a tree that doesn't match; for alternatives that of the first one; an optional tree and an empty list
+  -- of alternatives have no error
   pub IsFault : ℕ → Tree → List ℕ → Record → Refusal → Type 0
   IsFault Y (literal t) bytes r e = e ≡ of_literal
   IsFault Y (component whole c) bytes r e = e ≡ component_fault c
@@ -65,19 +69,19 @@ unfoldable mutual
   IsFault Y (first_of none) bytes r e = ⊥
   IsFault Y (first_of (more t ts)) bytes r e = IsFault Y t bytes r e
 
-  -- for trees in turn the error of the first one that reads nothing, after those before it
+  -- for trees one after another the error of the first one that doesn't match; without trees there is no error
   pub IsFaultAll : ℕ → Trees → List ℕ → Record → Refusal → Type 0
   IsFaultAll Y none bytes r e = ⊥
   IsFaultAll Y (more t ts) bytes r e =
       (NoReading Y t bytes r × IsFault Y t bytes r e)
       ⊎ ((mid : List ℕ) × (q : Record) × Reads Y t bytes r mid q × IsFaultAll Y ts mid q e)
 
--- The tree reads nothing, and this is its error.
+-- The tree doesn't match, and e is its error.
 pub record Refuses (Y : ℕ) (t : Tree) (bytes : List ℕ) (r : Record) (e : Refusal) : Type 0 where
   pub unread : NoReading Y t bytes r
   pub fault : IsFault Y t bytes r e
 
--- Trees in turn read nothing, and this is their error.
+-- The trees, one after another, don't all match, and e is the error of the first that doesn't.
 pub record RefusesAll (Y : ℕ) (ts : Trees) (bytes : List ℕ) (r : Record) (e : Refusal) : Type 0 where
   pub unread : NoReadingAll Y ts bytes r
   pub fault : IsFaultAll Y ts bytes r e
@@ -92,7 +96,7 @@ Answers Y t bytes r (Err e) r' = Refuses Y t bytes r (refusal_of_description e) 
 
 -- ---- Readings that leave each character whole. `Y` is the greatest year.
 
--- a component; if it is an `Ignore`, its rest begins with a whole character
+-- if the component is an `Ignore` and matches, its rest is empty or begins with a whole character
 abbrev pub CleanComponent : ℕ → Component → List ℕ → Record → Type 0
 CleanComponent Y c bytes r =
     (modifiers : Ignore') (rest : List ℕ) (q : Record)
@@ -107,13 +111,13 @@ unfoldable mutual
   Clean Y (optional t) bytes r = Clean Y t bytes r
   Clean Y (first_of ts) bytes r = CleanFirst Y ts bytes r
 
-  -- for trees in turn, up to and with the first that reads nothing
+  -- `Clean` for trees one after another, up to and including the first that doesn't match
   pub CleanAll : ℕ → Trees → List ℕ → Record → Type 0
   CleanAll Y none bytes r = Unit {0}
   CleanAll Y (more t ts) bytes r =
       Clean Y t bytes r × ((mid : List ℕ) (q : Record) → Reads Y t bytes r mid q → CleanAll Y ts mid q)
 
-  -- for alternatives, up to and with the first that reads something
+  -- `Clean` for alternatives, up to and including the first that matches
   pub CleanFirst : ℕ → Trees → List ℕ → Record → Type 0
   CleanFirst Y none bytes r = Unit {0}
   CleanFirst Y (more t ts) bytes r =
@@ -128,13 +132,14 @@ abbrev mutual
   unmarked (optional t) = optional (unmarked t)
   unmarked (first_of ts) = first_of (unmarked_all ts)
 
+  -- the trees, each with no component marked
   pub unmarked_all : Trees → Trees
   unmarked_all none = none
   unmarked_all (more t ts) = more (unmarked t) (unmarked_all ts)
 
 -- ---- How many items a reading visits, and how many there are. `Y` is the greatest year.
 
--- the number of nodes
+-- the number of nodes of a tree, itself included
 abbrev mutual
   pub places : Tree → ℕ
   places (literal t) = 1
@@ -143,12 +148,13 @@ abbrev mutual
   places (optional t) = 1 + places t
   places (first_of ts) = 1 + places_of_all ts
 
+  -- the number of nodes of all the trees
   pub places_of_all : Trees → ℕ
   places_of_all none = 0
   places_of_all (more t ts) = places t + places_of_all ts
 
 unfoldable mutual
-  -- Reading the tree, or finding that it reads nothing, visits this many items.
+  -- Matching the tree at the start of the bytes visits n items, whether it matches or not.
   pub Begins : ℕ → Tree → List ℕ → Record → ℕ → Type 0
   Begins Y (literal t) bytes r n = n ≡ 1
   Begins Y (component whole c) bytes r n = n ≡ 1
@@ -156,25 +162,26 @@ unfoldable mutual
   Begins Y (optional t) bytes r n = (k : ℕ) × Begins Y t bytes r k × (n ≡ 1 + k)
   Begins Y (first_of ts) bytes r n = (k : ℕ) × BeginsFirst Y ts bytes r k × (n ≡ 1 + k)
 
-  -- for trees in turn, up to and with the first that reads nothing
+  -- Trees one after another visit n items, up to and including the first that doesn't match; 0 without trees.
   pub BeginsAll : ℕ → Trees → List ℕ → Record → ℕ → Type 0
   BeginsAll Y none bytes r n = n ≡ 0
   BeginsAll Y (more t ts) bytes r n =
       (k : ℕ) × Begins Y t bytes r k × ((NoReading Y t bytes r × (n ≡ k))
       ⊎ ((mid : List ℕ) × (q : Record) × Reads Y t bytes r mid q × (m : ℕ) × BeginsAll Y ts mid q m × (n ≡ k + m)))
 
-  -- for alternatives, up to and with the first that reads something
+  -- Alternatives visit n items, up to and including the first that matches; 0 without alternatives.
   pub BeginsFirst : ℕ → Trees → List ℕ → Record → ℕ → Type 0
   BeginsFirst Y none bytes r n = n ≡ 0
   BeginsFirst Y (more t ts) bytes r n =
       (k : ℕ) × Begins Y t bytes r k × (((mid : List ℕ) × (q : Record) × Reads Y t bytes r mid q × (n ≡ k))
       ⊎ (NoReading Y t bytes r × (m : ℕ) × BeginsFirst Y ts bytes r m × (n ≡ k + m)))
 
--- a count plus a number, at most the greatest number of 64 bits
+-- a count of 64 bits plus a number, or 2 ^ 64 - 1 if the sum is greater
 abbrev pub raised : ℕ → ℕ → ℕ
 raised old n = old + min n (2 ^ 64 - 1 - old)
 
--- The count rises by the number of items visited, which is at most that many.
+-- The count rises from `old` to `new` by a number that satisfies `is_begun` and is at most `most`; it stops at
+-- 2 ^ 64 - 1.
 pub record Rises (is_begun : ℕ → Type 0) (most old new : ℕ) : Type 0 where
   pub begun : ℕ
   pub begins : is_begun begun

@@ -6,6 +6,11 @@ use Rattle.time_values.specs.Dates.{is_within}
 use Rattle.time_values.specs.Instants.{is_instant}
 
 -- the record: an option for each component, and the flags
+--
+-- A century is the year without its last two digits. Its sign is also in a flag, to distinguish -0 from 0. `hour_12` is
+-- 1 to 12, where 12 comes before 1. `subsecond` is in nanoseconds, and `unix_timestamp_nanos` in nanoseconds since
+-- 1970-01-01T00:00:00Z. `offset_minute` and `offset_second` are the stored numbers: `offset_is_negative` negates them
+-- in signed getters and conversions, but doesn't affect `offset_hour`.
 pub record Record : Type 0 where
   pub year : Option ℤ
   pub year_century : Option ℤ
@@ -67,7 +72,7 @@ empty = record {
   leap_second_allowed = false;
 }
 
--- a value for one option; a century comes with whether it is negative, which counts if it is 0
+-- a value for one option, in its unit; a century comes with whether it is negative, which counts only if it is 0
 pub data Entry : Type 0 where
   year_is : ℤ → Entry
   year_century_is : ℤ → Bool → Entry
@@ -93,7 +98,7 @@ pub data Entry : Type 0 where
   offset_second_is : ℤ → Entry
   unix_timestamp_nanos_is : ℤ → Entry
 
--- whether the value is in the range of its option
+-- whether the value is in the range of its option: whether a setter accepts it
 abbrev pub in_range : ℕ → Entry → Bool
 in_range Y (year_is v) = nat_le (unsigned_abs v) Y
 in_range Y (year_century_is v is_negative) = nat_le (unsigned_abs v) (Y / 100)
@@ -128,7 +133,7 @@ abbrev pub century_sign : ℤ → Bool → Bool
 century_sign v is_negative =
     if int_lt v (pos 0) then true else (if int_lt (pos 0) v then false else is_negative)
 
--- the record with that option replaced, and for a century its flag
+-- the record with that option replaced, and for a century its flag, whether or not the value is in range
 abbrev pub put_here : Entry → Record → Record
 put_here (year_is v) r = record r { year = Some v }
 put_here (year_century_is v is_negative) r =
@@ -160,7 +165,8 @@ put_here (unix_timestamp_nanos_is v) r = record r { unix_timestamp_nanos = Some 
 abbrev pub put : ℕ → Entry → Record → Option Record
 put Y entry r = if in_range Y entry then Some (put_here entry r) else None
 
--- the record with the entries stored one after another, or none if a value is out of range
+-- the record with the entries stored one after another, where a later entry replaces an earlier one for its option, or
+-- none if a value is out of range
 abbrev pub put_all : ℕ → List Entry → Record → Option Record
 put_all Y [] r = Some r
 put_all Y (entry ∷ entries) r = option_and_then (put_all Y entries) (put Y entry r)
@@ -188,7 +194,8 @@ pub record IsInRanges (Y : ℕ) (r : Record) : Type 0 where
   pub offset_second : IfSome r.offset_second (λ v. InRange Y (offset_second_is v))
   pub unix_timestamp_nanos : IfSome r.unix_timestamp_nanos (λ v. InRange Y (unix_timestamp_nanos_is v))
 
--- a setter's result and the record after it: the record with the value, or, if the value is rejected, the old one
+-- a setter's result and the record after it, for a wanted record: `Some` and that record, or, if there is none because
+-- the value is rejected, `None` and the old record
 abbrev pub Sets : Option Record → Record → Option (Unit {0}) → Record → Type 0
 Sets (Some r) old (Some _) new = new ≡ r
 Sets None old None new = new ≡ old

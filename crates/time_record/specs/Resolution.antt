@@ -26,7 +26,8 @@ use Rattle.time_record.specs.Record.{Record}
 
 -- ---- The date of a record's components. `Y` is the greatest year.
 
--- the year; or, if it is missing, that of a century and its last two digits, which count away from 0
+-- the year; or, if it is missing, that of a century and its last two digits, which count away from 0; none if one of
+-- these is missing. The flag is the century's sign: -0 and 50 is -50.
 abbrev pub year_of : Option ℤ → Option ℤ → Bool → Option ℕ → Option ℤ
 year_of (Some y) century is_negative last_two = Some y
 year_of None (Some c) true (Some n) = Some (pos 100 *ℤ c -ℤ pos n)
@@ -34,11 +35,11 @@ year_of None (Some c) false (Some n) = Some (pos 100 *ℤ c +ℤ pos n)
 year_of None (Some c) is_negative None = None
 year_of None None is_negative last_two = None
 
--- the calendar year of a record
+-- the calendar year of a record, from that year or its century and last two digits, if they are known
 abbrev pub full_year : Record → Option ℤ
 full_year r = year_of r.year r.year_century r.year_century_is_negative r.year_last_two
 
--- the year of its ISO 8601 week date
+-- the ISO 8601 week-based year of a record, from that year or its century and last two digits, if they are known
 abbrev pub full_iso_year : Record → Option ℤ
 full_iso_year r =
     year_of r.iso_year r.iso_year_century r.iso_year_century_is_negative r.iso_year_last_two
@@ -66,7 +67,7 @@ row_of_three row (Some a) (Some b) None = None
 row_of_three row (Some a) None c = None
 row_of_three row None b c = None
 
--- the first of the five rows whose numbers are all known
+-- the first of the five rows, in the order of `Row`, whose numbers are all known; none if no row is complete
 abbrev pub first_row : Record → Option Row
 first_row r =
     option_or (row_of_two by_ordinal (full_year r) r.ordinal)
@@ -75,13 +76,13 @@ first_row r =
     (option_or (row_of_three by_sunday_week (full_year r) r.sunday_week_number r.weekday)
     (row_of_three by_monday_week (full_year r) r.monday_week_number r.weekday))))
 
--- the date lies in that year and week and has that weekday, if weeks begin on the weekday `start`, and the days before
--- the first such weekday are week 0
+-- the date lies in that year and week and has the weekday w, if weeks begin on the weekday `start`, and the days before
+-- the first such weekday are week 0; a weekday is 0 for Monday to 6 for Sunday
 abbrev pub IsWeekDate : ℕ → ℕ → ℤ → ℕ → ℕ → Date → Type 0
 IsWeekDate Y start year week w d =
     (Dates.year d ≡ year) × (weekdays_so_far Y start d ≡ week) × (weekday Y d ≡ w) × IsDateWithin Y d
 
--- the date has the numbers of the row
+-- the date has the numbers of the row, and lies in the years -Y to Y
 abbrev pub HasRow : ℕ → Row → Date → Type 0
 HasRow Y (by_ordinal year n) d = (Dates.year d ≡ year) × (ordinal d ≡ n) × IsDateWithin Y d
 HasRow Y (by_month_and_day year month day) d = HasParts year month day d × IsDateWithin Y d
@@ -89,7 +90,8 @@ HasRow Y (by_iso_week year week w) d = IsIsoDate Y year week (days_from_monday w
 HasRow Y (by_sunday_week year week w) d = IsWeekDate Y 6 year week (days_from_monday w) d
 HasRow Y (by_monday_week year week w) d = IsWeekDate Y 0 year week (days_from_monday w) d
 
--- the error if no date has the numbers of the row
+-- the error if no date has the numbers of the row; of an ISO week it names the week if the year has no such week, and
+-- else the weekday
 abbrev pub row_refusal : ℕ → Row → Refusal
 row_refusal Y (by_ordinal year n) = range (codes "ordinal") true
 row_refusal Y (by_month_and_day year month day) = range (codes "day") true
@@ -109,7 +111,7 @@ abbrev pub erased_conversion : {V : Type 0} → Result V TryFromParsed → Resul
 erased_conversion (Ok v) = Ok v
 erased_conversion (Err e) = Err (refusal_of_parsed e)
 
--- a value with P, or the given error
+-- the given error, or, if none is given, a value with P
 abbrev pub IsConstructed : {V : Type 0} → Option Refusal → (V → Type 0) → Result V Refusal → Type 0
 IsConstructed None P (Ok v) = P v
 IsConstructed None P (Err e) = ⊥
@@ -127,7 +129,8 @@ unfoldable pub IsDated : ℕ → Record → Result Date Refusal → Type 0
 IsDated Y r result =
     MatchOption (first_row r) (result ≡ Err insufficient) (λ row. IsRowDate Y row result)
 
--- the hour of the day from the hour of a half day, where 12 comes before 1
+-- the hour of the day, 0 to 23, from the hour of a half day, where 12 comes before 1, and whether it is PM; none if one
+-- is missing
 abbrev pub hour_of_half : Option ℕ → Option Bool → Option ℕ
 hour_of_half (Some h) (Some is_pm) = Some (if is_pm then h % 12 + 12 else h % 12)
 hour_of_half (Some h) None = None
@@ -140,7 +143,8 @@ pub record Clock : Type 0 where
   pub second : ℕ
   pub nanosecond : ℕ
 
--- a time of that hour: a second needs a minute, a subsecond a second, and missing parts are 0
+-- a time of that hour, minute, second and nanosecond, where missing ones are 0; none if a second has no minute, or a
+-- subsecond no second
 abbrev pub clock_at : ℕ → Option ℕ → Option ℕ → Option ℕ → Option Clock
 clock_at h None None None = Some (record { hour = h; minute = 0; second = 0; nanosecond = 0 })
 clock_at h (Some m) None None = Some (record { hour = h; minute = m; second = 0; nanosecond = 0 })
@@ -148,7 +152,7 @@ clock_at h (Some m) (Some s) None = Some (record { hour = h; minute = m; second 
 clock_at h (Some m) (Some s) (Some n) = Some (record { hour = h; minute = m; second = s; nanosecond = n })
 clock_at h m s n = None
 
--- the hour of a record's time
+-- the hour of a record's time: its `hour_24`, or, if that is missing, `hour_of_half` of its `hour_12` and half
 abbrev pub hour_of : Record → Option ℕ
 hour_of r = option_or r.hour_24 (hour_of_half r.hour_12 r.hour_12_is_pm)
 
@@ -156,17 +160,18 @@ hour_of r = option_or r.hour_24 (hour_of_half r.hour_12 r.hour_12_is_pm)
 abbrev pub clock_of : Record → Option Clock
 clock_of r = option_and_then (λ h. clock_at h r.minute r.second r.subsecond) (hour_of r)
 
--- the time of a record
+-- the time of a record; without sufficient numbers the error is insufficient information, and for a number out of range
+-- (as a second of 60) that of `time_refusal`
 unfoldable pub IsTimed : Record → Result Time Refusal → Type 0
 IsTimed r result = MatchOption (clock_of r) (result ≡ Err insufficient)
     (λ c. IsConstructed (time_refusal c.hour c.minute c.second c.nanosecond)
     (HasClock c.hour c.minute c.second c.nanosecond) result)
 
--- a part of an offset, with the sign that its getter returns, or 0
+-- a part of an offset, negated if the record's flag of a negative offset is set, or 0 if it is missing
 abbrev pub offset_part : Record → Option ℤ → ℤ
 offset_part r part = unwrap_or (option_map (signed_by r.offset_is_negative) part) (pos 0)
 
--- the seconds of an offset, which count only if its minutes are known
+-- the seconds of an offset, or 0 if they or its minutes are missing
 abbrev pub offset_seconds_of : Record → ℤ
 offset_seconds_of r = option_map_or (λ _. offset_part r r.offset_second) r.offset_minute (pos 0)
 
@@ -189,7 +194,8 @@ unfoldable pub IsPlain : ℕ → Record → Result PlainDateTime Refusal → Typ
 IsPlain Y r = Then (IsDated Y r) (λ d. Then (IsTimed r)
     (λ t result. IsOkAnd result (λ p. (plain_date p ≡ d) × (plain_time p ≡ t))))
 
--- the date and time in UTC at n nanoseconds since 1970, with a given subsecond in place of its own
+-- the date and time in UTC at n nanoseconds since 1970-01-01T00:00:00Z, with the given subsecond, if there is one, in
+-- place of its own
 abbrev pub IsStamped : ℕ → ℤ → Option ℕ → Date → Time → Type 0
 IsStamped Y n subsecond date time =
     (t : Time) × (clock_nanos Y date t ≡ n)
@@ -204,18 +210,20 @@ abbrev pub replace_leap_second : Record → Record
 replace_leap_second r =
     if is_leap_second r then record r { second = Some 59; subsecond = Some 999_999_999 } else r
 
--- a value with P; or, for a leap second that isn't at a month's end, its error
+-- a value with P, if `leap` is false or `AtEnd` holds; or else the error of a leap second that isn't at a month's end
 abbrev pub Judged : {V : Type 0} → Bool → Type 0 → (V → Type 0) → Result V Refusal → Type 0
 Judged leap AtEnd P (Ok v) = P v × (IsTrue leap → AtEnd)
 Judged leap AtEnd P (Err e) = IsTrue leap × (AtEnd → ⊥) × (e ≡ range (codes "second") true)
 
--- the moment of a date, a time and an offset, or their first error, in that order
+-- the moment of a record's date, time and offset, or their first error, in that order; a leap second that is allowed
+-- becomes the last nanosecond before it, or gives an error if that isn't the last of a month in UTC
 unfoldable pub IsMomentOfParts : ℕ → Record → Result OffsetDateTime Refusal → Type 0
 IsMomentOfParts Y r = Then (IsDated Y r) (λ d. Then (IsTimed (replace_leap_second r)) (λ t. Then (IsOffset r)
     (λ o. Judged (is_leap_second r) (IsLeapSecondMoment Y (instant Y d t o))
     (λ v. (offset_date v ≡ d) × (offset_time v ≡ t) × (offset_of v ≡ o)))))
 
--- the moment of a record with its offset: that of its timestamp, in UTC, or else of its parts
+-- the moment of a record with its offset: that of its timestamp, in UTC, with the record's subsecond if there is one,
+-- or else of its parts
 unfoldable pub IsMoment : ℕ → Record → Result OffsetDateTime Refusal → Type 0
 IsMoment Y r result = MatchOption r.unix_timestamp_nanos (IsMomentOfParts Y r result)
     (λ n. IsOkAnd result
@@ -226,26 +234,29 @@ abbrev pub IsInUtc : ℕ → ℤ → Result UtcDateTime Refusal → Type 0
 IsInUtc Y n (Ok u) = (utc_instant Y u ≡ n) × IsDateWithin Y (utc_date u)
 IsInUtc Y n (Err e) = (IsInstant Y n → ⊥) × (e ≡ range (codes "year") true)
 
--- the moment in UTC of a date, a time and an offset, or their first error, in that order, and then its own
+-- the moment in UTC of a record's date, time and offset (UTC if its hour is missing), or their first error, in that
+-- order, and then the error of a moment without a date in UTC; a leap second that is allowed becomes the last
+-- nanosecond before it, or gives an error if that isn't the last of a month
 unfoldable pub IsUtcMomentOfParts : ℕ → Record → Result UtcDateTime Refusal → Type 0
 IsUtcMomentOfParts Y r = Then (IsDated Y r) (λ d. Then (IsTimed (replace_leap_second r)) (λ t. Then (IsOffsetOrUtc r)
     (λ o. Then (IsInUtc Y (instant Y d t o))
     (λ u. Judged (is_leap_second r) (IsLastNanosecondOfMonth (utc_date u) (utc_time u))
     (λ v. (utc_date v ≡ utc_date u) × (utc_time v ≡ utc_time u))))))
 
--- the moment of a record in UTC
+-- the moment of a record in UTC: that of its timestamp, with the record's subsecond if there is one, or else of its
+-- parts
 unfoldable pub IsUtcMoment : ℕ → Record → Result UtcDateTime Refusal → Type 0
 IsUtcMoment Y r result = MatchOption r.unix_timestamp_nanos (IsUtcMomentOfParts Y r result)
     (λ n. IsOkAnd result (λ v. IsStamped Y n r.subsecond (utc_date v) (utc_time v)))
 
--- the instant of that moment in UTC; each of its errors is replaced by insufficient information
+-- the instant of the moment of `IsUtcMomentOfParts`; each of its errors is replaced by insufficient information
 unfoldable pub IsInstantOfParts : ℕ → Record → Result Timestamp Refusal → Type 0
 IsInstantOfParts Y r (Ok v) =
     (u : UtcDateTime) × IsUtcMomentOfParts Y r (Ok u) × (nanoseconds v ≡ utc_instant Y u)
 IsInstantOfParts Y r (Err e) =
     ((refused : Refusal) × IsUtcMomentOfParts Y r (Err refused)) × (e ≡ insufficient)
 
--- the instant of a record: its timestamp, or else that of its parts
+-- the instant of a record: its timestamp, without regard to the subsecond, or else that of its parts
 unfoldable pub IsTimestamp : ℕ → Record → Result Timestamp Refusal → Type 0
 IsTimestamp Y r result = MatchOption r.unix_timestamp_nanos (IsInstantOfParts Y r result)
     (λ n. IsOkAnd result (λ v. (nanoseconds v ≡ n) × IsInstant Y (nanoseconds v)))

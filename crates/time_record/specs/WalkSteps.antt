@@ -18,11 +18,12 @@ pub record Resumes (Y : ℕ) (all : Trees) (b0 : List ℕ) (r0 : Record) (begun 
   pub refuses : (e : Refusal) → RefusesAll Y left b r e → RefusesAll Y all b0 r0 e
   pub begins : (m : ℕ) → BeginsAll Y left b r m → BeginsAll Y all b0 r0 (begun + m)
 
--- The count rises by the number of items that alternatives visit, at most their number of nodes.
+-- The count rises by the number of items that alternatives visit, at most their number of nodes, without the group
+-- around them.
 abbrev pub CountsFirst : ℕ → Trees → List ℕ → Record → ℕ → ℕ → Type 0
 CountsFirst Y ts bytes r = Rises (BeginsFirst Y ts bytes r) (places_of_all ts)
 
--- The steps are that byte, as a further byte of a literal, and these steps after it.
+-- The steps `steps` begin with that byte, as a further byte of a literal, and `behind` are the steps after it.
 pub record IsFurther (byte : ℕ) (behind steps : List Step) : Type 0 where
   pub further : further_bytes steps ≡ byte ∷ further_bytes behind
   pub after : drop (length (further_bytes behind)) behind ≡ drop (length (further_bytes steps)) steps
@@ -42,12 +43,13 @@ Attempts Y t bytes r None r' = Unread Y t bytes r r'
 
 -- ---- The results of the walk's short cuts. `Y` is the greatest year.
 
--- the rest and the record of a reading; or the short cut doesn't apply, and the record is unchanged
+-- the rest and the record of a reading; or, for `None`, the short cut doesn't apply, and the record is unchanged
 abbrev pub MayRead : ℕ → Tree → List ℕ → Record → Option (Bor (List ℕ)) → Record → Type 0
 MayRead Y t bytes r (Some rest) r' = Reads Y t bytes r rest.now r'
 MayRead Y t bytes r None r' = r' ≡ r
 
--- the reading of a tree, or no reading; or the short cut doesn't apply, and the record is unchanged
+-- a result that satisfies `Attempts`; or, for the outer `None`, the short cut doesn't apply, and the record is
+-- unchanged
 abbrev pub MayAttempt : ℕ → Tree → List ℕ → Record → Option (Option (Bor (List ℕ))) → Record → Type 0
 MayAttempt Y t bytes r (Some read) r' = Attempts Y t bytes r read r'
 MayAttempt Y t bytes r None r' = r' ≡ r
@@ -58,12 +60,12 @@ IsLeaf (literal t) = Unit {0}
 IsLeaf (component whole c) = Unit {0}
 IsLeaf t = ⊥
 
--- the error of a literal or a component that doesn't match
+-- the error of a literal or a component that doesn't match; for another tree, the error of a literal
 abbrev pub leaf_refusal : Tree → Refusal
 leaf_refusal (component whole c) = component_fault c
 leaf_refusal t = of_literal
 
--- The first of the trees is a leaf, and doesn't match.
+-- The first of the trees is a leaf that doesn't match, and e is its error.
 pub record RefusesLeaf (Y : ℕ) (ts : Trees) (bytes : List ℕ) (r : Record) (e : Refusal) : Type 0 where
   pub leaf : Tree
   pub later : Trees

@@ -20,14 +20,14 @@ use std::marker::Model;
 
 /// The known components of a date and time.
 ///
-/// A format fills it, and `TryFrom` converts it to a value. To control either, fill or read it by hand. Each component
-/// has a getter, a setter `set_..` and a builder `with_..`. If the value is out of range, a setter returns `None` and
-/// changes nothing, and a builder returns `None`.
+/// Parsing stores components in it, and `TryFrom` converts it to a value. Each component also has a getter, a setter
+/// `set_..` and a builder `with_..`. If the value is out of range, a setter returns `None` and changes nothing, and a
+/// builder returns `None`. Components are stored independently: a conversion checks only those that it uses.
 #[derive(Clone, Copy)]
 pub struct Parsed {
-    // One bit for each option that is set, and the flags.
+    // One bit for each component, 1 if it is set, and one for each flag.
     mask: u32,
-    // The values of the options by size, or 0.
+    // The values of the components by size; 0 for one that isn't set.
     bytes: [i8; 16],
     shorts: [i16; 3],
     words: [i32; 3],
@@ -77,8 +77,9 @@ impl Parsed {
         }
     }
 
-    /// Allows a second of 60 as a leap second, as some formats do. A date and time then resolves it, at the end of a
-    /// month in UTC, to the last nanosecond before it.
+    /// Allows a second of 60 as a leap second, as some formats do. `OffsetDateTime`, `UtcDateTime` and `Timestamp` then
+    /// convert it to the last nanosecond before it, or reject it if that doesn't end a month in UTC. `Time` and
+    /// `PlainDateTime` always reject it. Setting and parsing a second of 60 needs no permission.
     #[inline]
     pub fn allow_leap_second(&mut self)
         ensures { self.new ≡ record self.old { leap_second_allowed = true } }
@@ -86,7 +87,7 @@ impl Parsed {
         self.set_flag(LEAP_SECOND_ALLOWED, true);
     }
 
-    // Whether a second of 60 may be a leap second.
+    // Whether a second of 60 may be a leap second: whether `allow_leap_second` was called.
     #[inline]
     fn is_leap_second_allowed(&self) -> bool
         ensures { result ≡ self.now.leap_second_allowed }
@@ -94,7 +95,9 @@ impl Parsed {
         self.flag(LEAP_SECOND_ALLOWED)
     }
 
-    /// Clears the flag of a negative offset, which parsing an offset's hour sets.
+    /// Clears the flag of a negative offset. Parsing an offset's hour sets it if the hour has a minus, and else clears
+    /// it; setters don't change it. While it is set, `offset_minute_signed` and `offset_second_signed` return the
+    /// stored numbers negated. This call leaves the stored components unchanged.
     #[inline]
     pub fn forget_offset_sign(&mut self)
         ensures { self.new ≡ record self.old { offset_is_negative = false } }
@@ -103,6 +106,8 @@ impl Parsed {
     }
 }
 
+// Prints the components, then the flags. The offset's minutes and seconds are the stored numbers, not negated by the
+// flag.
 impl fmt::Debug for Parsed {
     fn fmt<W: fmt::Write>(&self, f: &mut fmt::Formatter<W>) -> fmt::Result {
         f.debug_struct("Parsed")

@@ -598,7 +598,7 @@ mod owned {
             OwnedError::Invalid(InvalidFormatDescription::UnclosedOpeningBracket { index: 2 }),
             "unclosed opening bracket at byte index 2",
         ),
-        (OwnedError::Memory(AllocError), "memory is short"),
+        (OwnedError::Memory(AllocError), "out of memory"),
     ];
 
     #[test]

@@ -8,19 +8,20 @@ use time_values::error::Parse;
 // The hour, the minute, the second and the nanosecond.
 type Clock = (u8, u8, u8, u32);
 
-// A component that a description reads.
+// The item of a component with these modifiers.
 macro_rules! item {
     ($name:ident, $($field:ident: $value:expr),*) => {
         BorrowedFormatItem::Component(Component::$name(modifier::$name { $($field: $value),* }))
     };
 }
 
+// A point, and a fraction of one or more digits.
 const FRACTION_ITEMS: [BorrowedFormatItem<'static>; 2] = [
     BorrowedFormatItem::StringLiteral("."),
     item!(Subsecond, digits: SubsecondDigits::OneOrMore),
 ];
 
-// `:09`, with an optional fraction.
+// A colon and a second, such as `:09`, with an optional fraction.
 fn second_items<'a>(fraction: &'a BorrowedFormatItem<'a>) -> [BorrowedFormatItem<'a>; 3] {
     [
         BorrowedFormatItem::StringLiteral(":"),
@@ -41,12 +42,13 @@ fn clock_items<'a>(seconds: &'a BorrowedFormatItem<'a>) -> [BorrowedFormatItem<'
     ]
 }
 
-// The time of the text by the format.
+// The time of the text by the format, over the defaults, or the error.
 fn time_by<F: Parsable>(format: &F, text: &[u8], defaults: Option<Parsed>) -> Result<Clock, Parse> {
     Ok(format.parse_time(text, defaults)?.as_hms_nano())
 }
 
-// The time of a text such as `1:05:09.25 PM`, in which the second and its fraction are optional.
+// The time of a text such as `1:05:09.25 PM`, in which the second and its fraction are optional, over the defaults, or
+// the error.
 fn clock(text: &[u8], defaults: Option<Parsed>) -> Result<Clock, Parse> {
     let fraction = BorrowedFormatItem::Compound(&FRACTION_ITEMS);
     let seconds = second_items(&fraction);
@@ -55,12 +57,14 @@ fn clock(text: &[u8], defaults: Option<Parsed>) -> Result<Clock, Parse> {
     time_by(&BorrowedFormatItem::Compound(&items), text, defaults)
 }
 
-// A text, and its offset with the default second of 10.
+// A text, and its offset in hours, minutes and seconds if the default second of an offset is 10.
 static OFFSETS: [(&[u8], (i8, i8, i8)); 2] = [
     (b"2021-01-02T03:04:05-00:30", (0, -30, -10)),
     (b"2021-01-02T03:04:05Z", (0, 0, 0)),
 ];
 
+// The hours, minutes and seconds of the offset of a text of RFC 3339, if the default second of an offset is 10; `None`
+// if the text is rejected.
 fn offset_over_ten_seconds(text: &[u8]) -> Option<(i8, i8, i8)> {
     let defaults = Parsed::new().with_offset_second_signed(10)?;
     let offset = Rfc3339.parse_offset(text, Some(defaults)).ok()?;
@@ -77,13 +81,14 @@ fn stale_defaults(rt: HostRuntime) {
     }
 }
 
-// A default that the text keeps.
+// A default that the text keeps. The one of a subsecond is in nanoseconds.
 enum Kept {
     Subsecond(u32),
     Second(u8),
     Hour(u8),
 }
 
+// The record with that default alone; `None` if it is out of its range.
 fn record(kept: &Kept) -> Option<Parsed> {
     match kept {
         Kept::Subsecond(nanosecond) => Parsed::new().with_subsecond(*nanosecond),
@@ -118,6 +123,7 @@ static TIMES: [(Format, &[u8], Kept, Clock); 4] = [
     (Format::Clock, b"3:04 PM", Kept::Hour(1), (1, 4, 0, 0)),
 ];
 
+// The time of the text by that format, over the defaults, or the error.
 fn timed(format: &Format, text: &[u8], defaults: Option<Parsed>) -> Result<Clock, Parse> {
     match format {
         Format::Rfc2822 => time_by(&Rfc2822, text, defaults),
@@ -138,6 +144,7 @@ fn stale_defaults_of_times(rt: HostRuntime) {
     }
 }
 
+// The text has no second, and the second of the defaults is a leap second.
 #[test]
 fn stale_defaults_of_leap_seconds(rt: HostRuntime) {
     let leap = Parsed::new().with_second(60);

@@ -28,8 +28,11 @@ pub enum Part {
     Date,
     Time,
     Offset,
+    /// A date and a time without an offset.
     Plain,
+    /// A date and a time in UTC.
     Utc,
+    /// A date and a time with an offset.
     Moment,
 }
 
@@ -54,7 +57,7 @@ pub fn numbers(moment: OffsetDateTime) -> Numbers {
     )
 }
 
-/// The moment of these numbers.
+/// The moment of these numbers, or the error of a number that is out of its range.
 pub fn moment((date, time, offset): Numbers) -> Result<OffsetDateTime, ComponentRange> {
     let date = Date::from_calendar_date(date.0, date.1, date.2)?;
     let time = Time::from_hms_nano(time.0, time.1, time.2, time.3)?;
@@ -62,12 +65,13 @@ pub fn moment((date, time, offset): Numbers) -> Result<OffsetDateTime, Component
     Ok(OffsetDateTime::new_in_offset(date, time, offset))
 }
 
-/// The parsed description, of version 2.
+/// The parsed description, of version 2 and of at most 80 steps; `None` if it is invalid.
 pub fn described(text: &[u8]) -> Option<Description<80>> {
     parse_borrowed::<2, 80>(text).ok()
 }
 
-/// The numbers of a part of the text over the defaults, or the error.
+/// The numbers of a part of the text over the defaults, or the error. The rest of the numbers are those of `NO_DATE`,
+/// `NO_TIME` and `NO_OFFSET`.
 pub fn parse_part_by<F: Parsable>(
     format: &F,
     part: Part,
@@ -99,7 +103,8 @@ pub fn parse_part_by<F: Parsable>(
     }
 }
 
-// The numbers of a part of the text by a description, over the defaults, or the error.
+// The numbers of a part of the text by a description of version 2, over the defaults, or the error. It is `DESCRIPTION`
+// if the description is invalid.
 fn parse_part_as_described(
     description: &[u8],
     part: Part,

@@ -22,12 +22,13 @@ fn numbers(input: &[u8]) -> Result<(Numbers, &[u8]), Place>
     Ok((found.1, found.0))
 }
 
-// A text, and the day and the rest that are parsed from it.
+// A text, and the day of the moment at its start with the unread rest; `None` if it is rejected.
 static STAMPS: [(&[u8], Option<(u8, &[u8])>); 2] = [
     (b"2021-01-02T03:04:05Z, and more", Some((2, b", and more"))),
     (b"2021-01-02T25:04:05Z", None),
 ];
 
+// The day of the moment of RFC 3339 at the start of a text, and the unread rest; `None` if it is rejected.
 fn day_and_rest(input: &[u8]) -> Option<(u8, &[u8])> {
     let found = numbers(input).ok()?;
     Some((found.0.day, found.1))
@@ -64,7 +65,7 @@ fn date_in<F: Parsable>(year: i32, text: &[u8], format: &F) -> Result<Date, Pars
     format.parse_date(text, Parsed::new().with_year(year))
 }
 
-// The year, the month and the day of a text such as `03-04`.
+// The year, the month and the day of a text such as `03-04` in that year; `None` if it is rejected.
 fn calendar_date_in(year: i32, text: &[u8]) -> Option<(i32, Month, u8)> {
     let items = [MONTH, HYPHEN, DAY];
     let date = date_in(year, text, &BorrowedFormatItem::Compound(&items)).ok()?;

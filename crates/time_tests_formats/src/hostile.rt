@@ -1,7 +1,7 @@
 //! Malicious texts: long runs, deep comments, changed bytes, and defaults that a text leaves unchanged.
 use std::alloc::{AllocError, Global};
 
-// The repeated part between a start and an end.
+// The bytes of `front`, then `part` repeated `times` times, and then `end`.
 fn repeated(
     alloc: Global,
     front: &[u8],
@@ -33,7 +33,7 @@ mod long_texts {
     // A format, the bytes before the repeated part, the part, the bytes after it, and the result.
     type Row = (Format, &'static [u8], &'static [u8], &'static [u8], Answer);
 
-    // Whether the row's text has its result.
+    // Whether the row's text, with its part repeated 100,000 times, has the row's result.
     fn is_row_answered(alloc: Global, row: &Row) -> Result<bool, AllocError> {
         let (format, front, part, end, answer) = *row;
         let text = repeated(alloc, front, part, 100_000, end)?;
@@ -74,6 +74,7 @@ mod long_texts {
         }
     }
 
+    // Comments without an end, after a blank and without one.
     static OPEN_COMMENTS: [Row; 2] = [
         (Mail, b"02 ", b"(", b"", Refused(MONTH, MONTH)),
         (Mail, b"02", b"(", b"", Refused(LITERAL, LITERAL)),
@@ -96,6 +97,7 @@ mod long_texts {
         (b"12:34:56.", b"9", Err(YEAR)),
     ];
 
+    // Whether a time of ISO 8601 of those bytes and 100,000 times the digit has that result.
     fn time_is_answered(
         alloc: Global,
         front: &[u8],
@@ -132,7 +134,7 @@ mod comments {
     use time_values::Month::January;
     use time_values::error::Parse;
 
-    // A comment, nested this deep, between a start and an end.
+    // A comment, nested `levels` deep, between a start and an end.
     fn commented(
         alloc: Global,
         front: &[u8],
@@ -160,6 +162,7 @@ mod comments {
         (b"02 Jan 21 03:04:05 +0000", b"", TRAILING),
     ];
 
+    // Whether a mail date with a comment, nested `levels` deep, between those bytes has that result.
     fn comment_is_answered(
         alloc: Global,
         (front, end): (&[u8], &[u8]),
@@ -188,11 +191,13 @@ mod comments {
 mod changed_bytes {
     use crate::formats::{Part, parse_part_by};
     use std::alloc::{AllocError, Global};
+    use std::num::NonZero;
     use std::ops::Range;
     use time_parsing::{Parsable, Rfc2822, Rfc3339};
     use time_record::Parsed;
     use time_tests_records::same::same_record;
 
+    // Texts of RFC 3339, some of which are rejected.
     static STAMPS: [&[u8]; 10] = [
         b"1985-04-12T23:20:50.52Z",
         b"1990-12-31T15:59:60-08:00",
@@ -206,6 +211,7 @@ mod changed_bytes {
         b"",
     ];
 
+    // Texts of RFC 2822, some of which are rejected.
     static MAIL_DATES: [&[u8]; 8] = [
         b"Mon, 02 Jan 2021 03:04:05 +0607",
         b"02 Jan 49 03:04 EST",
@@ -242,12 +248,27 @@ mod changed_bytes {
         }
     }
 
-    // A record with a number in each field that a text of these formats stores.
+    // A record with a number in each field.
     fn known_record() -> Option<Parsed> {
         let mut record = Parsed::new();
         let date = b"Thu, 11 May 1905 11:12:13 -0814";
         Rfc2822.parse_into(date, &mut record).ok()?;
-        record.with_subsecond(15)
+        let years = record
+            .with_year_century(-99, true)?
+            .with_year_last_two(99)?
+            .with_iso_year(999_999)?
+            .with_iso_year_century(-99, true)?
+            .with_iso_year_last_two(99)?;
+        let days = years
+            .with_sunday_week_number(53)?
+            .with_monday_week_number(53)?
+            .with_iso_week_number(NonZero::<u8>::new(53)?)?
+            .with_ordinal(NonZero::<u16>::new(366)?)?;
+        days.with_hour_12(NonZero::<u8>::new(12)?)?
+            .with_hour_12_is_pm(true)?
+            .with_subsecond(999_999_999)?
+            .with_offset_second_signed(-59)?
+            .with_unix_timestamp_nanos(-1)
     }
 
     // Whether the record is unchanged unless a prefix of the text is parsed into it.
@@ -256,14 +277,16 @@ mod changed_bytes {
         format.parse_into(text, &mut record).is_ok() || same_record(&record, before)
     }
 
-    // Whether the text passes all three checks.
+    // Whether the text passes the checks of `has_one_moment`, `has_equal_errors` and, with the record `known`,
+    // `keeps_the_record`.
     fn is_right<F: Parsable>(format: &F, text: &[u8], known: &Parsed) -> bool {
         has_one_moment(format, text)
             && has_equal_errors(format, text)
             && keeps_the_record(format, text, known)
     }
 
-    // Whether the text passes them with each byte at the place. The text is restored.
+    // Whether the text passes the checks of `is_right` with each other byte at the index `place`. The text is restored.
+    // `false` if it has no such index.
     fn is_right_with_each_byte<F: Parsable>(
         format: &F,
         text: &mut [u8],
@@ -286,7 +309,8 @@ mod changed_bytes {
         all_right
     }
 
-    // Whether the text passes them with each byte at each of these places, and truncated there.
+    // Whether the text passes the checks of `is_right` as it is, with each other byte at each of these indices, and
+    // truncated at each.
     pub(super) fn is_right_if_changed_at<F: Parsable>(
         alloc: Global,
         format: &F,
@@ -309,7 +333,8 @@ mod changed_bytes {
         Ok(all_right)
     }
 
-    // Whether the text passes them with each byte at each place, and truncated there.
+    // Whether the text passes the checks of `is_right` as it is, with each other byte at each index, and truncated at
+    // each.
     fn is_right_if_changed<F: Parsable>(
         alloc: Global,
         format: &F,
@@ -318,7 +343,7 @@ mod changed_bytes {
         is_right_if_changed_at(alloc, format, text, 0..text.len())
     }
 
-    // Whether each of the texts does.
+    // Whether each of the texts passes the checks of `is_right_if_changed`.
     fn all_are_right_if_changed<F: Parsable>(alloc: Global, format: &F, texts: &[&[u8]]) -> bool {
         let mut all_right = true;
         for text in texts {

@@ -10,18 +10,21 @@ use crate::formats::{Format, NO_DATE, NO_OFFSET, NO_TIME, Numbers, Part, parse_p
 use time_values::Month::{December, January, March};
 use time_values::error::Parse;
 
+// The result of a date alone.
 macro_rules! date {
     ($year:expr, $month:expr, $day:expr) => {
         Ok((($year, $month, $day), NO_TIME, NO_OFFSET))
     };
 }
 
+// The result of a time alone.
 macro_rules! time {
     ($hour:expr, $minute:expr, $second:expr, $nanosecond:expr) => {
         Ok((NO_DATE, ($hour, $minute, $second, $nanosecond), NO_OFFSET))
     };
 }
 
+// The result of an offset alone, without a second.
 macro_rules! offset {
     ($hours:expr, $minutes:expr) => {
         Ok((NO_DATE, NO_TIME, ($hours, $minutes, 0)))
@@ -31,7 +34,7 @@ macro_rules! offset {
 // A part, a text, and the result for the part.
 type Row = (Part, &'static [u8], Result<Numbers, Parse>);
 
-// The first text whose result differs, if there is one.
+// The first text whose result differs from that of its row, if there is one.
 fn first_difference(rows: &[Row]) -> Option<&'static [u8]> {
     for (part, text, expected) in rows {
         if parse_part(Format::Iso, *part, text, None) != *expected {
@@ -41,6 +44,7 @@ fn first_difference(rows: &[Row]) -> Option<&'static [u8]> {
     None
 }
 
+// The error of a text from which nothing is parsed is that of its date.
 static TIMES: [Row; 17] = [
     (Time, b"03,5", time!(3, 30, 0, 0)),
     (Time, b"03:04.5", time!(3, 4, 30, 0)),
@@ -211,8 +215,8 @@ mod fractions {
         HalfUp,
     }
 
-    // The whole number of these parts in the fraction of a unit, if the digits are digits and an hour has that many
-    // parts.
+    // How many whole parts the fraction with these digits has, of a unit of `unit` parts, by that rounding. `None` if a
+    // byte isn't a digit, or if `unit` is 0 or more than the nanoseconds of an hour.
     fn whole(rounding: Rounding, digits: &[u8], unit: u64) -> Option<u64> {
         let count = leading_digits(digits, digits.len());
         if count < digits.len() || unit < 1 || 3_600_000_000_000 < unit {
@@ -225,7 +229,7 @@ mod fractions {
         })
     }
 
-    // Digits, how many parts a unit has, and how many of them the fraction makes.
+    // A rounding, digits, how many parts a unit has, and how many of them the fraction makes.
     static FRACTIONS: [(Rounding, &[u8], u64, u64); 23] = [
         (Floor, b"0001", 3_600_000_000_000, 360_000_000),
         (
@@ -318,7 +322,7 @@ mod offsets {
     // The hours and minutes of an offset, if it isn't `Z`, and the unread rest.
     type Found = (Option<(i8, i8)>, &'static [u8]);
 
-    // The offset at the start of the text.
+    // The offset at the start of the text, after a text of that kind; `None` without one.
     fn found(text: &'static [u8], kind: ExtendedKind) -> Option<Found> {
         let found = offset(text, kind)?;
         match found.value {
@@ -327,12 +331,12 @@ mod offsets {
         }
     }
 
-    // The kind after the offset at the start of the text.
+    // The kind after the offset at the start of the text, after a text of that kind; `None` without an offset.
     fn kind_after(text: &[u8], kind: ExtendedKind) -> Option<ExtendedKind> {
         Some(offset(text, kind)?.kind)
     }
 
-    // Texts, the result after a basic form, which allows no colon, and the result after an extended or unknown one.
+    // A text, the result after a basic form, which allows no colon, and the result after an extended or unknown one.
     static TEXTS: [(&[u8], Option<Found>, Option<Found>); 13] = [
         (
             b"-05",
@@ -377,7 +381,7 @@ mod offsets {
         }
     }
 
-    // Offsets, and the kind that they turn an unknown kind into.
+    // An offset, and the kind that it turns an unknown kind into.
     static UNKNOWN: [(&[u8], ExtendedKind); 6] = [
         (b"Z", ExtendedKind::Unknown),
         (b"-05", ExtendedKind::Unknown),
@@ -409,7 +413,8 @@ mod time_records {
     use time_parsing::Iso8601;
     use time_record::Parsed;
 
-    // Texts, the rest of each, and the cells of the time and of the offset. Without a time the rest starts at the `T`.
+    // A text, its rest, and the cells of the time and of the offset. If no time is parsed after a date, the rest starts
+    // at the `T`.
     static TIMES: [(&[u8], &[u8], TimeCells, OffsetCells); 35] = [
         // After basic dates.
         (
@@ -628,12 +633,12 @@ mod iso_fronts {
         b"2021-12-31T23:59:60,123456789-05:30",
     ];
 
-    // The part of the text over the defaults, if it parses.
+    // The part of the text over the defaults; `None` if it is rejected.
     fn value(part: Part, text: &[u8], defaults: Option<Parsed>) -> Option<Numbers> {
         parse_part(Format::Iso, part, text, defaults).ok()
     }
 
-    // Whether both texts have equal values, or none.
+    // Whether both texts have equal values, or none. `with_sign` is `+00` followed by the text.
     fn is_right(text: &[u8], with_sign: &[u8]) -> bool {
         let moment = value(Part::Moment, with_sign, None);
         value(Part::Moment, text, None) == moment
@@ -641,7 +646,8 @@ mod iso_fronts {
             && value(Part::Plain, text, None) == value(Part::Plain, with_sign, None)
     }
 
-    // Checks both with each byte at that place. `Err` is a byte with which they differ.
+    // Checks the text, with `+00` before it and without, with each byte at the index `place`. `Err` is a byte with
+    // which they differ.
     fn with_each_byte(text: &[u8], place: usize) -> Result<(), u8> {
         let mut both = *b"+00                                   ";
         let both = both.get_mut(..text.len().saturating_add(3)).ok_or(0)?;

@@ -23,18 +23,21 @@ mod whole_parses {
     // The contents of the defaults.
     #[derive(Clone, Copy)]
     enum Defaults {
-        // A timestamp of 0, set by a builder or by a setter.
+        // A timestamp of 0, set by a builder.
         Stamped,
+        // A timestamp of 0, set by a setter.
         Epoch,
         // The first day of a year.
         FirstDay,
-        // 15 seconds of an offset, with a time's second of 7 or without it.
+        // 15 seconds of an offset, and a time's second of 7.
         Seconds,
+        // 15 seconds of an offset alone.
         OffsetSecond,
         // An offset of minus five hours, parsed with its sign.
         Signed,
     }
 
+    // A record with an offset of minus five hours, parsed with its sign.
     fn negative_offset() -> Option<Parsed> {
         let mut record = Parsed::new();
         let hour = Component::OffsetHour(modifier::OffsetHour {
@@ -45,12 +48,14 @@ mod whole_parses {
         if rest.is_empty() { Some(record) } else { None }
     }
 
+    // A record with a timestamp of 0, set by a setter.
     fn epoch() -> Option<Parsed> {
         let mut record = Parsed::new();
         record.set_unix_timestamp_nanos(0)?;
         Some(record)
     }
 
+    // The record with the contents of the defaults.
     fn record(defaults: Defaults) -> Option<Parsed> {
         match defaults {
             Stamped => Parsed::new().with_unix_timestamp_nanos(0),
@@ -62,9 +67,10 @@ mod whole_parses {
         }
     }
 
+    // The moment of a timestamp of 0 with half a second, which is that of the text.
     const HALF_SECOND: Numbers = ((1970, January, 1), (0, 0, 0, 500_000_000), NO_OFFSET);
 
-    // Texts, and the result for a part.
+    // A format, a part, a text, and the result of parsing the text for the part.
     static WHOLE: [(Format, Part, &[u8], Result<Numbers, Parse>); 9] = [
         // A moment whose day in UTC is the first of the year 10000, a leap second, and a comment after a zone name.
         (
@@ -117,13 +123,14 @@ mod whole_parses {
         }
     }
 
-    // The nanoseconds from 1970-01-01T00:00:00Z to the moment of the text.
+    // The nanoseconds from 1970-01-01T00:00:00Z to the moment of the text; `None` if it is rejected.
     fn timestamp<F: Parsable>(format: &F, text: &[u8]) -> Option<i128> {
         let timestamp = format.parse_timestamp(text, None).ok()?;
         Some(timestamp.nanoseconds())
     }
 
-    // 1985-04-12 is 15 years, of them 4 leap years, and 101 days after the start of 1970, which makes 5580 days.
+    // A text, and the nanoseconds from 1970-01-01T00:00:00Z to its moment. 1985-04-12 is 15 years, of them 4 leap
+    // years, and 101 days after the start of 1970, which makes 5580 days.
     static TIMESTAMPS: [(&[u8], i128); 2] = [
         (b"1985-04-12T23:20:50.52Z", 482_196_050_520_000_000),
         (
@@ -141,7 +148,7 @@ mod whole_parses {
         }
     }
 
-    // Texts over defaults, and the result for a part.
+    // A format, a part, a text, the defaults, and the result of parsing the text over the defaults for the part.
     static OVER_DEFAULTS: [(Format, Part, &[u8], Defaults, Numbers); 13] = [
         // A timestamp in the defaults takes precedence.
         (
@@ -271,7 +278,7 @@ mod whole_parses {
             && parse_part_by(format, Date, b"2021-03-04 ", None) == Err(TRAILING)
     }
 
-    // Whether the items have too few components for a date.
+    // Whether the items parse the text, but have too few components for a date.
     fn have_too_few_components(items: &[BorrowedFormatItem<'_>], text: &[u8]) -> bool {
         Items(items).parse_date(text, None) == Err(MISSING)
     }
@@ -289,10 +296,12 @@ mod whole_parses {
         assert!(rt; have_too_few_components(&items[2..], b"03-04"));
     }
 
+    // A literal of one hyphen.
     fn owned_hyphen(alloc: Global) -> Result<OwnedFormatItem, AllocError> {
         Ok(OwnedFormatItem::Literal(vec![in alloc; b'-']?))
     }
 
+    // A year, a month and a day, with a hyphen between each two.
     fn owned_items(alloc: Global) -> Result<OwnedFormatItem, AllocError> {
         let first = owned_hyphen(alloc)?;
         let second = owned_hyphen(alloc)?;
@@ -313,6 +322,7 @@ mod whole_parses {
         Ok(())
     }
 
+    // A year, a month and a day, with a hyphen between each two, as a description of version 3.
     fn version_3(alloc: Global) -> Result<FormatDescriptionV3<'static>, AllocError> {
         let items = vec![in alloc;
             FormatDescriptionV3Inner::Component(YEAR_COMPONENT),
@@ -333,14 +343,16 @@ mod whole_parses {
         Ok(())
     }
 
+    // The error of skipped bytes that end inside a character.
     const IGNORED: Parse = Parse::ParseFromDescription(ParseFromDescription::InvalidComponent(
         "ignore",
     ));
 
-    // Both bytes of a character.
+    // The two bytes of U+00E9 in UTF-8.
     const CHARACTER: &[u8] = b"\xC3\xA9";
 
-    // The rest after a component that skips a byte, and the error of a description of it for that text.
+    // What remains of `CHARACTER` after a component that skips bytes is parsed alone, and the error of a description of
+    // version 3 with that component.
     fn skipped(ignore: Component) -> (Option<&'static [u8]>, Option<Parse>) {
         let rest = Parsed::new().parse_component(CHARACTER, ignore).ok();
         let description = FormatDescriptionV3 {
@@ -384,12 +396,13 @@ mod described {
 
     const SECOND_OF_JANUARY: Result<Numbers, Parse> = Ok(((2021, January, 2), NO_TIME, NO_OFFSET));
 
-    // The date of the text by the items.
+    // The date of the text by the items, or the error.
     fn date_by(items: &[BorrowedFormatItem<'_>], text: &[u8]) -> Result<Numbers, Parse> {
         let date = Items(items).parse_date(text, None)?;
         Ok((date.to_calendar_date(), NO_TIME, NO_OFFSET))
     }
 
+    // A text, and the result of parsing it as a year, a month and a day with hyphens.
     static DATES: [(&[u8], Result<Numbers, Parse>); 6] = [
         (b"2021-01-02", SECOND_OF_JANUARY),
         (b"2021-13-02", Err(MONTH)),
@@ -421,7 +434,7 @@ mod described {
 
     const CLOCK: &[u8] = b"[hour]:[minute][optional [:[second]]]";
 
-    // Descriptions, texts, and the result for a part.
+    // A description, a part, a text, and the result of parsing the text for the part.
     static TEXTS: [(&[u8], Part, &[u8], Result<Numbers, Parse>); 10] = [
         (WORDED, Date, b"2021, Day 02 of 01", SECOND_OF_JANUARY),
         (WORDED, Date, b"2021, Day 02 of 13", Err(MONTH)),
@@ -464,7 +477,7 @@ mod described {
         }
     }
 
-    // How many items are visited to parse the whole text.
+    // How many items are visited to parse the whole text; `None` if it isn't parsed whole.
     fn tries_of(description: &Description<80>, text: &[u8]) -> Option<u64> {
         let mut tries = Tries::new();
         let rest = Parsed::new()
@@ -494,7 +507,7 @@ mod front_moments {
     use time_values::Month::{January, March};
     use time_values::error::Parse;
 
-    // The moment at the start of the text over the defaults, and the unread rest.
+    // The moment at the start of the text over the defaults, and the unread rest, or the error.
     fn front_by<'a, F: Parsable>(
         format: &F,
         text: &'a [u8],
@@ -504,7 +517,7 @@ mod front_moments {
         Ok((numbers(moment), rest))
     }
 
-    // The moment at the start of the text by one of the formats, and the unread rest.
+    // The moment at the start of the text by one of the formats, and the unread rest, or the error.
     fn front(format: Format, text: &[u8]) -> Result<(Numbers, &[u8]), Parse> {
         match format {
             Format::Stamp => front_by(&Rfc3339, text, None),
@@ -518,22 +531,29 @@ mod front_moments {
         }
     }
 
+    // The timestamp of an access log.
     const LOGGED: &[u8] =
         b"[day]/[month repr:short]/[year]:[hour]:[minute]:[second] [offset_hour sign:mandatory][offset_minute]";
 
     // A line of an access log, from after the bracket that opens its moment.
     const LINE: &[u8] = b"02/Jan/2021:13:55:36 -0730] \"GET /pb.gif HTTP/1.0\" 200 2326";
 
+    // The rest of `LINE` after its moment.
     const LINE_REST: &[u8] = b"] \"GET /pb.gif HTTP/1.0\" 200 2326";
 
+    // The moment of `LINE`.
     const LINE_MOMENT: Numbers = ((2021, January, 2), (13, 55, 36, 0), (-7, -30, 0));
 
+    // A month, a day, an hour and a minute, without a year and an offset.
     const MONTH_TO_MINUTE: &[u8] = b"[month]-[day]T[hour]:[minute]";
 
+    // 2021-01-02T03:04:05+06:07.
     const MOMENT: Numbers = ((2021, January, 2), (3, 4, 5, 0), (6, 7, 0));
 
+    // 2021-01-02T03:04:05Z.
     const MOMENT_IN_UTC: Numbers = ((2021, January, 2), (3, 4, 5, 0), (0, 0, 0));
 
+    // A format, a text, and the moment at its start with the unread rest, or the error.
     type Row = (
         Format,
         &'static [u8],
@@ -601,7 +621,8 @@ mod front_moments {
         }
     }
 
-    // By RFC 2822, section 3.3, blanks and comments after the zone are part of the date.
+    // A mail date at the start of a text, and the moment with the unread rest, or the error. By RFC 2822, section 3.3,
+    // blanks and comments after the zone are part of the date.
     static MAIL_DATES: [(&[u8], Result<(Numbers, &[u8]), Parse>); 3] = [
         (
             b"Sat, 02 (the second) Jan 2021 03:04:05 +0607 (morning) of a note",
@@ -625,6 +646,7 @@ mod front_moments {
         assert!(rt; front_by(&&format, LINE, None) == Ok((LINE_MOMENT, LINE_REST)));
     }
 
+    // Defaults of March 2021, and of an offset of minus five hours.
     fn march_in_2021() -> Option<Parsed> {
         let mut record = Parsed::new();
         record.set_year(2021)?;

@@ -31,7 +31,7 @@ pub fn both_results(answer: Answer) -> (Result<Numbers, Parse>, Result<Numbers, 
     }
 }
 
-// The result on the direct path, without a record.
+// The result on the direct path, without a record. Formats without that path have the error `LITERAL`.
 fn direct_result(format: Format, text: &[u8]) -> Result<Numbers, Parse> {
     match format {
         Stamp => Ok(numbers(direct::rfc3339(text)?)),
@@ -50,7 +50,7 @@ pub fn is_answered(format: Format, text: &[u8], expected: Answer) -> bool {
         && staged == expected_over_a_record
 }
 
-/// The first text whose result differs, if there is one.
+/// The first text whose result differs from that of its row, if there is one.
 pub fn first_difference(format: Format, rows: &[Row]) -> Option<&'static [u8]> {
     for (text, expected) in rows {
         if !is_answered(format, text, *expected) {
@@ -75,18 +75,22 @@ pub fn first_mail_difference() -> Option<&'static [u8]> {
     None
 }
 
+// The first of the mail dates that are moments whose result differs, if there is one.
 fn first_moment_difference() -> Option<&'static [u8]> {
     first_difference(Mail, &MAIL_DATES)
 }
 
+// The first of the rejected mail dates whose result differs, if there is one.
 fn first_refusal_difference() -> Option<&'static [u8]> {
     first_difference(Mail, &MAIL_REFUSED)
 }
 
+// The first of the texts without the form of a mail date whose result differs, if there is one.
 fn first_form_difference() -> Option<&'static [u8]> {
     first_difference(Mail, &MAIL_NOT_IN_FORM)
 }
 
+// The first of the mail dates with a carriage return whose result differs, if there is one.
 fn first_return_difference() -> Option<&'static [u8]> {
     first_difference(Mail, &MAIL_RETURNS)
 }

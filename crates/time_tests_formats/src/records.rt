@@ -18,14 +18,16 @@ type WeekCells = (Option<i32>, u8, Option<Weekday>);
 /// The hour, the minute, the second and the nanosecond.
 pub type TimeCells = (Option<u8>, Option<u8>, Option<u8>, Option<u32>);
 
-/// The hour and the minute of the offset.
+/// The hour and the minute of the offset, each with its sign.
 pub type OffsetCells = (Option<i8>, Option<i8>);
 
 /// The cells of a record.
 pub type Cells = (DateCells, WeekCells, TimeCells, OffsetCells);
 
+// A date without components.
 const NO_DATE: DateCells = (None, None, 0, 0);
 
+// A week without components.
 const NO_WEEK: WeekCells = (None, 0, None);
 
 /// A time without components.
@@ -34,7 +36,7 @@ pub const NO_TIME: TimeCells = (None, None, None, None);
 /// An offset without components.
 pub const NO_OFFSET: OffsetCells = (None, None);
 
-// The number, or 0.
+// The number, or 0 without one.
 fn number(cell: Option<NonZero<u8>>) -> u8 {
     match cell {
         Some(number) => number.get(),
@@ -42,6 +44,7 @@ fn number(cell: Option<NonZero<u8>>) -> u8 {
     }
 }
 
+// The date of the record.
 fn date_cells(record: &Parsed) -> DateCells {
     let ordinal = match record.ordinal() {
         Some(ordinal) => ordinal.get(),
@@ -50,6 +53,7 @@ fn date_cells(record: &Parsed) -> DateCells {
     (record.year(), record.month(), number(record.day()), ordinal)
 }
 
+// The ISO year, the week and the weekday of the record.
 fn week_cells(record: &Parsed) -> WeekCells {
     (
         record.iso_year(),
@@ -58,6 +62,7 @@ fn week_cells(record: &Parsed) -> WeekCells {
     )
 }
 
+// The time of the record.
 fn time_cells(record: &Parsed) -> TimeCells {
     (
         record.hour_24(),
@@ -67,7 +72,8 @@ fn time_cells(record: &Parsed) -> TimeCells {
     )
 }
 
-/// The rest of the text, or its error, and the cells of the record after the parse.
+/// Parses the start of the text into the record. Returns the unread rest or the error, and the cells of the record
+/// after the parse.
 pub fn parse_cells_by<'a, F: Parsable>(
     format: &F,
     text: &'a [u8],
@@ -84,7 +90,8 @@ pub fn parse_cells_by<'a, F: Parsable>(
     (left, cells)
 }
 
-// The rest of the text, or its error, and the cells of the record after the parse, by one of the formats.
+// Parses the start of the text by one of the formats into the record. Returns the unread rest or the error, and the
+// cells of the record after the parse.
 fn parse_cells<'a>(
     format: Format,
     text: &'a [u8],
@@ -102,19 +109,22 @@ fn parse_cells<'a>(
     }
 }
 
+// The cells of an empty record.
 const NOTHING: Cells = (NO_DATE, NO_WEEK, NO_TIME, NO_OFFSET);
 
+// The month alone.
 const MARCH: DateCells = (None, Some(March), 0, 0);
 
 const SECOND_OF_JANUARY: DateCells = (Some(2021), Some(January), 2, 0);
 
+// The weekday alone.
 const MONDAY: WeekCells = (None, 0, Some(Weekday::Monday));
 
 const CLOCK: Format = Format::Described(b"[hour]:[minute][optional [:[second]]]");
 
 const YEAR_OR_MONTH: Format = Format::Described(b"[first [[year]] [[month]]]");
 
-// The cells after a mail date.
+// The cells after the mail date `Mon, 02 Jan 2021 03:04 GMT`.
 const MAILED: Cells = (
     SECOND_OF_JANUARY,
     MONDAY,
@@ -122,8 +132,8 @@ const MAILED: Cells = (
     (Some(0), Some(0)),
 );
 
-/// A format and the month that a record starts with, the text that is parsed before, if any, and the text, its rest,
-/// and the cells after it.
+/// A format, the month that a record starts with, the text that is parsed into it before (empty: none), the text, its
+/// rest or its error, and the cells after it.
 type Row = (
     Format,
     Option<Month>,

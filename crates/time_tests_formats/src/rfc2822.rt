@@ -9,7 +9,7 @@ mod mail_dates {
     // Day, hour, minute and second, then the offset's hours and minutes, and how many bytes remain.
     type Places = ((u8, u8, u8, Option<u8>), (i8, i8), usize);
 
-    // The numbers at the places of the text.
+    // The numbers at the places of the text, whose ranges aren't checked; `None` if a place doesn't have its form.
     fn places(text: &[u8]) -> Option<Places> {
         let found = read::<false>(text).ok()?;
         let numbers = found.1;
@@ -36,12 +36,13 @@ mod mail_dates {
         assert!(rt; text == None, "{text:?}");
     }
 
-    // The hours of the zone name at the start of the text, and how many bytes remain after it.
+    // The hours of the zone name at the start of the text, and how many bytes remain after it; `None` without a name.
     fn zone(text: &[u8]) -> Option<(i8, usize)> {
         let found = zone_literal(text)?;
         Some((found.1, found.0.len()))
     }
 
+    // A text, and the result of `zone`.
     static ZONES: [(&[u8], Option<(i8, usize)>); 20] = [
         (b"EST", Some((-5, 0))),
         (b"EDT", Some((-4, 0))),
@@ -93,7 +94,7 @@ mod mail_blanks {
         Colon,
     }
 
-    // The rest after the part.
+    // The rest after the part at the start of the text; `None` if the reader rejects it.
     fn rest(reader: Reader, text: &[u8]) -> Option<ParsedItem<'_, ()>> {
         match reader {
             Fws => fws(text),
@@ -103,7 +104,7 @@ mod mail_blanks {
         }
     }
 
-    /// How many bytes remain after the part.
+    /// How many bytes remain after the part at the start of the text; `None` if the reader rejects it.
     pub fn remaining_len(reader: Reader, text: &[u8]) -> Option<usize> {
         match rest(reader, text) {
             Some(found) => Some(found.0.len()),
@@ -111,7 +112,7 @@ mod mail_blanks {
         }
     }
 
-    // Texts, and how many bytes remain after the part.
+    // A reader, a text, and how many bytes remain after the part; `None` if it is rejected.
     static TEXTS: [(Reader, &[u8], Option<usize>); 43] = [
         (Fws, b" \t x", Some(1)),
         (Fws, b"\r\n x", Some(1)),
@@ -213,14 +214,17 @@ mod mail_fronts {
         ),
     ];
 
-    // The length of a comment, and the distance from the end of the day to the end of the second.
+    // The length of the comment `(x)`.
     const COMMENT: usize = 3;
 
+    // The distance from the end of the day to the end of the second, in bytes.
     const TO_SECOND: usize = 18;
 
     // The result of a text with that byte at a place, on the direct path and over an empty record.
     type Moments = (Result<OffsetDateTime, Parse>, Result<OffsetDateTime, Parse>);
 
+    // The results of the text with that byte at the index `place`; `None` if the text has no such index, or more than
+    // 34 bytes.
     fn moments(text: &[u8], place: usize, byte: u8) -> Option<Moments> {
         let mut changed = [b' '; 34];
         let changed = changed.get_mut(..text.len())?;
@@ -273,6 +277,7 @@ mod short_cuts {
     use super::mail_blanks::remaining_len;
     use crate::paths::first_mail_difference;
 
+    // Each reader.
     static READERS: [Reader; 4] = [Fws, Cfws, OptionalCfws, Colon];
 
     // Whether the reader parses the blank, and the byte between it and an `x` only if that is a blank too.
@@ -282,7 +287,7 @@ mod short_cuts {
         remaining_len(reader, behind_colon(reader, &text)) == Some(rest)
     }
 
-    // Only the reader of a colon gets the colon.
+    // The text, without its colon unless the reader is that of a colon.
     fn behind_colon(reader: Reader, text: &[u8; 4]) -> &[u8] {
         match reader {
             Colon => text,

@@ -9,7 +9,7 @@ use time_readers::{direct, rfc3339};
 use time_record::Parsed;
 use time_values::error::{Parse, ParseFromDescription};
 
-// The error of the first place of the text that fails.
+// The error of the first place of the text that fails, with a check of ranges if `RANGED`; `None` if no place fails.
 fn refusal<const RANGED: bool>(text: &[u8]) -> Option<ParseFromDescription> {
     match rfc3339::read::<RANGED>(text) {
         Ok(_) => None,
@@ -23,7 +23,7 @@ fn has_right_places(text: &[u8]) -> bool {
         && refusal::<false>(text) == tail(text, false).err()
 }
 
-// The result of the text on the direct path.
+// The result of the text on the direct path, as numbers.
 fn direct_result(text: &[u8]) -> Result<Numbers, Parse> {
     Ok(numbers(direct::rfc3339(text)?))
 }
@@ -38,7 +38,7 @@ fn is_right(text: &[u8]) -> bool {
         && has_right_places(text)
 }
 
-// Checks the text with each byte at that place. `Err` is a byte with which the results differ.
+// Checks the text with each byte at the index `place`. `Err` is a byte with which the results differ.
 fn with_each_byte(text: &[u8], place: usize) -> Result<(), u8> {
     let mut changed = [b' '; 35];
     let changed = changed.get_mut(..text.len()).ok_or(0)?;
@@ -61,6 +61,7 @@ fn slow_stamps(rt: HostRuntime) {
     }
 }
 
+// Texts whose bytes up to the second are changed.
 static WHOLE: [&[u8]; 4] = [
     b"1985-04-12T23:20:50.52Z",
     b"1990-12-31T23:59:60Z",
@@ -68,7 +69,7 @@ static WHOLE: [&[u8]; 4] = [
     b"9999-12-31T23:59:59.999999999-23:59",
 ];
 
-// The index after the second.
+// The index of the first byte after the second.
 const SECOND_END: usize = 19;
 
 #[test]
@@ -81,7 +82,8 @@ fn fronts(rt: HostRuntime) {
     }
 }
 
-// Texts, and the parts after their seconds: the nanosecond, and the hours and minutes of the offset.
+// A text, and the parts after its second: the nanosecond, and the hours and minutes of the offset; `None` if the text
+// is rejected.
 static TAILS: [(&[u8], Option<(u32, i8, i8)>); 24] = [
     (b"2021-01-02T03:04:05Z", Some((0, 0, 0))),
     (b"2021-01-02T03:04:05z", Some((0, 0, 0))),
@@ -112,7 +114,7 @@ static TAILS: [(&[u8], Option<(u32, i8, i8)>); 24] = [
     (b"2021-01-02T03:04:05+05:30Z", None),
 ];
 
-// The nanosecond of the text and the hours and minutes of its offset, by the slow parser.
+// The nanosecond of the text and the hours and minutes of its offset, by the slow parser; `None` if it is rejected.
 fn behind_second(text: &[u8]) -> Option<(u32, i8, i8)> {
     let (_, (_, _, _, nanosecond), (hours, minutes, _)) = moment(text, false).ok()?;
     Some((nanosecond, hours, minutes))

@@ -27,7 +27,7 @@ impl<T: Copy + Debug> Copied for T {}
 // Types that are copied.
 fn are_copied<A: Copied, B: Copied, C: Copied, D: Copied>() {}
 
-// Whether the value is parsed, and no bytes remain.
+// Whether the value is `value`, and no bytes remain.
 fn is_whole<T: PartialEq + Copy>(found: Option<ParsedItem<'_, T>>, value: T) -> bool {
     match found {
         Some(ParsedItem(rest, found)) => rest.is_empty() && found == value,
@@ -106,7 +106,7 @@ fn direct_paths(rt: HostRuntime) {
     assert!(rt; mail == stamp);
 }
 
-// Whether the format parses each part of a moment from the text.
+// Whether the format parses from the text a date, a time, an offset, and a date and time.
 fn has_parts<F: Parsable>(format: &F, text: &[u8]) -> [bool; 4] {
     let date: Result<Date, Parse> = format.parse_date(text, None);
     let time: Result<Time, Parse> = format.parse_time(text, None);
@@ -115,7 +115,7 @@ fn has_parts<F: Parsable>(format: &F, text: &[u8]) -> [bool; 4] {
     [date.is_ok(), time.is_ok(), offset.is_ok(), plain.is_ok()]
 }
 
-// Whether the format parses each type of moment from the text.
+// Whether the format parses from the text a moment in UTC, a moment with an offset, and a timestamp.
 fn is_moment<F: Parsable>(format: &F, text: &[u8]) -> [bool; 3] {
     let utc: Result<UtcDateTime, Parse> = format.parse_utc_date_time(text, None);
     let moment: Result<OffsetDateTime, Parse> = format.parse_offset_date_time(text, None);
@@ -123,13 +123,14 @@ fn is_moment<F: Parsable>(format: &F, text: &[u8]) -> [bool; 3] {
     [utc.is_ok(), moment.is_ok(), timestamp.is_ok()]
 }
 
-// Whether the text is parsed into a record.
+// Whether a prefix of the text is parsed into `parsed`, and whether the whole text is parsed into a new record.
 fn is_read<F: Parsable>(format: &F, text: &[u8], parsed: &mut Parsed) -> [bool; 2] {
     let rest: Result<&[u8], Parse> = format.parse_into(text, parsed);
     let record: Result<Parsed, Parse> = format.parse_internal(text, None);
     [rest.is_ok(), record.is_ok()]
 }
 
+// 86,400 seconds after 1970-01-01T00:00:00Z.
 const STAMP: &[u8] = b"1970-01-02T00:00:00Z";
 
 #[test]

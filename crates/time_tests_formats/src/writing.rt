@@ -8,15 +8,17 @@ use time_formatting::{
 use time_values::error::ComponentRange;
 use time_values::{Month, OffsetDateTime};
 
-// The first three are the examples of RFC 3339, section 5.8, that are no leap seconds.
+// 1985-04-12T23:20:50.52Z, an example of RFC 3339, section 5.8.
 const IN_1985: Numbers = (
     (1985, Month::April, 12),
     (23, 20, 50, 520_000_000),
     (0, 0, 0),
 );
 
+// 1996-12-19T16:39:57-08:00, an example of RFC 3339, section 5.8.
 const IN_1996: Numbers = ((1996, Month::December, 19), (16, 39, 57, 0), (-8, 0, 0));
 
+// 1937-01-01T12:00:27.87+00:20, an example of RFC 3339, section 5.8.
 const IN_1937: Numbers = (
     (1937, Month::January, 1),
     (12, 0, 27, 870_000_000),
@@ -26,7 +28,7 @@ const IN_1937: Numbers = (
 // The first moment that has a date.
 const FIRST: Numbers = ((-999_999, Month::January, 1), (0, 0, 0, 0), (0, 0, 0));
 
-// Whether the text was written.
+// Whether the result is that text. An error is `false`.
 fn is_written(written: Result<Text, Unwritable>, text: &str) -> bool {
     match written {
         Ok(written) => written.as_bytes() == text.as_bytes(),
@@ -34,6 +36,7 @@ fn is_written(written: Result<Text, Unwritable>, text: &str) -> bool {
     }
 }
 
+// A format to write; for RFC 3339, with the digits of a fraction.
 #[derive(Clone, Copy)]
 enum Format {
     Rfc3339(FractionDigits),
@@ -42,7 +45,7 @@ enum Format {
     BasicIso8601,
 }
 
-// The text of the moment by the format.
+// The text of the moment by the format, or why it has none.
 fn write(value: OffsetDateTime, format: Format) -> Result<Text, Unwritable> {
     match format {
         Rfc3339(digits) => text_3339(value, digits),
@@ -59,8 +62,8 @@ macro_rules! in_2021 {
     };
 }
 
-// The texts of RFC 3339 are those of its section 5.8 and some with other digits of a fraction. The mail dates are
-// those of RFC 2822, appendix A, where the second one's day has a single digit.
+// A moment, a format, and the text. The texts of RFC 3339 are those of its section 5.8 and some with other digits of a
+// fraction. The mail dates are those of RFC 2822, appendix A, where the second one's day has a single digit.
 static TEXTS: [(Numbers, Format, &str); 18] = [
     (IN_1985, Rfc3339(Auto), "1985-04-12T23:20:50.52Z"),
     (IN_1996, Rfc3339(Auto), "1996-12-19T16:39:57-08:00"),
@@ -118,7 +121,7 @@ static TEXTS: [(Numbers, Format, &str); 18] = [
     (IN_1996, BasicIso8601, "19961219T163957-0800"),
 ];
 
-// Whether the format writes the moment as that text.
+// Whether the format writes the moment of the numbers as that text. It is an error if a number is out of its range.
 fn is_text(numbers: Numbers, format: Format, text: &str) -> Result<bool, ComponentRange> {
     Ok(is_written(write(moment(numbers)?, format), text))
 }
@@ -130,10 +133,13 @@ fn texts(rt: HostRuntime) {
     }
 }
 
+// The year is out of the range of the format.
 const YEAR: Option<Unwritable> = Some(Unwritable::Year);
 
+// The hours of the offset are out of the range of the format.
 const HOUR: Option<Unwritable> = Some(Unwritable::OffsetHour);
 
+// The seconds of the offset aren't 0.
 const SECOND: Option<Unwritable> = Some(Unwritable::OffsetSecond);
 
 // Why a moment can't be written in RFC 3339, in RFC 2822, in ISO 8601, and in its basic form.
@@ -144,6 +150,7 @@ type Reasons = (
     Option<Unwritable>,
 );
 
+// A moment, and why it can't be written; `None` in a format that writes it.
 static REASONS: [(Numbers, Reasons); 5] = [
     (
         ((10_000, Month::May, 1), (0, 0, 0, 0), (0, 0, 0)),
@@ -164,7 +171,7 @@ static REASONS: [(Numbers, Reasons); 5] = [
     ),
 ];
 
-// Why that moment can't be written.
+// Why the moment of the numbers can't be written. It is an error if a number is out of its range.
 fn reasons(numbers: Numbers) -> Result<Reasons, ComponentRange> {
     let value = moment(numbers)?;
     Ok((
@@ -206,7 +213,8 @@ mod read_back {
             && format.parse_offset_date_time(bytes, Some(Parsed::new())) == Ok(value)
     }
 
-    // The first and the last year, UTC, and an offset of minutes alone after it.
+    // A moment, and its text with nine digits of a fraction: the first and the last year, an offset of minutes alone,
+    // and UTC.
     static ALL_DIGITS: [(Numbers, &str); 4] = [
         (
             ((0, Month::January, 1), (0, 0, 0, 0), (-23, -59, 0)),
@@ -234,7 +242,7 @@ mod read_back {
         ),
     ];
 
-    // Whether the text has all digits, and both formats parse it as the moment.
+    // Whether RFC 3339 and ISO 8601 write the moment as the text, with nine digits, and both parse it as the moment.
     fn keeps_all_digits(numbers: Numbers, text: &str) -> Result<bool, ComponentRange> {
         let value = moment(numbers)?;
         let nine = text_3339(value, FractionDigits::Exactly(9));
@@ -268,7 +276,8 @@ mod read_back {
         ),
     ];
 
-    // Whether the parsed moment has the digits that were written.
+    // Whether 2021-01-02T03:04:05.120456789+05:30, written with those digits, is that text, and is parsed as the moment
+    // with that nanosecond.
     fn keeps_digits(
         digits: FractionDigits,
         text: &str,
@@ -290,6 +299,7 @@ mod read_back {
         }
     }
 
+    // A moment, and its mail date.
     static MAIL_DATES: [(Numbers, &str); 3] = [
         (
             ((1900, Month::January, 1), (0, 0, 0, 7), (-25, -59, 0)),
@@ -309,7 +319,8 @@ mod read_back {
         ),
     ];
 
-    // Whether a mail date keeps the moment's seconds, since it has no fraction.
+    // Whether the moment is written as that mail date, and parsed without its nanosecond, since a mail date has no
+    // fraction.
     fn keeps_seconds(numbers: Numbers, text: &str) -> Result<bool, ComponentRange> {
         let value = moment(numbers)?;
         let read = value.replace_nanosecond(0)?;

@@ -12,7 +12,7 @@ use time_record::Parsed;
 /// A text, the index at which it fails, and what is expected there.
 pub type Row<'a> = (&'a [u8], usize, Expected<'a>);
 
-/// Whether the location is that of the row.
+/// Whether `found` is the location of the row: its index, and what is expected there. `None` never is.
 pub fn is_place(found: Option<Located<'_>>, row: &Row<'_>) -> bool {
     let (_, index, expected) = *row;
     found == Some(Located { index, expected })
@@ -23,7 +23,7 @@ pub fn is_at<F: Locate>(format: &F, row: &Row<'_>, defaults: Option<Parsed>) -> 
     is_place(format.locate(row.0, defaults), row)
 }
 
-// Whether the text parses neither into a record nor as a date.
+// Whether the format, without defaults, parses the text neither into a record nor as a date.
 fn is_refused<F: Locate>(format: &F, text: &[u8]) -> bool {
     format.parse_internal(text, None).is_err() && format.parse_date(text, None).is_err()
 }
@@ -36,8 +36,8 @@ fn assert_places<F: Locate>(rt: &impl Abort, format: &F, rows: &[Row<'_>]) {
     }
 }
 
-/// Asserts that the text of each row is rejected at its location, also by a reference to the format, and that the other
-/// texts are parsed whole and have no location.
+/// Asserts that the text of each row is rejected at its location, also by a reference to the format, and that the texts
+/// of `whole` are parsed whole, so that they have no location. Nothing has defaults.
 pub fn assert_located<F: Locate>(rt: &impl Abort, format: &F, rows: &[Row<'_>], whole: &[&[u8]]) {
     assert_places(rt, format, rows);
     assert_places(rt, &format, rows);
@@ -46,7 +46,7 @@ pub fn assert_located<F: Locate>(rt: &impl Abort, format: &F, rows: &[Row<'_>], 
     }
 }
 
-/// Parses a description of version 2.
+/// Parses a description of version 2, of at most 64 steps. A text that is no such description fails the test.
 pub fn description_of(rt: &impl Abort, text: &[u8]) -> Description<64> {
     match parse_borrowed::<2, 64>(text) {
         Ok(description) => description,
@@ -59,7 +59,7 @@ mod parts {
     use std::num::NonZero;
     use time_components::{Component, Padding, TrailingInput, modifier};
 
-    /// Of four digits.
+    /// The calendar year, of four digits after an optional sign.
     pub const YEAR: Component = Component::CalendarYearFullStandardRange(
         modifier::CalendarYearFullStandardRange {
             padding: Padding::Zero,
@@ -67,32 +67,32 @@ mod parts {
         },
     );
 
-    /// As a number.
+    /// The number of the month, from 01 to 12.
     pub const MONTH: Component = Component::MonthNumerical(modifier::MonthNumerical {
         padding: Padding::Zero,
     });
 
-    /// Of the month.
+    /// The day of the month, from 01 to 31.
     pub const DAY: Component = Component::Day(modifier::Day {
         padding: Padding::Zero,
     });
 
-    /// Up to 23.
+    /// The hour of the 24-hour clock, from 00 to 23.
     pub const HOUR: Component = Component::Hour24(modifier::Hour24 {
         padding: Padding::Zero,
     });
 
-    /// Up to 59.
+    /// The minute, from 00 to 59.
     pub const MINUTE: Component = Component::Minute(modifier::Minute {
         padding: Padding::Zero,
     });
 
-    /// Up to 60.
+    /// The second, from 00 to 60.
     pub const SECOND: Component = Component::Second(modifier::Second {
         padding: Padding::Zero,
     });
 
-    /// One skipped byte.
+    /// Skips one byte.
     pub const SKIP: Component = Component::Ignore(modifier::Ignore {
         count: NonZero::<u16>::MIN,
     });
@@ -212,7 +212,7 @@ mod rfc3339 {
         b"2021-01-02T03:04:05.25+06:07",
     ];
 
-    // Defaults change nothing.
+    // Defaults don't change the location: this text is parsed with the year 2021 as a default.
     static MONTH: Row<'static> = (b"2021-13-01T00:00:00Z", 5, Component("month"));
 
     #[test]
@@ -512,7 +512,7 @@ mod iso8601 {
         b"2021-01-02T03:04:05+06:07",
     ];
 
-    // Defaults change nothing.
+    // Defaults don't change the location: this text is parsed with the year 2021 as a default.
     static HOUR: Row<'static> = (b"20210102T25", 9, Component("hour"));
 
     #[test]
@@ -525,11 +525,12 @@ mod iso8601 {
     }
 }
 
-// The text of what was expected.
+// How an expectation is displayed.
 mod display {
     use std::test::Fail;
     use time_locating::Expected;
 
+    // An expectation, and how it is displayed.
     static DISPLAYED: [(Expected<'static>, &str); 5] = [
         (Expected::Component("month"), "expected month"),
         (Expected::Literal(b":"), "expected ':'"),

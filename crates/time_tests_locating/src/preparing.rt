@@ -13,7 +13,8 @@ pub struct Both {
     pub prepared: Prepared<64>,
 }
 
-/// Parses and prepares a description, which is one of strftime if it contains a `%`.
+/// Parses and prepares a description. It is one of strftime if it contains a `%`, and one of version 2 otherwise.
+/// `None` if it is invalid or has more than 64 steps.
 pub fn read(text: &[u8]) -> Option<Both> {
     let description = if text.contains(&b'%') {
         parse_strftime::<64>(text).ok()?
@@ -31,7 +32,7 @@ pub fn read(text: &[u8]) -> Option<Both> {
 mod parts {
     use time_components::{Component, Padding, SubsecondDigits, modifier};
 
-    /// Of four digits, or of up to six after a sign.
+    /// The calendar year, of four digits, or of up to six after a sign.
     pub const YEAR: Component = Component::CalendarYearFullExtendedRange(
         modifier::CalendarYearFullExtendedRange {
             padding: Padding::Zero,
@@ -39,32 +40,32 @@ mod parts {
         },
     );
 
-    /// As a number.
+    /// The number of the month, from 01 to 12.
     pub const MONTH: Component = Component::MonthNumerical(modifier::MonthNumerical {
         padding: Padding::Zero,
     });
 
-    /// Of the month.
+    /// The day of the month, from 01 to 31.
     pub const DAY: Component = Component::Day(modifier::Day {
         padding: Padding::Zero,
     });
 
-    /// Up to 23.
+    /// The hour of the 24-hour clock, from 00 to 23.
     pub const HOUR: Component = Component::Hour24(modifier::Hour24 {
         padding: Padding::Zero,
     });
 
-    /// Up to 59.
+    /// The minute, from 00 to 59.
     pub const MINUTE: Component = Component::Minute(modifier::Minute {
         padding: Padding::Zero,
     });
 
-    /// Up to 60.
+    /// The second, from 00 to 60.
     pub const SECOND: Component = Component::Second(modifier::Second {
         padding: Padding::Zero,
     });
 
-    /// Of any number of digits.
+    /// The fraction of a second, of one or more digits.
     pub const SUBSECOND: Component = Component::Subsecond(modifier::Subsecond {
         digits: SubsecondDigits::OneOrMore,
     });
@@ -83,7 +84,7 @@ mod worked {
     const CHOICE: &[u8] =
         b"[first [[year]-[month]-[day]] [[year]-[ordinal]] [[day].[month].[year]]]";
 
-    // A description, a text, and its date.
+    // A description, a text, and its year, month and day; `None` if the text is rejected.
     type DateRow = (&'static [u8], &'static str, Option<(i32, Month, u8)>);
 
     static DATES: [DateRow; 14] = [
@@ -109,6 +110,7 @@ mod worked {
         (CHOICE, "04/03/2021", None),
     ];
 
+    // The year, month and day that the prepared description parses; `None` if it rejects the text.
     fn date_of(description: &[u8], text: &str) -> Option<(i32, Month, u8)> {
         let format = read(description)?.prepared;
         let date = Date::parse(text, &format).ok()?;
@@ -124,10 +126,12 @@ mod worked {
 
     const CLOCK: &[u8] = b"[hour]:[minute]:[second]";
 
+    // A time of the 12-hour clock, with an optional second and fraction.
     const HALVES: &[u8] =
         b"[hour repr:12 padding:none]:[minute][optional [:[second][optional [.[subsecond]]]]] [period]";
 
-    // A description, a text, and its hour, minute, second and nanosecond.
+    // A description, a text, and its hour (of the 24-hour clock), minute, second and nanosecond; `None` if the text is
+    // rejected.
     type TimeRow = (&'static [u8], &'static str, Option<(u8, u8, u8, u32)>);
 
     static TIMES: [TimeRow; 15] = [
@@ -149,6 +153,7 @@ mod worked {
         (HALVES, "1:05: PM", None),
     ];
 
+    // The hour, minute, second and nanosecond that the prepared description parses; `None` if it rejects the text.
     fn time_of(description: &[u8], text: &str) -> Option<(u8, u8, u8, u32)> {
         let format = read(description)?.prepared;
         let time = Time::parse(text, &format).ok()?;
@@ -168,9 +173,11 @@ mod worked {
     const LOG: &[u8] =
         b"[day]/[month repr:short]/[year]:[hour]:[minute]:[second] [offset_hour sign:mandatory][offset_minute]";
 
-    // A day, and the hours, minutes and seconds of a time and of its offset.
+    // A year, month and day, and the hours, minutes and seconds of a time and of its offset. The parts of an offset
+    // have its sign.
     type Moment = ((i32, Month, u8), (u8, u8, u8), (i8, i8, i8));
 
+    // A description, a text, and its moment; `None` if the text is rejected.
     type MomentRow = (&'static [u8], &'static str, Option<Moment>);
 
     static MOMENTS: [MomentRow; 8] = [
@@ -192,6 +199,7 @@ mod worked {
         (LOG, "04/Mar/2021:05:06:07 -0530 ", None),
     ];
 
+    // The moment that the prepared description parses; `None` if it rejects the text.
     fn moment_of(description: &[u8], text: &str) -> Option<Moment> {
         let format = read(description)?.prepared;
         let moment = OffsetDateTime::parse(text, &format).ok()?;
@@ -206,12 +214,14 @@ mod worked {
         }
     }
 
+    // The date that a month and a day have with the year of the defaults; `None` if it is rejected.
     fn day_of(text: &[u8], defaults: Option<Parsed>) -> Option<(i32, Month, u8)> {
         let format = read(b"[month]-[day]")?.prepared;
         let date = format.parse_date(text, defaults).ok()?;
         Some(date.to_calendar_date())
     }
 
+    // The date of a timestamp as in a log of syslog, with the year of the defaults; `None` if it is rejected.
     fn day_of_log(text: &[u8], defaults: Option<Parsed>) -> Option<(i32, Month, u8)> {
         let format = read(b"%b %e %H:%M:%S")?.prepared;
         let moment = format.parse_plain_date_time(text, defaults).ok()?;
@@ -248,7 +258,8 @@ mod worked {
     }
 }
 
-// Each text of a fused step, with each of its bytes changed to each other byte, against the walk over the steps.
+// Each text of a fused step, with each of its bytes changed to each other byte: the prepared description and the walk
+// over the steps have equal results.
 mod fused_steps {
     use super::{Both, read};
     use std::num::NonZero;
@@ -259,7 +270,7 @@ mod fused_steps {
     use time_values::error::Parse;
     use time_values::{Date, OffsetDateTime, PlainDateTime, Time};
 
-    // A description, and a text that it parses.
+    // A description, and a text that starts with what it parses.
     type Row = (&'static [u8], &'static [u8]);
 
     static DATES: [Row; 6] = [
@@ -280,12 +291,16 @@ mod fused_steps {
         (FRACTION, b"00:00:00"),
     ];
 
+    // A date, a time and an offset, or else a year and an ordinal.
     const LOCAL: &[u8] =
         b"[first [[year]-[month]-[day] [hour]:[minute]:[second] [offset_hour sign:mandatory]:[offset_minute]] [[year]-[ordinal]]]";
 
+    // A time of the 12-hour clock, with an optional second and fraction.
     const CLOCK: &[u8] =
         b"[hour repr:12 padding:none]:[minute][optional [:[second][optional [.[subsecond]]]]] [period]";
 
+    // A time of the 12-hour clock, with an optional second and fraction, an `x` between each two parts, and a period in
+    // either case.
     const EITHER_CASE: &[u8] =
         b"[hour repr:12 padding:none]x[minute][optional [x[second][optional [x[subsecond]]]]]x[period case_sensitive:false]";
 
@@ -327,8 +342,8 @@ mod fused_steps {
         (b"[hour][first [[minute]] [x[minute]]] at", b"05x06 at"),
     ];
 
-    // Whether both parse the text equally: the rest and the record are equal, or the error is, and the record is
-    // unchanged.
+    // Whether the walk over the steps and the prepared description parse the text equally, each over a copy of
+    // `record`: the rest and the stored record are equal, or the error is, and then the records are equal too.
     fn has_equal_results(both: &Both, text: &[u8], record: Parsed) -> bool {
         let mut by_walk = record;
         let mut at_once = record;
@@ -337,7 +352,7 @@ mod fused_steps {
         walked == read && same_record(&by_walk, &at_once)
     }
 
-    /// The results of a format for the whole text.
+    /// The results of parsing the whole text as a date, a time, both, and both with an offset.
     pub type Values = (
         Result<Date, Parse>,
         Result<Time, Parse>,
@@ -355,14 +370,15 @@ mod fused_steps {
         )
     }
 
-    // Whether both parse the whole text over the record into an equal date and time.
+    // Whether both parse the whole text, with `known` as defaults, into an equal date and time, or fail with equal
+    // errors.
     fn has_equal_date_time(both: &Both, text: &[u8], known: Parsed) -> bool {
         let walked = both.description.parse_plain_date_time(text, Some(known));
         walked == both.prepared.parse_plain_date_time(text, Some(known))
     }
 
-    // Whether both parse the text equally over the last of the records, and have equal results for the whole text over
-    // each and without one.
+    // Whether both parse the text equally over the last of the records, and have equal results for the whole text with
+    // each record as defaults and without defaults.
     fn has_equal_results_over_all(both: &Both, text: &[u8], records: &[Parsed; 4]) -> bool {
         for known in records {
             if !has_equal_date_time(both, text, *known) {
@@ -376,7 +392,8 @@ mod fused_steps {
     // More bytes than any text of the rows.
     const ROOM: usize = 32;
 
-    // Whether both parse equally each text that differs from the first one in that byte alone.
+    // Whether both parse equally each text that has any byte at the index `at` and the bytes of `text` elsewhere.
+    // `false` if `at` isn't an index of the text, or the text is longer than `ROOM`.
     fn have_equal_results_at(both: &Both, text: &[u8], at: usize, records: &[Parsed; 4]) -> bool {
         let mut bytes = [0; ROOM];
         let Some(changed) = bytes.get_mut(..text.len()) else {
@@ -406,7 +423,7 @@ mod fused_steps {
         ])
     }
 
-    // Whether both parse equally each text that differs from the first one in one byte, and each of its prefixes.
+    // Whether both parse equally the text, each text that differs from it in one byte, and each of its prefixes.
     fn have_equal_results(both: &Both, text: &[u8]) -> bool {
         let Some(records) = known_records() else {
             return false;
@@ -422,6 +439,8 @@ mod fused_steps {
             && has_equal_results(both, text, Parsed::new())
     }
 
+    // Asserts for each row that its description, walked and prepared, parses the text, its prefixes and its changes of
+    // one byte equally.
     fn assert_equal_results(rt: &impl Abort, rows: &[Row]) {
         for (description, text) in rows {
             let is_equal = match read(description) {

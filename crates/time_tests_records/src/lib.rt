@@ -1,9 +1,6 @@
-//! Tests of components and records: parsers of components, items that are parsed into a record, its fields, and its
-//! conversions to values.
+//! Tests of records: items that are parsed into a record, its fields, and its conversions to values.
 #![tactic(auto)]
 
-#[cfg(test)]
-mod components;
 #[cfg(test)]
 mod conversions;
 #[cfg(test)]

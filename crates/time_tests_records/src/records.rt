@@ -3,6 +3,7 @@ use crate::fields::{Field, RANGES, full_record, get, record_of, set, with};
 use crate::same::same_record;
 use std::num::NonZero;
 use time_record::Parsed;
+use time_values::Month;
 
 // Whether a second of 60 is stored, and 61 rejected.
 fn stores_leap_second() -> bool {
@@ -158,4 +159,28 @@ fn same_records_by_their_flags(rt: HostRuntime) {
     for record in &turned {
         assert!(rt; !same_record(record, &full));
     }
+}
+
+// A record of a month and a second of 60.
+fn month_and_second() -> Option<Parsed> {
+    Parsed::new().with_month(Month::March)?.with_second(60)
+}
+
+#[test]
+fn debug_output(rt: HostRuntime) {
+    let expected = "Parsed { year: None, year_century: None, year_last_two: None, iso_year: None, \
+                  iso_year_century: None, iso_year_last_two: None, month: Some(March), \
+                  sunday_week_number: None, monday_week_number: None, iso_week_number: None, \
+                  weekday: None, ordinal: None, day: None, hour_24: None, hour_12: None, \
+                  hour_12_is_pm: None, minute: None, second: Some(60), subsecond: None, \
+                  offset_hour: None, offset_minute: None, offset_second: None, \
+                  unix_timestamp_nanos: None, offset_is_negative: false, \
+                  year_century_is_negative: false, iso_year_century_is_negative: false, \
+                  leap_second_allowed: false }";
+    let record = month_and_second().expect(&rt, "a record");
+    let is_printed = match format!(in rt.alloc(); "{record:?}") {
+        Ok(text) => text.as_str() == expected,
+        Err(_) => false,
+    };
+    assert!(rt; is_printed);
 }

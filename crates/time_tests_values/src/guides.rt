@@ -42,7 +42,7 @@ fn callers_of_values(rt: HostRuntime) {
     }
 }
 
-// The hour and the minute at the start of a text, as `0930`, and the unread rest. This is no second way of reading.
+// The hour and the minute at the start of a text, as `0930`, and the unread rest. This is not a fast path.
 fn hour_and_minute(input: &[u8]) -> Option<ParsedItem<'_, (u32, u32)>>
     ensures { IfSome result (λ p. (mid : List ℕ) × Cut (IsDigitRun 2 2) input.now mid p.1.0
         × Cut (IsDigitRun 2 2) mid p.0.now p.1.1) }

@@ -17,7 +17,8 @@ use time::parsing::Parsed;
 use time::prelude::*;
 use time::{Date, OffsetDateTime, Time, UtcDateTime, laws};
 
-/// The moment at the beginning of a line of a log, by RFC 3339, and the rest of the line.
+/// The date, time and offset in RFC 3339 at the beginning of a line of a log, and the rest of the line. An error if the
+/// line doesn't begin with a valid one.
 pub fn log_line(line: &[u8]) -> Result<(OffsetDateTime, &[u8]), Parse>
     ensures { IsFront (IsMoment greatest_year) (rfc3339.Reads greatest_year) (rfc3339.Refuses greatest_year)
         line.now empty (erased_prefix_result result) }
@@ -25,7 +26,7 @@ pub fn log_line(line: &[u8]) -> Result<(OffsetDateTime, &[u8]), Parse>
     Rfc3339.parse_front(line, None)
 }
 
-/// The moment of a mail's `Date` header, by RFC 2822.
+/// The date, time and offset that the whole value of a mail's `Date` header is in RFC 2822. An error if it isn't valid.
 pub fn mail_date(header: &str) -> Result<OffsetDateTime, Parse>
     ensures { IsMomentOutcome greatest_year (direct (RefusesRfc2822 greatest_year)) (rfc2822.Reads greatest_year)
         (rfc2822.Refuses greatest_year) header.now None (seen result) }
@@ -33,16 +34,17 @@ pub fn mail_date(header: &str) -> Result<OffsetDateTime, Parse>
     OffsetDateTime::parse(header, &Rfc2822)
 }
 
-/// Why a setting is no date.
+/// Why a text of a configuration wasn't parsed as a date.
 #[derive(Debug, Drop)]
 pub enum NoDate<'a> {
     /// The description can't be parsed, or has more than 64 steps.
     Description(InvalidFormatDescription<'a>),
-    /// The text has no date by the description.
+    /// The text doesn't match the description, or the parsed components give no valid date.
     Text(Parse),
 }
 
-/// The date of a configuration's text, by a description that the configuration gives, too.
+/// The date of a whole text by a description of version 2, in brackets. Both are texts of a configuration. An error is
+/// that of the description, which may have up to 64 steps, or else that of the text.
 pub fn configured_date<'a>(description: &'a str, text: &str) -> Result<Date, NoDate<'a>>
     ensures { IsConfigured description.now text.now result }
 {
@@ -56,7 +58,8 @@ pub fn configured_date<'a>(description: &'a str, text: &str) -> Result<Date, NoD
     }
 }
 
-/// The start of an event of a calendar, such as `20210102T030405Z`, in UTC, by ISO 8601.
+/// The start of a calendar's event, a whole text in ISO 8601 such as `20210102T030405Z`, converted to UTC. A text
+/// without an offset is in UTC. An error if the text has no valid date and time.
 pub fn event_start(start: &str) -> Result<UtcDateTime, Parse>
     ensures { IsOutcome (IsUtcMoment greatest_year) (iso8601.Reads greatest_year) (iso8601.Refuses greatest_year)
         start.now empty (seen result) }
@@ -64,7 +67,8 @@ pub fn event_start(start: &str) -> Result<UtcDateTime, Parse>
     UtcDateTime::parse(start, &Iso8601)
 }
 
-/// The time of a text such as `03.33`, whose hour has a fraction: exactly 19 minutes and 48 seconds past three.
+/// The time of day of a whole text in ISO 8601. A date and an offset are dropped. The text `03.33`, an hour with a
+/// fraction, is exactly 03:19:48. An error if the text has no valid time.
 pub fn time_of_day(text: &str) -> Result<Time, Parse>
     ensures { IsOutcome IsTimed (iso8601.Reads greatest_year) (iso8601.Refuses greatest_year)
         text.now empty (seen result) }
@@ -72,7 +76,8 @@ pub fn time_of_day(text: &str) -> Result<Time, Parse>
     Time::parse(text, &Iso8601)
 }
 
-/// The date of a text that may omit the year, for which `year` is the default.
+/// The date of a whole text by the format. The default year, of a text that omits it, is `year` if that is from -999999
+/// to 999999; otherwise there is no default. An error if the text doesn't match, or gives no valid date.
 pub fn date_in<F: Parsable>(year: i32, text: &[u8], format: &F) -> Result<Date, Parse>
     ensures { IsOutcome (IsDated greatest_year) (F.reads format.now) (F.refuses format.now) text.now
         (begun (put greatest_year (year_is year) empty)) (seen result) }
@@ -80,7 +85,9 @@ pub fn date_in<F: Parsable>(year: i32, text: &[u8], format: &F) -> Result<Date, 
     format.parse_date(text, Parsed::new().with_year(year))
 }
 
-/// The index at which a text fails that the format rejected with this error.
+/// The byte index at which the format fails on a text that it rejected with this error. If the format matches the whole
+/// text, it is the start of the component that the error calls out of range, or of the week number for an `ordinal`
+/// that the text omits; `None` then means that the error calls no component of the text out of range.
 pub fn error_index<F: Locate>(text: &[u8], format: &F, error: Parse) -> Option<usize>
     ensures { IsErrorAt (F.reads format.now) (F.locates format.now) (F.marks format.now) text.now empty
         (refusal_of error) result }
@@ -88,7 +95,8 @@ pub fn error_index<F: Locate>(text: &[u8], format: &F, error: Parse) -> Option<u
     locate_error(format, text, None, error)
 }
 
-/// The moment that is parsed from the moment's own text: the moment itself, where RFC 3339 has a text for it.
+/// The moment that is parsed from the RFC 3339 text of `moment`: `moment` itself, or `None` if RFC 3339 has no text for
+/// it, since its year isn't from 0 to 9999, or its offset has more than 23 hours or has seconds.
 pub fn parsed_back(moment: OffsetDateTime) -> Option<OffsetDateTime>
     ensures written { unwritable_3339 moment ≡ None → result ≡ Some moment }
     ensures unwritten { unwritable_3339 moment ≢ None → result ≡ None }

@@ -1,4 +1,4 @@
-//! The uses on texts of the standards, and on values that were computed by hand.
+//! The functions on examples of the standards, and on values that were computed by hand.
 use crate::*;
 use std::test::Fail;
 use time::format_description::BorrowedFormatItem;
@@ -74,7 +74,7 @@ fn dates_of_this_year(rt: HostRuntime) -> Result<(), Fail> {
     Ok(())
 }
 
-// The index of the error of a text that isn't by RFC 3339.
+// The byte index of the error of a text in RFC 3339. `None`: the text is valid, or its error has no index.
 fn index_in(text: &[u8]) -> Option<usize> {
     let error = OffsetDateTime::parse(text, &Rfc3339).err()?;
     error_index(text, &Rfc3339, error)

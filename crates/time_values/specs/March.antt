@@ -7,6 +7,6 @@ use Rattle.std.specs.Prelude.{ℕ, ◌+◌, ◌-◌, ◌*◌, ◌/◌, nat_lt, i
 abbrev pub march_days : ℕ → ℕ
 march_days m = if nat_lt m 3 then 275 + 31 * m else (153 * m - 457) / 5
 
--- the number of years by which a month's year, if years begin in March, is later than its calendar year
+-- 1 from March on, and 0 for January and February
 abbrev pub march_year : ℕ → ℕ
 march_year m = if nat_lt 2 m then 1 else 0

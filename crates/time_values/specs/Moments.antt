@@ -16,27 +16,31 @@ use Rattle.time_values.specs.declared.duration.Duration.{Duration}
 use Rattle.time_values.specs.Refusal.{Refusal, range, Constructs}
 use Rattle.time_values.specs.declared.error.ComponentRange.{ComponentRange}
 
--- the parts of a date-time without an offset
+-- the date of a date-time without an offset
 abbrev pub plain_date : PlainDateTime → Date
 plain_date p = p.date
 
+-- the time of day of a date-time without an offset
 abbrev pub plain_time : PlainDateTime → Time
 plain_time p = p.time
 
--- the parts of a date-time with an offset, in local time
+-- the local date of a date-time with an offset
 abbrev pub offset_date : OffsetDateTime → Date
 offset_date v = v.date
 
+-- the local time of day of a date-time with an offset
 abbrev pub offset_time : OffsetDateTime → Time
 offset_time v = v.time
 
+-- the offset from UTC of a date-time with an offset
 abbrev pub offset_of : OffsetDateTime → UtcOffset
 offset_of v = v.offset
 
--- the parts of a date-time in UTC
+-- the date of a date-time in UTC
 abbrev pub utc_date : UtcDateTime → Date
 utc_date u = u.date
 
+-- the time of day of a date-time in UTC
 abbrev pub utc_time : UtcDateTime → Time
 utc_time u = u.time
 
@@ -44,17 +48,19 @@ utc_time u = u.time
 abbrev pub plain_instant : ℕ → PlainDateTime → ℤ
 plain_instant Y p = clock_nanos Y (plain_date p) (plain_time p)
 
+-- the nanoseconds from 1970-01-01T00:00:00 to the local date and time, both at the offset of the date-time
 abbrev pub offset_clock : ℕ → OffsetDateTime → ℤ
 offset_clock Y v = clock_nanos Y (offset_date v) (offset_time v)
 
--- the instant of a moment
+-- the nanoseconds since 1970-01-01T00:00:00Z of a date-time in UTC
 abbrev pub utc_instant : ℕ → UtcDateTime → ℤ
 utc_instant Y u = clock_nanos Y (utc_date u) (utc_time u)
 
+-- the nanoseconds since 1970-01-01T00:00:00Z of a date-time with an offset
 abbrev pub offset_instant : ℕ → OffsetDateTime → ℤ
 offset_instant Y v = instant Y (offset_date v) (offset_time v) (offset_of v)
 
--- the nanoseconds since 1970-01-01T00:00:00Z
+-- the nanoseconds since 1970-01-01T00:00:00Z of a timestamp
 abbrev pub nanoseconds : Timestamp → ℤ
 nanoseconds t = t.nanoseconds
 
@@ -66,7 +72,7 @@ local_time_at instant offset = instant +ℤ (offset_seconds offset *ℤ pos 1_00
 
 -- ---- Lengths of time, in nanoseconds
 
--- the nanoseconds of a duration
+-- the nanoseconds of a duration, of either sign
 abbrev pub length : Duration → ℤ
 length d = d.nanoseconds
 
@@ -76,7 +82,7 @@ IsTowardsZero unit n z =
     ((pos 0 ≤ℤ n) × ((z *ℤ pos unit) ≤ℤ n) × (n <ℤ ((z *ℤ pos unit) +ℤ pos unit)))
     ⊎ ((n <ℤ pos 0) × (n ≤ℤ (z *ℤ pos unit)) × (((z *ℤ pos unit) -ℤ pos unit) <ℤ n))
 
--- the instant that is nearest to that many nanoseconds
+-- the instant with a date in UTC from the year -Y to Y that is nearest to n
 abbrev pub nearest_instant : ℕ → ℤ → ℤ
 nearest_instant Y n =
     if int_lt n (first_instant Y) then first_instant Y
@@ -84,7 +90,7 @@ nearest_instant Y n =
 
 -- ---- Times of the system's clock, which has no times before 1970
 
--- the error of an instant before 1970, in nanoseconds since then
+-- the error `timestamp` of an instant before 1970-01-01T00:00:00Z, and none for another
 abbrev pub system_time_refusal : ℤ → Option Refusal
 system_time_refusal n = if le_z (pos 0) n then None else Some (range (codes "timestamp") false)
 

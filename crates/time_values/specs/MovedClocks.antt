@@ -9,14 +9,14 @@ use Rattle.time_values.specs.declared.date.Date.{Date}
 use Rattle.time_values.specs.declared.time.Time.{Time}
 use Rattle.time_values.specs.declared.utc_offset.UtcOffset.{UtcOffset}
 
--- the local time that many seconds after that date and time
+-- the nanoseconds of the local time that many seconds after the date and time
 abbrev pub moved_clock : Date → Time → ℤ → ℤ
 moved_clock date time seconds = clock_nanos greatest_year date time +ℤ seconds *ℤ pos 1_000_000_000
 
--- the local time at the second offset of that date and time at the first
+-- the nanoseconds of the local time at the offset `to` of a date and time at the offset `from`
 abbrev pub other_clock : Date → Time → UtcOffset → UtcOffset → ℤ
 other_clock date time from to = moved_clock date time (offset_seconds to -ℤ offset_seconds from)
 
--- a clock at some offset can show that many nanoseconds since 1970
+-- n is at most 3.2e22 nanoseconds from 0, as every date and time at any offset is
 abbrev pub IsNear : ℤ → Type 0
 IsNear n = IsBetween (neg_ℤ (pos 32_000_000_000_000_000_000_000)) (pos 32_000_000_000_000_000_000_000) n

@@ -48,7 +48,7 @@ month_number October = 10
 month_number November = 11
 month_number December = 12
 
--- the month of a number; for a number that isn't one, any month
+-- the month of a number, 1 to 12; January for 0, and December above 12
 abbrev pub month_at : ℕ → Month
 month_at zero = January
 month_at (suc zero) = January
@@ -64,13 +64,13 @@ month_at (suc (suc (suc (suc (suc (suc (suc (suc (suc (suc zero)))))))))) = Octo
 month_at (suc (suc (suc (suc (suc (suc (suc (suc (suc (suc (suc zero))))))))))) = November
 month_at _ = December
 
--- the error of a number, from 1 on, that isn't a month's
+-- the error `month` of a number above 12, and else none
 abbrev pub month_refusal : ℕ → Option Refusal
 month_refusal n = if nat_le n 12 then None else Some (range (codes "month") false)
 
 -- ---- The numbers of the days of the week
 
--- the number of days from Monday to a weekday
+-- the number of days from Monday to a weekday, 0 for Monday to 6 for Sunday
 abbrev pub days_from_monday : Weekday → ℕ
 days_from_monday Monday = 0
 days_from_monday Tuesday = 1
@@ -80,7 +80,7 @@ days_from_monday Friday = 4
 days_from_monday Saturday = 5
 days_from_monday Sunday = 6
 
--- the weekday of a number of days; for a greater number, any weekday
+-- the weekday that many days after Monday, for 0 to 6; Sunday for a greater number
 abbrev pub weekday_at : ℕ → Weekday
 weekday_at zero = Monday
 weekday_at (suc zero) = Tuesday

@@ -20,24 +20,27 @@ pub data Refusal : Type 0 where
   insufficient : Refusal
   range : List ℕ → Bool → Refusal
 
--- the content of each error
+-- the content of a `ComponentRange`
 abbrev pub refusal_of_range : ComponentRange → Refusal
 refusal_of_range e = range e.name.now e.conditional
 
+-- the content of a `ParseFromDescription`
 abbrev pub refusal_of_description : ParseFromDescription → Refusal
 refusal_of_description InvalidLiteral = literal
 refusal_of_description (InvalidComponent name) = component name.now
 refusal_of_description UnexpectedTrailingCharacters = trailing
 
+-- the content of a `TryFromParsed`
 abbrev pub refusal_of_parsed : TryFromParsed → Refusal
 refusal_of_parsed InsufficientInformation = insufficient
 refusal_of_parsed (of_range e) = refusal_of_range e
 
+-- the content of a `Parse`
 abbrev pub refusal_of : Parse → Refusal
 refusal_of (of_parsed e) = refusal_of_parsed e
 refusal_of (of_description e) = refusal_of_description e
 
--- a value with P if nothing is rejected, and else an error with that content
+-- for `None`, the result is `Ok` with a value that satisfies P; for `Some`, it is an error with that content
 abbrev pub Constructs : {A : Type 0} → Option Refusal → (A → Type 0) → Result A ComponentRange → Type 0
 Constructs None P (Ok v) = P v
 Constructs None P (Err e) = ⊥
@@ -46,40 +49,43 @@ Constructs (Some r) P (Err e) = refusal_of_range e ≡ r
 
 -- ---- The conversions between the errors return the content, or an error if the value is another variant
 
--- the value is of another variant
+-- the error of a conversion from another variant
 abbrev pub another : {A : Type 0} → Result A DifferentVariant
 another = Err (record {})
 
--- the content of a `TryFromParsed`
+-- the `ComponentRange` in a `TryFromParsed`, or an error for `InsufficientInformation`
 abbrev pub range_of_parsed : TryFromParsed → Result ComponentRange DifferentVariant
 range_of_parsed InsufficientInformation = another
 range_of_parsed (of_range e) = Ok e
 
--- the content of a `Parse`
+-- the `TryFromParsed` in a `Parse`, or an error for the other variant
 abbrev pub parsed_of_parse : Parse → Result TryFromParsed DifferentVariant
 parsed_of_parse (of_parsed e) = Ok e
 parsed_of_parse (of_description e) = another
 
+-- the `ParseFromDescription` in a `Parse`, or an error for the other variant
 abbrev pub description_of_parse : Parse → Result ParseFromDescription DifferentVariant
 description_of_parse (of_parsed e) = another
 description_of_parse (of_description e) = Ok e
 
--- the joint error of the content of a `Parse`
+-- the `Error` with the content of a `Parse`
 abbrev pub joint_of_parse : Parse → Error
 joint_of_parse (of_parsed e) = joint_parsed e
 joint_of_parse (of_description e) = joint_description e
 
--- the content of a joint error
+-- the `TryFromParsed` in an `Error`, or an error for another variant
 abbrev pub parsed_of_joint : Error → Result TryFromParsed DifferentVariant
 parsed_of_joint (joint_range e) = another
 parsed_of_joint (joint_parsed e) = Ok e
 parsed_of_joint (joint_description e) = another
 
+-- the `ParseFromDescription` in an `Error`, or an error for another variant
 abbrev pub description_of_joint : Error → Result ParseFromDescription DifferentVariant
 description_of_joint (joint_range e) = another
 description_of_joint (joint_parsed e) = another
 description_of_joint (joint_description e) = Ok e
 
+-- the `Parse` of an `Error`, or an error for the variant `ComponentRange`
 abbrev pub parse_of_joint : Error → Result Parse DifferentVariant
 parse_of_joint (joint_range e) = another
 parse_of_joint (joint_parsed e) = Ok (of_parsed e)
@@ -87,7 +93,7 @@ parse_of_joint (joint_description e) = Ok (of_description e)
 
 -- ---- The bytes that the errors print
 
--- the text of each error
+-- the text that `Display` prints for an error with that content
 abbrev pub refusal_text : Refusal → List ℕ
 refusal_text literal = codes "a character literal was not valid"
 refusal_text (component name) = codes "the '" ++ name ++ codes "' component could not be parsed"
@@ -98,6 +104,6 @@ refusal_text (range name conditional) =
     if conditional then name ++ codes " is out of range for the other components"
     else name ++ codes " is out of range"
 
--- the text of a conversion that finds another variant
+-- the text that `Display` prints for `DifferentVariant`
 abbrev pub variant_text : List ℕ
 variant_text = codes "value was of a different variant than required"

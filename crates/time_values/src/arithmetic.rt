@@ -216,7 +216,7 @@ impl Sub<UtcDateTime> for UtcDateTime {
     }
 }
 
-/// The time between two local dates and times, as on one clock.
+/// The time between two local dates and times at one offset: negative if the first is the earlier one.
 impl Sub<PlainDateTime> for PlainDateTime {
     type Output = Duration;
 
@@ -227,7 +227,7 @@ impl Sub<PlainDateTime> for PlainDateTime {
     }
 }
 
-/// The time between the instants of two moments, whatever their offsets.
+/// The time between the instants of two moments, whatever their offsets: negative if the first is the earlier one.
 impl Sub<OffsetDateTime> for OffsetDateTime {
     type Output = Duration;
 
@@ -251,7 +251,8 @@ pub(crate) fn clock_with(
     moved(date, time, to.whole_seconds() - from.whole_seconds())
 }
 
-// The date and time that many seconds later, less than three days, or `None` if the date is out of range.
+// The date and time that many seconds later, or earlier if below 0, by less than three days. Returns `None` if the date
+// is out of range.
 #[tactic(auto, using(crate::proofs::InstantLemmas::instant_facts))]
 fn moved(date: Date, time: Time, seconds: i32) -> Option<UtcDateTime>
     requires { IsBetween (neg_ℤ (pos 259_199)) (pos 259_199) seconds }

@@ -11,7 +11,7 @@ use crate::error::ComponentRange;
 use crate::{Month, Weekday, days};
 use std::fmt;
 
-/// A day of the proleptic Gregorian calendar, in the years -999999 to 999999. Dates are ordered by their days.
+/// A day of the proleptic Gregorian calendar, in the years -999999 to 999999. Earlier dates compare as less.
 #[derive(Clone, Copy, PartialEq, Eq, PartialOrd, Ord, Hash)]
 pub struct Date {
     year: i32,
@@ -44,7 +44,7 @@ impl Date {
     };
 
     /// The date with this year, month and day of the month, from 1. An error names `year` outside -999999 to 999999,
-    /// and else, as conditional, `day` if the month has no such day.
+    /// and else `day`, as conditional, if the month has no such day.
     #[inline(always)]
     pub fn from_calendar_date(year: i32, month: Month, day: u8) -> Result<Date, ComponentRange>
         ensures { Constructs (calendar_date_refusal greatest_year year (month_number month) day)
@@ -207,14 +207,15 @@ impl Date {
         ((self.ordinal() + 6 - self.weekday().number_days_from_monday() as u16) / 7) as u8
     }
 
-    /// The year, week and weekday by ISO 8601: a week begins on Monday, and belongs to the year of its Thursday.
+    /// The year, week (1 to 53) and weekday by ISO 8601: a week begins on Monday, and belongs to the year of its
+    /// Thursday.
     pub fn to_iso_week_date(self) -> (i32, u8, Weekday)
         ensures week { Calendar.IsIsoWeek greatest_year (Dates.day_number greatest_year self)
             result.0 result.1 }
         ensures weekday { days_from_monday result.2 ≡ Dates.weekday greatest_year self }
     {
         let weekday = self.weekday();
-        // The place of the week's Thursday, counted so that 1 January is 8.
+        // The days from 1 January of this year to the week's Thursday, plus 8.
         let shifted = self.ordinal() + 10 - weekday.number_days_from_monday() as u16;
         let Some((year, place)) = days::at_place(self.year, shifted) else {
             unreachable!()
@@ -251,7 +252,7 @@ impl Date {
                 conditional: true,
             });
         }
-        // The place of the day, counted so that 1 January is 8.
+        // The days from 1 January of `year` to the returned date, plus 8.
         let shifted = thursday
             + 7 * (week as u16 - 1)
             + 4
@@ -277,7 +278,7 @@ impl fmt::Debug for Date {
     }
 }
 
-// The days of the year before a month.
+// The number of days of the year before the month of that number.
 #[tactic(auto, using(crate::proofs::YearLemmas::days_of_months_closed))]
 fn days_before_month(year: i32, month: u16) -> u16
     requires { IsInRange 1 12 month }
@@ -292,7 +293,7 @@ fn days_before_month(year: i32, month: u16) -> u16
     }
 }
 
-// The month and day of a day of the year.
+// The month, 1 for January, and the day of the month of a day of the year.
 #[tactic(auto, using(crate::proofs::YearLemmas::month_and_day_facts))]
 fn month_and_day(year: i32, ordinal: u16) -> (u8, u8)
     requires { IsInRange 1 (Calendar.year_length year) ordinal }

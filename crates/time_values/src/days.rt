@@ -12,7 +12,7 @@ pub const DAY_LIMIT: u32 = 365 * YEARS + YEARS / 4 - YEARS / 100 + YEARS / 400;
 
 const YEARS: u32 = 2 * MAX_YEAR as u32 + 1;
 
-/// 1970-01-01 as a day number.
+/// The day number of 1970-01-01: the days since -999999-01-01.
 pub const EPOCH_DAY: u32 = 365 * YEARS_BEFORE_1970 + YEARS_BEFORE_1970 / 4 - YEARS_BEFORE_1970 / 100
     + YEARS_BEFORE_1970 / 400;
 
@@ -52,7 +52,7 @@ fn years_before(year: i32) -> u32
     (year + MAX_YEAR) as u32
 }
 
-/// The day number of the year's first day.
+/// The day number of 1 January of the year: the days since -999999-01-01.
 #[tactic(auto, using(crate::proofs::YearLemmas::days_of_years_closed))]
 pub fn year_start(year: i32) -> u32
     requires { Calendar.IsYear greatest_year year }
@@ -63,8 +63,8 @@ pub fn year_start(year: i32) -> u32
     365 * years + years / 4 - years / 100 + years / 400
 }
 
-/// The year and the day of the year of a day, from its distance to a year's start, counted so that 1 January is 8.
-/// `None` after the last day.
+/// The year and the day of the year, from 1, of the day `shifted - 8` days after 1 January of `year`. Returns `None` if
+/// that day is after `Date::MAX`.
 pub fn at_place(year: i32, shifted: u16) -> Option<(i32, u16)>
     requires year_in { Calendar.IsYear greatest_year year }
     requires low { 7 < Calendar.year_start greatest_year year + shifted }
@@ -91,7 +91,7 @@ pub fn at_place(year: i32, shifted: u16) -> Option<(i32, u16)>
     Some((year + 1, place - length))
 }
 
-/// The day of the year of the year's first Thursday, from 1.
+/// The day of the year of the year's first Thursday, 1 to 7.
 pub fn first_thursday(year: i32) -> u16
     requires { Calendar.IsYear greatest_year year }
     ensures value { (Calendar.year_start greatest_year year + result + 6) % 7 ≡ 3 }
@@ -112,7 +112,7 @@ pub fn year_and_place(day: u32) -> (i32, u16)
     (years as i32 - MAX_YEAR, rest as u16 + 1)
 }
 
-// The number of whole years since the first, and the days since then.
+// The number of years before the year of a day number, from -999999 on, and the days since 1 January of its year.
 fn split_years(day: u32) -> (u32, u32)
     requires { day < 1_000_000_000 }
     ensures value { 365 * result.0 + result.0 / 4 - result.0 / 100 + result.0 / 400 + result.1 ≡ day }

@@ -17,7 +17,7 @@ static PAIRS: [u16; 100] = [
     0x3639, 0x3739, 0x3839, 0x3939,
 ];
 
-/// The two digits of a number below 100.
+/// The two ASCII digits of a number below 100, with a leading zero below 10.
 //
 // They are loaded as one number, so that one instruction stores them.
 #[inline(always)]
@@ -40,7 +40,7 @@ fn hundreds(n: u32) -> u32
     n * 5243 / 524_288
 }
 
-/// The four digits of a number below 10000.
+/// The four ASCII digits of a number below 10000, with leading zeros.
 #[inline(always)]
 #[tactic(auto, unfolding(crate::specs::DisplayTexts::fixed))]
 pub fn four(n: u32) -> [u8; 4]
@@ -53,7 +53,7 @@ pub fn four(n: u32) -> [u8; 4]
     [a, b, c, d]
 }
 
-/// The nine digits of a number below 1000000000.
+/// The nine ASCII digits of a number below 1000000000, with leading zeros.
 #[inline(always)]
 #[tactic(auto, unfolding(crate::specs::DisplayTexts::fixed))]
 pub fn nine(n: u32) -> [u8; 9]
@@ -68,7 +68,7 @@ pub fn nine(n: u32) -> [u8; 9]
     [n1, n2, n3, n4, n5, n6, n7, n8, n9]
 }
 
-/// The five digits of a number below 100000.
+/// The five ASCII digits of a number below 100000, with leading zeros.
 #[tactic(auto, unfolding(crate::specs::DisplayTexts::fixed))]
 pub fn five(n: u32) -> [u8; 5]
     requires { n < 100_000 }
@@ -78,7 +78,7 @@ pub fn five(n: u32) -> [u8; 5]
     [b'0' + (n / 10_000) as u8, b, c, d, e]
 }
 
-/// The six digits of a number below 1000000.
+/// The six ASCII digits of a number below 1000000, with leading zeros.
 #[tactic(auto, unfolding(crate::specs::DisplayTexts::fixed))]
 pub fn six(n: u32) -> [u8; 6]
     requires { n < 1_000_000 }
@@ -89,7 +89,8 @@ pub fn six(n: u32) -> [u8; 6]
     [a, b, c, d, e, f]
 }
 
-// The number of digits, and the number that they represent, without thousands of zeros at its end.
+// Removes groups of three zeros from the end of the nine digits of a nanosecond. Returns how many digits are left, and
+// the number that they represent.
 #[tactic(auto, using(crate::proofs::NumberLemmas::significant_thousand, crate::proofs::NumberLemmas::significant_million, crate::proofs::NumberLemmas::significant_nothing))]
 fn without_thousands(nanosecond: u32) -> (usize, u32)
     ensures count { significant 9 nanosecond ≡ significant result.0 result.1 }
@@ -107,7 +108,7 @@ fn without_thousands(nanosecond: u32) -> (usize, u32)
     (9, nanosecond)
 }
 
-/// The number of digits of a nanosecond, of nine, before the zeros at the end, 0 to 9.
+/// How many of the nine digits of a nanosecond are left without the zeros at the end, 0 to 9.
 pub fn count_significant(nanosecond: u32) -> usize
     ensures count { result ≡ significant 9 nanosecond }
     ensures bound { result ≤ 9 }

@@ -9,7 +9,7 @@ use crate::text::Text;
 use crate::{Date, OffsetDateTime, PlainDateTime, Time, Timestamp, UtcDateTime, UtcOffset};
 use std::{fmt, str};
 
-// Appends the sign of a year outside 0 to 9999.
+// Appends `-` for a year below 0, `+` for a year above 9999, and nothing for another year.
 fn append_year_sign(text: &mut Text, year: i32)
     requires { length text.old.items ≤ 0 }
     ensures text { text.new.items ≡ text.old.items ++ DisplayTexts.year_sign_display year }
@@ -42,7 +42,7 @@ fn append_magnitude(text: &mut Text, n: u32)
     }
 }
 
-// Two numbers of two digits, each after that mark.
+// The two ASCII digits of each number, each pair after the byte `mark`.
 fn marked_pairs(mark: u8, first: u8, second: u8) -> [u8; 6]
     requires first { first < 100 }
     requires second { second < 100 }
@@ -53,7 +53,7 @@ fn marked_pairs(mark: u8, first: u8, second: u8) -> [u8; 6]
     [mark, a1, a2, mark, b1, b2]
 }
 
-/// Prints `YYYY-MM-DD`. A year outside 0 to 9999 has a sign, and as many digits as it needs.
+/// Prints `YYYY-MM-DD`. A year outside 0 to 9999 has a sign, and four to six digits.
 impl fmt::Display for Date {
     ghost output = { λ d. Some (DisplayTexts.date_display d) };
 
@@ -80,7 +80,7 @@ fn append_hour(text: &mut Text, hour: u8)
     }
 }
 
-/// Prints `H:MM:SS.n`. The hour has one digit or two. The fraction has at least one digit, and else no zero at its end.
+/// Prints `H:MM:SS.n`. The hour has no leading zero. The fraction has no zero at its end, but at least one digit.
 impl fmt::Display for Time {
     ghost output = { λ t. Some (DisplayTexts.time_display t) };
 
@@ -106,7 +106,7 @@ fn sign_of(offset: UtcOffset) -> u8
     }
 }
 
-// `+HH:MM:SS`.
+// `+HH:MM:SS`, with `-` if a part is below 0.
 #[tactic(auto, using(crate::proofs::NumberLemmas::two))]
 fn offset_bytes(offset: UtcOffset) -> [u8; 9]
     ensures { result ≡ DisplayTexts.offset_display offset }

@@ -2,7 +2,7 @@ ghost use Rattle.std.specs.Prelude.{◌≡◌, ◌↔◌, IsTrue, pos, ◌+ℤ�
 ghost use Rattle.time_values.specs.Calendar.{IsLength};
 ghost use Rattle.time_values.specs.MovedClocks.{IsNear};
 
-/// A length of time, in nanoseconds of either sign. Its whole seconds fit in 64 bits.
+/// A length of time, in nanoseconds of either sign. Its whole seconds fit in an `i64`.
 #[derive(Clone, Copy, Debug, PartialEq, Eq, PartialOrd, Ord, Hash)]
 pub struct Duration {
     nanoseconds: i128,
@@ -12,7 +12,7 @@ pub struct Duration {
 impl Duration {
     ghost use Rattle.time_values.specs.Moments as Durations;
 
-    /// No time at all.
+    /// A duration of 0.
     pub const ZERO: Duration = Duration { nanoseconds: 0 };
 
     /// The duration of that many seconds and nanoseconds together, each of either sign. The whole seconds must fit in
@@ -42,7 +42,7 @@ impl Duration {
         }
     }
 
-    // The time between two moments in nanoseconds since 1970.
+    // The time from the moment `earlier` to `later`, both in nanoseconds since 1970. It can be negative.
     pub(crate) fn between(later: i128, earlier: i128) -> Duration
         requires { IsNear later × IsNear earlier }
         ensures { Durations.length result ≡ later -ℤ earlier }
@@ -52,7 +52,7 @@ impl Duration {
         }
     }
 
-    /// The duration in nanoseconds.
+    /// The duration in nanoseconds, of either sign.
     #[inline]
     pub fn whole_nanoseconds(self) -> i128
         ensures value { result ≡ Durations.length self }

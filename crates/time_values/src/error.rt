@@ -18,7 +18,7 @@ pub struct ComponentRange {
 }
 
 impl ComponentRange {
-    /// The component's name.
+    /// The component's name, such as `hour`.
     pub fn name(self) -> &'static str
         ensures { result ≡ self.name }
     {
@@ -48,7 +48,7 @@ impl fmt::Display for ComponentRange {
 
 impl std::error::Error for ComponentRange {}
 
-/// A conversion took an enum's value of a different variant.
+/// A conversion from an enum to the type of one variant failed, since the value was of a different variant.
 #[derive(Clone, Copy, Debug, PartialEq, Eq)]
 pub struct DifferentVariant;
 
@@ -62,7 +62,7 @@ impl fmt::Display for DifferentVariant {
 
 impl std::error::Error for DifferentVariant {}
 
-/// A text doesn't have the expected form.
+/// A text doesn't match the expected format.
 #[derive(Clone, Copy, Debug, PartialEq, Eq)]
 pub enum ParseFromDescription {
     /// The expected literal is missing.
@@ -74,7 +74,8 @@ pub enum ParseFromDescription {
 }
 
 impl ParseFromDescription {
-    /// The name of the component that could not be read, or `None` for another error.
+    /// The name of the component that could not be read, or `None` if a literal is missing or bytes are left
+    /// over.
     pub fn component_name(self) -> Option<&'static str>
         ensures name { IfSome result (λ name. refusal_of_description self ≡ component name.now) }
         ensures none { IfNone result ((refusal_of_description self ≡ literal) ⊎ (refusal_of_description self ≡ trailing)) }
@@ -158,9 +159,9 @@ impl TryFrom<TryFromParsed> for ComponentRange {
 /// A text was not parsed into a value.
 #[derive(Clone, Copy, Debug, PartialEq, Eq)]
 pub enum Parse {
-    /// The text was read, and makes no value.
+    /// The text was read, but its components don't make a value.
     TryFromParsed(TryFromParsed),
-    /// The text could not be read.
+    /// A literal is missing, a component could not be read, or bytes are left over.
     ParseFromDescription(ParseFromDescription),
 }
 
@@ -221,13 +222,13 @@ impl TryFrom<Parse> for ParseFromDescription {
     }
 }
 
-/// Any of the errors.
+/// Any error of a constructor or of parsing.
 #[derive(Debug, Drop, thiserror::Error)]
 pub enum Error {
     /// A component is out of its range.
     #[error(transparent)]
     ComponentRange(ComponentRange),
-    /// A text doesn't have the expected form.
+    /// A text doesn't match the expected format.
     #[error(transparent)]
     ParseFromDescription(ParseFromDescription),
     /// The components that were read don't make a value of the expected type.

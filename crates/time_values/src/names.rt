@@ -44,7 +44,7 @@ pub fn weekday_name(weekday: Weekday) -> &'static str
     }
 }
 
-/// The English name.
+/// Prints the English name, such as `January`.
 impl fmt::Display for Month {
     ghost output = { λ m. Some (spec.month_name m) };
 
@@ -53,7 +53,7 @@ impl fmt::Display for Month {
     }
 }
 
-/// The English name.
+/// Prints the English name, such as `Monday`.
 impl fmt::Display for Weekday {
     ghost output = { λ w. Some (spec.weekday_name w) };
 

@@ -79,7 +79,7 @@ impl OffsetDateTime {
         clock - self.offset.whole_seconds() as i128 * 1_000_000_000
     }
 
-    /// The moment with another nanosecond of its second. An error names `nanosecond` above 999999999.
+    /// The moment with its nanosecond of the second replaced. An error names `nanosecond` above 999999999.
     pub fn replace_nanosecond(self, nanosecond: u32) -> Result<OffsetDateTime, ComponentRange>
         ensures { Constructs (nanosecond_refusal nanosecond) (λ o. (offset_date o ≡ offset_date self)
             × HasSecond (offset_time self) nanosecond (offset_time o)
@@ -93,7 +93,7 @@ impl OffsetDateTime {
         })
     }
 
-    /// The moment in UTC, or `None` if it is outside the range of dates there.
+    /// The moment in UTC, or `None` if its year there is outside -999999 to 999999.
     #[tactic(auto, using(crate::proofs::InstantLemmas::instant_facts))]
     pub fn checked_to_utc(self) -> Option<UtcDateTime>
         ensures value { IfSome result (λ u. utc_instant greatest_year u ≡ offset_instant greatest_year self) }
@@ -131,7 +131,7 @@ impl OffsetDateTime {
         OffsetDateTime::from_unix_timestamp_nanos(timestamp as i128 * 1_000_000_000)
     }
 
-    /// The moment at another offset, or `None` if its date there is out of range.
+    /// The moment at another offset, or `None` if its year there is outside -999999 to 999999.
     pub fn checked_to_offset(self, offset: UtcOffset) -> Option<OffsetDateTime>
         ensures instant { IfSome result (λ v. offset_instant greatest_year v ≡ offset_instant greatest_year self) }
         ensures offset { IfSome result (λ v. offset_of v ≡ offset) }
@@ -171,7 +171,8 @@ impl OffsetDateTime {
         }
     }
 
-    /// Whether this moment may represent a leap second: in UTC it is the last nanosecond of a month.
+    /// Whether this moment may represent a leap second: in UTC it is the last nanosecond of a month. `false` if its
+    /// date in UTC is out of range.
     pub fn is_valid_leap_second_stand_in(self) -> bool
         ensures { IsTrue result ↔ Instants.IsLeapSecondMoment greatest_year (offset_instant greatest_year self) }
     {

@@ -122,8 +122,8 @@ impl Timestamp {
         seconds * 1000 + (nanosecond / 1_000_000) as i64
     }
 
-    /// The whole microseconds since 1970-01-01T00:00:00Z, rounded down. In the first and the last years they don't fit
-    /// in 64 bits.
+    /// The whole microseconds since 1970-01-01T00:00:00Z, rounded down. More than about 292000 years from 1970, they
+    /// don't fit in an `i64`.
     pub fn as_microseconds(self) -> i128
         ensures { IsWhole 1000 (nanoseconds self) result }
     {

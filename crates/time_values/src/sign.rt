@@ -2,7 +2,7 @@
 ghost use Rattle.std.specs.Prelude.{◌≡◌, ◌≤◌, pos, unsigned_abs};
 ghost use Rattle.time_values.specs.Sign.{signed_by};
 
-/// The number, negated if `is_negative`. It is at most 127.
+/// The number, negated if `is_negative`. The number must be at most 127.
 #[inline(always)]
 pub fn signed(is_negative: bool, number: u8) -> i8
     requires { number ≤ 127 }

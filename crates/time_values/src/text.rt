@@ -32,7 +32,7 @@ impl Text {
         }
     }
 
-    /// The bytes.
+    /// The appended bytes.
     #[inline]
     pub fn as_bytes(&self) -> &[u8]
         ensures { result.now ≡ self.now.items }
@@ -40,7 +40,15 @@ impl Text {
         &self.array[..self.len]
     }
 
-    /// Appends bytes. There must be room for them.
+    /// Removes all bytes.
+    #[inline(always)]
+    pub fn clear(&mut self)
+        ensures { self.new.items ≡ [] }
+    {
+        self.len = 0;
+    }
+
+    /// Appends bytes. The text must then have at most 35 bytes.
     #[inline(always)]
     pub fn append(&mut self, bytes: &[u8])
         requires { length self.old.items + length bytes.now ≤ 35 }
@@ -51,7 +59,7 @@ impl Text {
         self.len = end;
     }
 
-    /// Appends the first `count` of ten bytes. There must be room for all ten.
+    /// Appends the first `count` of the ten bytes. The text must have at most 25 bytes before, and `count` at most 10.
     #[inline(always)]
     pub fn append_some(&mut self, bytes: [u8; 10], count: usize)
         requires room { length self.old.items ≤ 25 }
@@ -64,7 +72,7 @@ impl Text {
     }
 }
 
-/// Prints the bytes. Bytes that aren't UTF-8 are an error.
+/// Prints the bytes. Returns `fmt::Error` if they aren't UTF-8.
 impl fmt::Display for Text {
     ghost output = { λ t. Some t.items };
 

@@ -93,7 +93,7 @@ impl Time {
         self.nanosecond
     }
 
-    // The time with another nanosecond of its second.
+    // The time with its nanosecond of the second replaced. An error names `nanosecond` above 999999999.
     #[inline]
     pub(crate) fn replace_nanosecond(self, nanosecond: u32) -> Result<Time, ComponentRange>
         ensures { Constructs (nanosecond_refusal nanosecond)
@@ -141,8 +141,8 @@ impl Time {
         self.hour as u32 * 3600 + self.minute as u32 * 60 + self.second as u32
     }
 
-    // The seconds since midnight in UTC of this local time at that offset. Computed part by part, so that the hours of
-    // both are multiplied once.
+    // The seconds from midnight UTC of the local date to this local time at that offset, negative before midnight.
+    // Computed part by part, so that the hours of both are multiplied once.
     #[inline(always)]
     pub(crate) fn seconds_in_utc(&self, offset: &UtcOffset) -> i64
         ensures value { result ≡ pos (Times.hour self.now * 3600 + Times.minute self.now * 60 + Times.second self.now)

@@ -32,7 +32,7 @@ impl Timestamp {
         Ok(Timestamp { nanoseconds })
     }
 
-    /// The nanoseconds since 1970-01-01T00:00:00Z.
+    /// The nanoseconds since 1970-01-01T00:00:00Z, negative before then.
     #[inline]
     pub fn nanoseconds(self) -> i128
         ensures { result ≡ Moments.nanoseconds self }

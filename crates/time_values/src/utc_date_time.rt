@@ -12,9 +12,10 @@ use crate::{Date, OffsetDateTime, Time, UtcOffset};
 // The number of nanoseconds in a day.
 const NANOS_PER_DAY: u128 = 86_400_000_000_000;
 
-// The first and the last nanosecond that have a date and time in UTC.
+// The first instant of the year -999999 in UTC, in nanoseconds since 1970-01-01T00:00:00Z.
 pub(crate) const MIN_NANOS: i128 = -(EPOCH_DAY as i128) * NANOS_PER_DAY as i128;
 
+// The last instant of the year 999999 in UTC, in nanoseconds since 1970-01-01T00:00:00Z.
 pub(crate) const MAX_NANOS: i128 = (DAY_LIMIT - EPOCH_DAY) as i128 * NANOS_PER_DAY as i128 - 1;
 
 /// A date and a time of day in UTC.
@@ -107,7 +108,7 @@ impl UtcDateTime {
         UtcDateTime::from_unix_timestamp_nanos(timestamp as i128 * 1_000_000_000)
     }
 
-    /// The moment at another offset, or `None` if its date there is out of range.
+    /// The moment at another offset, or `None` if its year there is outside -999999 to 999999.
     pub fn checked_to_offset(self, offset: UtcOffset) -> Option<OffsetDateTime>
         ensures instant { IfSome result (λ v. offset_instant greatest_year v ≡ utc_instant greatest_year self) }
         ensures offset { IfSome result (λ v. offset_of v ≡ offset) }
@@ -127,7 +128,7 @@ impl UtcDateTime {
         OffsetDateTime::from(self).to_offset(offset)
     }
 
-    /// The moment with another nanosecond of its second. An error names `nanosecond` above 999999999.
+    /// The moment with its nanosecond of the second replaced. An error names `nanosecond` above 999999999.
     pub fn replace_nanosecond(self, nanosecond: u32) -> Result<UtcDateTime, ComponentRange>
         ensures { Constructs (nanosecond_refusal nanosecond) (λ u. (utc_date u ≡ utc_date self)
             × HasSecond (utc_time self) nanosecond (utc_time u)) result }

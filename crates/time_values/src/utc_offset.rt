@@ -4,7 +4,7 @@ ghost use Rattle.time_values.specs.Sign as Sign;
 
 use crate::error::ComponentRange;
 
-/// How far a clock is ahead of UTC, in hours, minutes and seconds of one sign.
+/// How far local time is ahead of UTC, in hours, minutes and seconds of one sign: negative if it is behind.
 #[derive(Clone, Copy, Debug, PartialEq, Eq, PartialOrd, Ord, Hash)]
 pub struct UtcOffset {
     hours: i8,
@@ -28,7 +28,7 @@ impl UtcOffset {
         seconds: 0,
     };
 
-    /// The offset of these parts. Smaller parts take the sign of the first that is not 0. An error names the first part
+    /// The offset of these parts, each stored with the sign of the first that is not 0. An error names the first part
     /// that is out of range: `hours` outside -25 to 25, `minutes` outside -59 to 59, `seconds` outside -59 to 59.
     #[inline(always)]
     pub fn from_hms(hours: i8, minutes: i8, seconds: i8) -> Result<UtcOffset, ComponentRange>
@@ -60,7 +60,7 @@ impl UtcOffset {
         })
     }
 
-    /// The hours (-25 to 25), minutes and seconds (-59 to 59).
+    /// The hours (-25 to 25), minutes and seconds (-59 to 59). No two of them have opposite signs.
     #[inline]
     pub fn as_hms(self) -> (i8, i8, i8)
         ensures hours { result.0 ≡ Offsets.hours self }

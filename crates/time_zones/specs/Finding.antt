@@ -25,15 +25,15 @@ use Rattle.time_zones.specs.declared.zones.Zones.{Zones}
 
 -- ---- The places that the name of a zone and the variable TZ specify
 
--- a part of a name, which leads to no other folder than its own
+-- the text is valid as a part of a name: neither empty nor "." nor ".."
 abbrev pub IsPart : List ℕ → Type 0
 IsPart part = (part ≢ []) × (part ≢ codes ".") × (part ≢ codes "..")
 
--- a name in the folder of zones: parts with slashes between them
+-- the text is valid as a name in the folder of zones: one or more valid parts with slashes between them
 abbrev pub IsZoneName : List ℕ → Type 0
 IsZoneName name = All IsPart (slice_split (λ b. b == 47) name)
 
--- the place that a name specifies; none if it would leave the folder
+-- the place that a name specifies: UTC, or the file of that name in the folder; none if a part of it is invalid
 abbrev pub IsPlaceOfName : List ℕ → Option Place → Type 0
 IsPlaceOfName name None = (name ≢ codes "UTC") × (¬ (IsZoneName name))
 IsPlaceOfName name (Some PlaceUtc) = name ≡ codes "UTC"
@@ -41,7 +41,7 @@ IsPlaceOfName name (Some (PlaceRule rule)) = ⊥
 IsPlaceOfName name (Some (InFolder below)) = (below.now ≡ name) × (name ≢ codes "UTC") × IsZoneName name
 IsPlaceOfName name (Some (AtPath path)) = ⊥
 
--- the file at a path
+-- the place is the file at that path
 abbrev pub IsFileAt : List ℕ → Option Place → Type 0
 IsFileAt path None = ⊥
 IsFileAt path (Some PlaceUtc) = ⊥
@@ -49,16 +49,16 @@ IsFileAt path (Some (PlaceRule rule)) = ⊥
 IsFileAt path (Some (InFolder below)) = ⊥
 IsFileAt path (Some (AtPath at)) = at.now ≡ path
 
--- the text begins with a slash
+-- whether the text begins with a slash; false for the empty text
 abbrev pub is_absolute : List ℕ → Bool
 is_absolute [] = false
 is_absolute (c ∷ rest) = c == 47
 
--- the place that a path or a name specifies
+-- the place is the file at the text if it begins with a slash, and else the place of the text as a name
 abbrev pub IsPlaceOfPath : List ℕ → Option Place → Type 0
 IsPlaceOfPath text place = MatchBool (is_absolute text) (IsFileAt text place) (IsPlaceOfName text place)
 
--- the place that a rule specifies
+-- the place is the POSIX rule with that text
 abbrev pub IsRule : TzText → Option Place → Type 0
 IsRule text None = ⊥
 IsRule text (Some PlaceUtc) = ⊥
@@ -66,23 +66,24 @@ IsRule text (Some (PlaceRule rule)) = tz_view rule ≡ text
 IsRule text (Some (InFolder below)) = ⊥
 IsRule text (Some (AtPath at)) = ⊥
 
--- the place of a rule if the text is one, and else of a path or a name
+-- the place is the rule that the text parses as, if it is one, and else that of the text as a path or a name
 abbrev pub IsRuleOrPath : Option TzText → List ℕ → Option Place → Type 0
 IsRuleOrPath (Some rule) text place = IsRule rule place
 IsRuleOrPath None text place = IsPlaceOfPath text place
 
--- the place that a value of TZ specifies: UTC if it is empty, a path or a name after a colon
+-- the place that a value of TZ specifies: UTC if it is empty, a path or a name after a colon, and else a rule, a path
+-- or a name
 abbrev pub IsPlaceOfSetting : List ℕ → Option Place → Type 0
 IsPlaceOfSetting [] place = place ≡ Some PlaceUtc
 IsPlaceOfSetting (c ∷ rest) place =
     MatchBool (c == 58) (IsPlaceOfPath rest place) (IsRuleOrPath (read_whole (c ∷ rest)) (c ∷ rest) place)
 
--- the place of the system's zone: the one that TZ specifies, if it is set
+-- the place of the system's zone: the one that TZ specifies, or /etc/localtime if TZ isn't set
 abbrev pub IsLocal : Option (List ℕ) → Option Place → Type 0
 IsLocal None place = IsFileAt (codes "/etc/localtime") place
 IsLocal (Some setting) place = IsPlaceOfSetting setting place
 
--- the place that a name specifies, which may be `local`
+-- the place that a name specifies: for `local`, that of the system's zone by the value of TZ, which is none if unset
 abbrev pub IsRequestedPlace : Option (List ℕ) → List ℕ → Option Place → Type 0
 IsRequestedPlace setting name place =
     ((name ≡ codes "local") × IsLocal setting place) ⊎ ((name ≢ codes "local") × IsPlaceOfName name place)
@@ -91,7 +92,7 @@ IsRequestedPlace setting name place =
 abbrev pub Giving : Type 1
 Giving = List ℕ → Result (List ℕ) ReadFault → Type 0
 
--- the kit's zone of a found one
+-- the `TimeZone` has the data of the named zone: UTC, the rule, or the table
 abbrev pub IsZoneOf : NamedZone → TimeZone → Type 0
 IsZoneOf Named.Utc zone = zone ≡ Zone.UTC
 IsZoneOf (Named.Rule rule) zone = zone ≡ Zone.Posix rule
@@ -101,13 +102,14 @@ IsZoneOf (Named.Table table) (Zone.Fixed offset) = ⊥
 IsZoneOf (Named.Table table) (Zone.Posix rule) = ⊥
 IsZoneOf (Named.Table table) (Zone.Tzif z) = z.now ≡ table
 
--- the name of a zone, if it has one
+-- the name of a zone: UTC, or the name of its table; none for a rule, and for a table without a name
 abbrev pub name_of : NamedZone → Option (List ℕ)
 name_of Named.Utc = Some (codes "UTC")
 name_of (Named.Rule rule) = None
 name_of (Named.Table table) = tzif_name table
 
--- the bytes that were read are this table
+-- reading the path may give bytes that parse as this table, which has that name or none, and whose rule, if any, agrees
+-- with its last row
 pub record HasTable (Gives : Giving) (path : List ℕ) (name : Option (List ℕ)) (table : Table) : Type 0 where
   pub bytes : List ℕ
   pub given : Gives path (Ok bytes)
@@ -115,7 +117,8 @@ pub record HasTable (Gives : Giving) (path : List ℕ) (name : Option (List ℕ)
   pub agrees : RuleAgrees table
   pub named : tzif_name table ≡ name
 
--- the possible results of reading the zone of the file at a path; memory may run out at any time
+-- the possible results of reading the zone of the file at a path, with that name or none for its table; memory may run
+-- out at any time
 abbrev pub ReadsTo : Giving → List ℕ → Option (List ℕ) → Result NamedZone ZoneFault → Type 0
 ReadsTo Gives path name (Ok Named.Utc) = ⊥
 ReadsTo Gives path name (Ok (Named.Rule rule)) = ⊥
@@ -129,7 +132,7 @@ ReadsTo Gives path name (Err (Fault.Malformed fault)) =
     (bytes : List ℕ) × Gives path (Ok bytes) × IsParseFailure (TzifError fault) bytes
 ReadsTo Gives path name (Err Fault.OutOfMemory) = Unit {0}
 
--- the possible results of finding the zone of a place, which reads at most one file
+-- the possible results of finding the zone of a place, which reads at most one file; without a place, NotAName
 abbrev pub IsFoundAt : Giving → List ℕ → Option Place → Result NamedZone ZoneFault → Type 0
 IsFoundAt Gives folder None r = r ≡ Err Fault.NotAName
 IsFoundAt Gives folder (Some Place.Utc) r = r ≡ Ok Named.Utc
@@ -137,12 +140,13 @@ IsFoundAt Gives folder (Some (Place.Rule rule)) r = r ≡ Ok (Named.Rule rule)
 IsFoundAt Gives folder (Some (Place.InFolder below)) r = ReadsTo Gives (folder ++ 47 ∷ below.now) (Some below.now) r
 IsFoundAt Gives folder (Some (Place.AtPath path)) r = ReadsTo Gives path.now None r
 
--- the possible results of finding the zone of a name
+-- the possible results of finding the zone of a name, with that path of the folder of zones and that value of TZ, or
+-- none
 abbrev pub IsFound : Giving → List ℕ → Option (List ℕ) → List ℕ → Result NamedZone ZoneFault → Type 0
 IsFound Gives folder setting name r =
     (place : Option Place) × IsRequestedPlace setting name place × IsFoundAt Gives folder place r
 
--- why the value of a variable isn't known
+-- the errors of reading an environment variable: it isn't UTF-8, or memory runs out
 abbrev pub IsVariableFault : ZoneFault → Type 0
 IsVariableFault fault = (fault ≡ Fault.NotText) ⊎ (fault ≡ Fault.OutOfMemory)
 
@@ -165,7 +169,7 @@ pub record IsInserted (old new : Zones) (name : List ℕ) (zone : NamedZone) : T
 abbrev pub IsFoundIn : Giving → List ℕ → List ℕ → Result NamedZone ZoneFault → Type 0
 IsFoundIn Gives folder name r = (place : Option Place) × IsPlaceOfName name place × IsFoundAt Gives folder place r
 
--- no zone has the name: finding it gives a fault other than one of memory
+-- no zone in the folder has the name: finding it may return an error other than OutOfMemory
 abbrev pub IsOfNone : Giving → List ℕ → List ℕ → Type 0
 IsOfNone Gives folder name = (fault : ZoneFault) × (fault ≢ Fault.OutOfMemory) × IsFoundIn Gives folder name (Err fault)
 
@@ -175,14 +179,15 @@ AddsFound Gives folder name old new =
     ((zone : NamedZone) × IsFoundIn Gives folder name (Ok zone) × IsInserted old new name zone)
     ⊎ (IsOfNone Gives folder name × ((other : List ℕ) → SameNamed old new other))
 
--- UTC and the zones of these names: each was found by its name, and a name without one isn't that of a zone
+-- UTC and the zones of these names: each was found by its name in the folder, and finding a name without a zone may
+-- fail with an error other than OutOfMemory
 pub record AreZonesOf (Gives : Giving) (folder : List ℕ) (names : List (List ℕ)) (zones : Zones) : Type 0 where
   pub utc : zone_named zones (codes "UTC") ≡ Some Utc
   pub found : (name : List ℕ) (zone : NamedZone) → zone_named zones name ≡ Some zone
       → Contains (codes "UTC" ∷ names) name × IsFoundIn Gives folder name (Ok zone)
   pub left_out : All (λ name. zone_named zones name ≡ None → IsOfNone Gives folder name) names
 
--- why no zones are found: the folder's name, the folder, or memory
+-- why no zones are found: TZDIR isn't UTF-8, the folder is missing or unreadable, or memory runs out
 abbrev pub IsFolderFault : ZoneFault → Type 0
 IsFolderFault Fault.NotAName = ⊥
 IsFolderFault Fault.NotText = Unit {0}
@@ -192,14 +197,15 @@ IsFolderFault (Fault.Unreadable kind) = Unit {0}
 IsFolderFault (Fault.Malformed fault) = ⊥
 IsFolderFault Fault.OutOfMemory = Unit {0}
 
--- the kit's zone of one that may have been found
+-- both are none, or the second is the `TimeZone` of the first
 abbrev pub IsZoneIfAny : Option NamedZone → Option TimeZone → Type 0
 IsZoneIfAny None None = Unit {0}
 IsZoneIfAny None (Some zone) = ⊥
 IsZoneIfAny (Some found) None = ⊥
 IsZoneIfAny (Some found) (Some zone) = IsZoneOf found zone
 
--- how far clocks of the zone are ahead of UTC at an instant, in seconds
+-- the offset of the zone in seconds, above 0 ahead of UTC and below 0 behind it, at the instant n, which is in
+-- nanoseconds since 1970-01-01T00:00:00Z
 unfoldable pub offset_in : NamedZone → ℤ → ℤ
 offset_in Utc n = pos 0
 offset_in (Rule rule) n = (Posix.offset_at rule n).seconds

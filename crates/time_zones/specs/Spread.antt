@@ -16,30 +16,30 @@ use Rattle.jiff_tz.specs.declared.posix.TimeZone.{TimeZone as PosixZone}
 use Rattle.jiff_tz.specs.declared.tzif.transition.Transition.{Transition}
 use Rattle.time_zones.specs.declared.spread.Spread.{Spread}
 
--- the instant at which a clock with that offset shows the reading is in the range of zones, and the zone has the offset
--- then
+-- the instant at which a clock with an offset of s seconds shows the reading, in nanoseconds, is in the range of zones,
+-- and the zone has the offset then
 pub record HasOffset (zone : TimeZone) (reading s : ℤ) : Type 0 where
   pub told : IsTimestampNanos (reading -ℤ nanos_of_seconds s)
   pub same : Zone.offset_at zone (reading -ℤ nanos_of_seconds s) ≡ s
 
--- both ends are offsets at which the zone shows the reading, and the first moment has the greatest
+-- the greatest and the least are offsets at which the zone shows the reading
 pub record IsSpread (zone : TimeZone) (reading : ℤ) (w : Spread) : Type 0 where
   pub greatest : HasOffset zone reading w.greatest.seconds
   pub least : HasOffset zone reading w.least.seconds
   pub rising : w.least.seconds ≤ℤ w.greatest.seconds
 
--- the offset lies in the spread
+-- the offset, in seconds, is from the least to the greatest of the spread, inclusive; false without a spread
 abbrev pub Covers : Option Spread → ℤ → Type 0
 Covers None s = ⊥
 Covers (Some w) s = IsBetween w.least.seconds w.greatest.seconds s
 
--- one of the two offsets of a result of the kit
+-- the only offset of the result, or either offset of its gap or fold
 abbrev pub IsSide : AmbiguousOffset → ℤ → Type 0
 IsSide (Unambiguous offset) s = s ≡ offset.seconds
 IsSide (Gap before after) s = (s ≡ before.seconds) ⊎ (s ≡ after.seconds)
 IsSide (Fold before after) s = (s ≡ before.seconds) ⊎ (s ≡ after.seconds)
 
--- the rule of a zone
+-- the POSIX rule of a zone, alone or after its table; none if there is none
 abbrev pub rule_text : TimeZone → Option TzText
 rule_text UTC = None
 rule_text Unknown = None
@@ -47,18 +47,19 @@ rule_text (Fixed offset) = None
 rule_text (Posix tz) = Some (tz_view tz)
 rule_text (Tzif z) = (tzif_view z.now).rule
 
--- an offset of the rule, in standard time or in daylight saving time
+-- the offset is that of daylight saving time, in seconds; false without daylight saving time
 abbrev pub IsOfDst : Option DstText → ℤ → Type 0
 IsOfDst None s = ⊥
 IsOfDst (Some dst) s = s ≡ dst.seconds
 
+-- the offset is one of the rule, in standard time or in daylight saving time, in seconds; false without a rule
 abbrev pub IsOfRule : Option TzText → ℤ → Type 0
 IsOfRule None s = ⊥
 IsOfRule (Some rule) s = (s ≡ rule.std_seconds) ⊎ IsOfDst rule.dst s
 
 -- ---- The offset that a table has between two of its rows, or a rule at each moment
 
--- seconds from one to another lie between two rows that follow each other, and the first sets the offset
+-- the seconds from begin to end lie between two adjacent rows, and the first row sets the offset
 pub record IsRowOffset (rows : List Transition) (begin end : ℤ) (o : Offset) : Type 0 where
   pub place : ℕ
   pub last : Transition
@@ -71,6 +72,6 @@ pub record IsRowOffset (rows : List Transition) (begin end : ℤ) (o : Offset) :
   pub ended : end <ℤ next.second
   pub offset : o ≡ last.after.offset
 
--- a rule has no other offset
+-- the rule has no daylight saving time, and its standard offset is this one
 abbrev pub HasOneOffset : PosixZone → Offset → Type 0
 HasOneOffset rule o = (rule.dst ≡ None) × (o ≡ rule.std_offset)

@@ -20,7 +20,7 @@ use Rattle.time_zones.specs.declared.checking.SuffixFault.TheVariants.{CriticalK
 use Rattle.time_zones.specs.declared.finding.NamedZone.{NamedZone}
 use Rattle.time_zones.specs.declared.zones.Zones.{Zones}
 
--- time-zone-initial: a letter, a dot or an underscore
+-- time-zone-initial: an ASCII letter, a dot or an underscore
 abbrev pub is_zone_initial : ℕ → Bool
 is_zone_initial b = is_ascii_alphabetic b || b == 46 || b == 95
 
@@ -28,7 +28,7 @@ is_zone_initial b = is_ascii_alphabetic b || b == 46 || b == 95
 abbrev pub is_zone_char : ℕ → Bool
 is_zone_char b = is_zone_initial b || is_ascii_digit b || b == 45 || b == 43
 
--- key-initial: a small letter or an underscore
+-- key-initial: a lowercase ASCII letter or an underscore
 abbrev pub is_key_initial : ℕ → Bool
 is_key_initial b = is_ascii_lowercase b || b == 95
 
@@ -45,15 +45,15 @@ IsWord initial char (b ∷ rest) = IsTrue (initial b) × AllPass char rest
 abbrev pub IsTimeZonePart : List ℕ → Type 0
 IsTimeZonePart part = IsWord is_zone_initial is_zone_char part × (part ≢ codes ".") × (part ≢ codes "..")
 
--- time-zone-name: parts with slashes between them
+-- time-zone-name: one or more parts with slashes between them
 abbrev pub IsTimeZoneName : List ℕ → Type 0
 IsTimeZoneName name = All IsTimeZonePart (slice_split (λ b. b == 47) name)
 
--- a number below 100 in two digits
+-- a number below 100 in two ASCII digits, the tens first
 abbrev pub two_digits : ℕ → List ℕ
 two_digits n = (48 + n / 10) ∷ (48 + n % 10) ∷ []
 
--- time-hour ":" time-minute, with their seconds
+-- time-hour ":" time-minute, from 00:00 to 23:59, with their seconds
 pub record IsHourMinute (text : List ℕ) (seconds : ℕ) : Type 0 where
   pub hour : ℕ
   pub minute : ℕ
@@ -80,24 +80,24 @@ abbrev pub IsZoneText : List ℕ → Zone → Type 0
 IsZoneText text (named name) = (text ≡ name) × IsTimeZoneName name
 IsZoneText text (at_offset o) = IsNumOffset text o
 
--- suffix-key
+-- suffix-key: a key-initial, and then any number of key-chars
 abbrev pub IsSuffixKey : List ℕ → Type 0
 IsSuffixKey key = IsWord is_key_initial is_key_char key
 
--- suffix-value: letters and digits
+-- suffix-value: one or more ASCII letters and digits
 abbrev pub IsSuffixValue : List ℕ → Type 0
 IsSuffixValue value = (value ≢ []) × AllPass is_ascii_alphanumeric value
 
--- suffix-values: values with dashes between them
+-- suffix-values: one or more values with dashes between them
 abbrev pub AreSuffixValues : List ℕ → Type 0
 AreSuffixValues text = All IsSuffixValue (slice_split (λ b. b == 45) text)
 
--- critical-flag, before the contents of the brackets
+-- the contents of the brackets, after the critical-flag "!" if there is one
 abbrev pub flagged : Bool → List ℕ → List ℕ
 flagged false text = text
 flagged true text = 33 ∷ text
 
--- "[" critical-flag .. "]"
+-- "[", the critical-flag "!" if is_critical, the text, and "]"
 abbrev pub bracketed : Bool → List ℕ → List ℕ
 bracketed is_critical text = 91 ∷ flagged is_critical text ++ 93 ∷ []
 
@@ -112,13 +112,13 @@ pub record ZoneTag : Type 0 where
   pub is_critical : Bool
   pub zone : Zone
 
--- time-zone
+-- time-zone: "[" critical-flag (time-zone-name / time-numoffset) "]"
 pub record IsZoneTag (text : List ℕ) (z : ZoneTag) : Type 0 where
   pub inside : List ℕ
   pub whole : text ≡ bracketed z.is_critical inside
   pub is_zone : IsZoneText inside z.zone
 
--- [time-zone]
+-- [time-zone]: the text of a zone in brackets, or the empty text without a zone
 abbrev pub IsZoneTagIfAny : List ℕ → Option ZoneTag → Type 0
 IsZoneTagIfAny text None = text ≡ []
 IsZoneTagIfAny text (Some z) = IsZoneTag text z
@@ -127,10 +127,11 @@ IsZoneTagIfAny text (Some z) = IsZoneTag text z
 abbrev pub tag_text : Tag → List ℕ
 tag_text t = bracketed t.is_critical (t.key ++ 61 ∷ t.values)
 
+-- the key and the values of the tag follow the grammar
 abbrev pub IsSuffixTag : Tag → Type 0
 IsSuffixTag t = IsSuffixKey t.key × AreSuffixValues t.values
 
--- *suffix-tag
+-- *suffix-tag: the texts of the tags, one after the other
 abbrev pub tags_text : List Tag → List ℕ
 tags_text [] = []
 tags_text (t ∷ ts) = tag_text t ++ tags_text ts
@@ -142,12 +143,12 @@ pub record IsSuffix (text : List ℕ) (zone : Option ZoneTag) (tags : List Tag) 
   pub is_zone : IsZoneTagIfAny front zone
   pub are_tags : All IsSuffixTag tags
 
--- the key of the first critical tag
+-- the key of the first critical tag, or none if no tag is critical
 abbrev pub critical_key : List Tag → Option (List ℕ)
 critical_key [] = None
 critical_key (t ∷ ts) = if t.is_critical then Some t.key else critical_key ts
 
--- no longer prefix of the text is a suffix
+-- no prefix of the text that is longer than len is a suffix
 abbrev pub IsLongest : List ℕ → ℕ → Type 0
 IsLongest text len = (n : ℕ) (zone : Option ZoneTag) (tags : List Tag) → n ≤ length text
     → IsSuffix (take n text) zone tags → n ≤ len
@@ -157,12 +158,12 @@ abbrev pub WrittenIsSuffix : Type 0
 WrittenIsSuffix = (text : List ℕ) (z : Zone) → IsZoneText text z
     → IsSuffix (bracketed false text) (Some (record { is_critical = false; zone = z })) []
 
--- a text is a suffix in one way
+-- a text is a suffix of at most one zone, or none, and at most one list of tags
 abbrev pub OneSuffix : Type 0
 OneSuffix = (text : List ℕ) (zone zone' : Option ZoneTag) (tags tags' : List Tag) → IsSuffix text zone tags
     → IsSuffix text zone' tags' → (zone ≡ zone') × (tags ≡ tags')
 
--- each zone name that a suffix can have names a file in the folder of zones
+-- each zone name that a suffix can have is valid as a name in the folder of zones
 abbrev pub NamesInFolder : Type 0
 NamesInFolder = (name : List ℕ) → IsTimeZoneName name → IsZoneName name
 
@@ -172,11 +173,11 @@ pub record IsSubstring (part bytes : List ℕ) : Type 0 where
   pub after : List ℕ
   pub whole : bytes ≡ before ++ (part ++ after)
 
--- a timestamp of RFC 3339 ends with a digit, or with the letter of UTC
+-- whether a timestamp of RFC 3339 may end with the byte: a digit, Z or z
 abbrev pub is_time_end : ℕ → Bool
 is_time_end b = is_ascii_digit b || b == 90 || b == 122
 
--- the text has the name of a zone in brackets, at a place at which a timestamp may end
+-- the text contains a zone's name in brackets, directly after a byte with which a timestamp may end
 pub record IsNameIn (text name : List ℕ) : Type 0 where
   pub end : ℕ
   pub is_critical : Bool
@@ -186,10 +187,12 @@ pub record IsNameIn (text name : List ℕ) : Type 0 where
 
 -- ---- Suffixes that were read, as contracts view them
 
+-- the zone that was read, as a value of this file
 abbrev pub zone_of : ZoneText → Zone
 zone_of (Name name) = named name.now
 zone_of (Offset o) = at_offset o
 
+-- the zone that was read and its flag, as a value of this file
 abbrev pub zone_tag_of : declared.ZoneTag → ZoneTag
 zone_tag_of z = record {
   is_critical = z.is_critical;
@@ -203,34 +206,37 @@ ParsesSuffix text s = (tags : List Tag) × IsSuffix text (option_map zone_tag_of
 
 -- ---- Which suffixes agree with a moment, by RFC 9557, sections 3.3, 3.4 and 4.1.
 
--- nothing, or why a suffix doesn't agree with a moment
+-- success, or why a suffix doesn't agree with a moment
 abbrev pub Checked : Type 0
 Checked = Result (Unit {0}) SuffixFault
 
--- nothing if the moment's offset equals the zone's, both in seconds, and else a fault
+-- success if the moment's offset equals the zone's, both in seconds, and else OtherOffset
 abbrev pub compared : ℤ → ℤ → Checked
 compared own zone = if int_eq own zone then Ok tt else Err OtherOffset
 
--- compares a moment's offset with that of a zone with those offsets at each instant, if the moment is in the range of
--- zones
+-- the result of comparing a moment's offset with that of a zone at its instant, or OutsideZoneRange if the moment is
+-- outside the range of zones; zone has the offset in seconds at each instant
 abbrev pub HasItsOffset : OffsetDateTime → (ℤ → ℤ) → Checked → Type 0
 HasItsOffset m zone result =
     ((¬ (IsInZoneRange m)) × (result ≡ Err OutsideZoneRange))
     ⊎ (IsInZoneRange m × (result ≡ compared (offset_seconds (offset_of m)) (zone (offset_instant greatest_year m))))
 
--- a moment that specifies its offset has that of a named zone
+-- the result of checking a moment against a named zone: that of comparing offsets if `tells`, whether the moment's text
+-- specified a local offset; and else success
 abbrev pub AgreesWithNamed : Bool → OffsetDateTime → NamedZone → Checked → Type 0
 AgreesWithNamed tells m zone result = MatchBool tells (HasItsOffset m (offset_in zone) result) (result ≡ Ok tt)
 
--- a moment agrees with a zone
+-- the result of checking a moment against the zone of a suffix: UnknownZone for a name without a zone, and else that of
+-- comparing offsets if `tells`, whether the moment's text specified a local offset, or success if not
 abbrev pub AgreesWithZone : Zones → Bool → OffsetDateTime → Zone → Checked → Type 0
 AgreesWithZone zones tells m (named name) result =
     MatchOption (zone_named zones name) (result ≡ Err UnknownZone) (λ zone. AgreesWithNamed tells m zone result)
 AgreesWithZone zones tells m (at_offset o) result =
     MatchBool tells (result ≡ compared (offset_seconds (offset_of m)) (offset_seconds o)) (result ≡ Ok tt)
 
--- A moment agrees with a suffix that has that zone and that critical key. A program that doesn't know the key has to
--- reject the suffix, and no key is known here.
+-- The result of checking a moment against a suffix that has that zone and that critical key. No key is known here, so
+-- each critical key is an error. Without a critical key and a zone it is success. Offsets are compared only if `tells`,
+-- whether the moment's text specified a local offset.
 abbrev pub AgreesWith : Zones → Bool → OffsetDateTime → Option ZoneTag → Option (List ℕ) → Checked → Type 0
 AgreesWith zones tells m z (Some key) result = result ≡ Err CriticalKey
 AgreesWith zones tells m None None result = result ≡ Ok tt

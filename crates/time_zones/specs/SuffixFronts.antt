@@ -4,7 +4,7 @@ use Rattle.std.specs.Prelude.{◌≡◌, ◌||◌, ◌==◌, ℕ, Bool, List, �
 use Rattle.std.specs.List.{AllPass}
 use Rattle.time_zones.specs.Suffix.{is_zone_char, IsSuffixKey, AreSuffixValues, bracketed, ZoneTag, Tag, IsZoneTagIfAny, tag_text, IsSuffixTag, tags_text}
 
--- the bytes that brackets may contain
+-- whether brackets may contain the byte, after a flag: an ASCII letter or digit, or one of `._-+/:=`
 abbrev pub is_bracket_char : ℕ → Bool
 is_bracket_char b = is_zone_char b || b == 47 || b == 58 || b == 61
 
@@ -19,12 +19,13 @@ pub record BeginsBracketed (text : List ℕ) (is_critical : Bool) (inside rest :
   pub whole : text ≡ bracketed is_critical inside ++ rest
   pub are_bracket_chars : AllPass is_bracket_char inside
 
--- the text begins with a zone or none, followed by the rest
+-- the text is a zone in brackets, or nothing, followed by the rest
 pub record BeginsWithZone (text : List ℕ) (zone : Option ZoneTag) (rest : List ℕ) : Type 0 where
   pub front : List ℕ
   pub whole : text ≡ front ++ rest
   pub is_zone : IsZoneTagIfAny front zone
 
+-- the text begins with no zone in brackets
 abbrev pub HasNoZone : List ℕ → Type 0
 HasNoZone text = (z : ZoneTag) (rest : List ℕ) → BeginsWithZone text (Some z) rest → ⊥
 
@@ -33,10 +34,11 @@ pub record BeginsWithTag (text : List ℕ) (t : Tag) (rest : List ℕ) : Type 0 
   pub whole : text ≡ tag_text t ++ rest
   pub is_tag : IsSuffixTag t
 
+-- the text begins with no tag
 abbrev pub HasNoTag : List ℕ → Type 0
 HasNoTag text = (t : Tag) (rest : List ℕ) → BeginsWithTag text t rest → ⊥
 
--- the text begins with these tags, and the rest with no further one
+-- the text begins with these tags, followed by the rest, which begins with no tag
 pub record BeginsWithTags (text : List ℕ) (tags : List Tag) (rest : List ℕ) : Type 0 where
   pub whole : text ≡ tags_text tags ++ rest
   pub are_tags : All IsSuffixTag tags

@@ -23,11 +23,11 @@ use Rattle.time_zones.specs.declared.zone_fault.ZoneFault.TheVariants as Fault
 abbrev pub IsInZoneRange : OffsetDateTime → Type 0
 IsInZoneRange m = IsTimestampNanos (offset_instant greatest_year m)
 
--- the moment has the offset that clocks of the zone have then
+-- the moment's offset equals, in seconds, the offset of the zone at that instant
 abbrev pub HasZoneOffset : TimeZone → OffsetDateTime → Type 0
 HasZoneOffset zone m = offset_seconds (offset_of m) ≡ Zone.offset_at zone (offset_instant greatest_year m)
 
--- at that instant clocks of the zone show that reading, both in nanoseconds
+-- the instant is in the range of zones, and clocks of the zone show that reading then, both in nanoseconds
 abbrev pub Shows : TimeZone → ℤ → ℤ → Type 0
 Shows zone reading n = IsTimestampNanos n × (n +ℤ nanos_of_seconds (Zone.offset_at zone n) ≡ reading)
 
@@ -38,25 +38,25 @@ pub record HasClock (clock : PlainDateTime) (s : ℤ) (m : OffsetDateTime) : Typ
   pub offset : offset_seconds (offset_of m) ≡ s
   pub instant : offset_instant greatest_year m ≡ plain_instant greatest_year clock -ℤ nanos_of_seconds s
 
--- clocks of the zone show the date and time at the moment, with its offset
+-- the moment has the date and time, is in the range of zones, and has the zone's offset then
 abbrev pub HasLocalTime : TimeZone → PlainDateTime → OffsetDateTime → Type 0
 HasLocalTime zone clock m =
     (offset_date m ≡ plain_date clock) × (offset_time m ≡ plain_time clock) × HasZoneOffset zone m × IsInZoneRange m
 
--- the fact holds for each instant at which clocks of the zone show the date and time
+-- P is true of each instant in the range of zones at which clocks of the zone show the date and time
 abbrev pub AtEach : TimeZone → PlainDateTime → (ℤ → Type 0) → Type 0
 AtEach zone clock P = (n : ℤ) → Shows zone (plain_instant greatest_year clock) n → P n
 
--- the moment of the date and time is in the range of zones at every offset
+-- the date and time, read at each offset from -25:59:59 to +25:59:59, is in the range of zones
 abbrev pub IsInZoneRangeAtEachOffset : PlainDateTime → Type 0
 IsInZoneRangeAtEachOffset clock =
     (s : ℤ) → IsOffsetSeconds s → IsTimestampNanos (plain_instant greatest_year clock -ℤ nanos_of_seconds s)
 
--- the moment is the only one at which clocks of the zone show the date and time
+-- the moment is the only one in the range of zones at which clocks of the zone show the date and time
 abbrev pub IsOnlyMoment : TimeZone → PlainDateTime → OffsetDateTime → Type 0
 IsOnlyMoment zone clock m = HasLocalTime zone clock m × AtEach zone clock (λ n. n ≡ offset_instant greatest_year m)
 
--- clocks of the zone never show the date and time
+-- clocks of the zone never show the date and time in the range of zones
 abbrev pub IsNonexistent : TimeZone → PlainDateTime → Type 0
 IsNonexistent zone clock = AtEach zone clock (λ n. ⊥)
 
@@ -67,13 +67,14 @@ AreFirstAndLast zone clock first last =
     × (offset_instant greatest_year first <ℤ offset_instant greatest_year last)
     × AtEach zone clock (IsBetween (offset_instant greatest_year first) (offset_instant greatest_year last))
 
--- why a date and time isn't exactly one moment in the zone
+-- why a date and time isn't exactly one moment in the zone: it is nonexistent, and in the range of zones at each
+-- offset; it has a first and a last moment, which differ; or it is nonexistent, and not in the range at each offset
 abbrev pub IsNotOne : TimeZone → PlainDateTime → NotOne → Type 0
 IsNotOne zone clock Gap = IsNonexistent zone clock × IsInZoneRangeAtEachOffset clock
 IsNotOne zone clock (Fold earlier later) = AreFirstAndLast zone clock earlier later
 IsNotOne zone clock OutsideZoneRange = IsNonexistent zone clock × (¬ (IsInZoneRangeAtEachOffset clock))
 
--- the zone has a rule or a table, and not one after the other
+-- the zone is anything but a table with a rule after it
 abbrev pub HasOneSource : TimeZone → Type 0
 HasOneSource UTC = Unit {0}
 HasOneSource Unknown = Unit {0}
@@ -81,19 +82,19 @@ HasOneSource (Fixed offset) = Unit {0}
 HasOneSource (Posix rule) = Unit {0}
 HasOneSource (Tzif table) = (tzif_view table.now).rule ≡ None
 
--- clocks of the zone show the date and time at no third moment
+-- clocks of the zone show the date and time at no moment but the two of the fold; true of the other errors
 abbrev pub HasNoThird : TimeZone → PlainDateTime → NotOne → Type 0
 HasNoThird zone clock Gap = Unit {0}
 HasNoThird zone clock (Fold earlier later) =
     AtEach zone clock (λ n. (n ≡ offset_instant greatest_year earlier) ⊎ (n ≡ offset_instant greatest_year later))
 HasNoThird zone clock OutsideZoneRange = Unit {0}
 
--- the result for a date and time
+-- the result is the only moment of the date and time in the zone, or why there isn't exactly one
 abbrev pub IsAnswer : TimeZone → PlainDateTime → Result OffsetDateTime NotOne → Type 0
 IsAnswer zone clock (Ok m) = IsOnlyMoment zone clock m
 IsAnswer zone clock (Err why) = IsNotOne zone clock why
 
--- the result is the moment, or a fold around it
+-- the result is a moment at the same instant, or a fold whose first and last moment enclose that instant or equal it
 abbrev pub RoundTrips : OffsetDateTime → Result OffsetDateTime NotOne → Type 0
 RoundTrips m (Ok back) = offset_instant greatest_year back ≡ offset_instant greatest_year m
 RoundTrips m (Err Gap) = ⊥
@@ -108,16 +109,16 @@ RoundTrips m (Err OutsideZoneRange) = ⊥
 abbrev pub not_one_text : NotOne → List ℕ
 not_one_text Gap = codes "clocks of the time zone leave out this date and time"
 not_one_text (Fold earlier later) = codes "clocks of the time zone show this date and time more than once"
-not_one_text OutsideZoneRange = codes "no time zone tells of this date and time"
+not_one_text OutsideZoneRange = codes "the date and time are outside the range of time zones"
 
 -- the message for a suffix that doesn't agree with its moment
 abbrev pub suffix_fault_text : SuffixFault → List ℕ
 suffix_fault_text Suffix.CriticalKey = codes "a key of its suffix is critical, and not known"
 suffix_fault_text Suffix.UnknownZone = codes "there is no time zone of the name in its suffix"
 suffix_fault_text Suffix.OtherOffset = codes "the time zone in its suffix has another offset then"
-suffix_fault_text Suffix.OutsideZoneRange = codes "no time zone tells of that time"
+suffix_fault_text Suffix.OutsideZoneRange = codes "the time is outside the range of time zones"
 
--- the message for a zone that wasn't found; the reason of an unreadable or a malformed file is the kit's
+-- the message for a zone that wasn't found; none if it isn't specified, since it contains a message of a library
 abbrev pub fault_text : ZoneFault → Option (List ℕ)
 fault_text Fault.NotAName = Some (codes "the name of a time zone has no `.` or `..` and no slash at an end")
 fault_text Fault.NotText = Some (codes "the variable of the time zone is not UTF-8")

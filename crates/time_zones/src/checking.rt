@@ -15,13 +15,14 @@ use time_values::{OffsetDateTime, UtcOffset};
 /// Why a suffix doesn't agree with the moment in front of it.
 #[derive(Clone, Copy, Debug, PartialEq, Eq)]
 pub enum SuffixFault {
-    /// One of its tags is critical, and this crate knows no keys.
+    /// The suffix has a critical tag, such as `[!u-ca=gregory]`. This crate knows no keys, so it rejects each of them.
     CriticalKey,
-    /// No zone has its name.
+    /// The suffix names a zone that the map of zones doesn't contain.
     UnknownZone,
-    /// The moment's offset differs from the zone's.
+    /// The moment's offset differs from the offset of the suffix's zone at that instant.
     OtherOffset,
-    /// The moment is outside the range of zones: before the year -9999 or after 9999, or within a day of either end.
+    /// The moment is before -9999-01-02T01:59:59Z or after 9999-12-30T22:00:00.999999999Z, so its offset can't be
+    /// compared with that of the zone that the suffix names.
     OutsideZoneRange,
 }
 
@@ -36,14 +37,14 @@ impl fmt::Display for SuffixFault {
             SuffixFault::CriticalKey => "a key of its suffix is critical, and not known",
             SuffixFault::UnknownZone => "there is no time zone of the name in its suffix",
             SuffixFault::OtherOffset => "the time zone in its suffix has another offset then",
-            SuffixFault::OutsideZoneRange => "no time zone tells of that time",
+            SuffixFault::OutsideZoneRange => "the time is outside the range of time zones",
         })
     }
 }
 
 impl std::error::Error for SuffixFault {}
 
-// Checks that the moment has that offset.
+// Checks that the moment's offset equals that offset, in seconds. `OtherOffset` if it doesn't.
 fn check_fixed(moment: OffsetDateTime, offset: UtcOffset) -> Result<(), SuffixFault>
     ensures { result ≡ compared (offset_seconds (offset_of moment)) (offset_seconds offset) }
 {
@@ -53,7 +54,8 @@ fn check_fixed(moment: OffsetDateTime, offset: UtcOffset) -> Result<(), SuffixFa
     Err(SuffixFault::OtherOffset)
 }
 
-// Checks that the moment has the offset of the zone.
+// Checks that the moment's offset equals the zone's offset at that instant, in seconds. `OutsideZoneRange` if the
+// moment is outside the range of zones, and `OtherOffset` if the offsets differ.
 fn check_zone(moment: OffsetDateTime, zone: &TimeZone<'_>) -> Result<(), SuffixFault>
     ensures { HasItsOffset moment (Zone.offset_at zone.now) result }
 {
@@ -64,7 +66,7 @@ fn check_zone(moment: OffsetDateTime, zone: &TimeZone<'_>) -> Result<(), SuffixF
     }
 }
 
-// Checks that the moment agrees with the zone of a suffix.
+// Checks that `zones` has the zone, if the suffix names one, and, with `has_local_offset`, that the offsets are equal.
 fn check_zone_text(
     zone: ZoneText<'_>,
     moment: OffsetDateTime,
@@ -84,9 +86,10 @@ fn check_zone_text(
     }
 }
 
-/// Checks that the suffix agrees with the moment, by RFC 9557, sections 3.3, 3.4 and 4.1: none of its keys is critical,
-/// since none is known, `zones` has its zone, and the moment has the zone's offset. `Z` and `-00:00` specify no offset
-/// of a zone: for them `has_local_offset` is false, and a zone of any offset agrees with the moment.
+/// Checks that the suffix agrees with the moment, by RFC 9557, sections 3.3, 3.4 and 4.1: it has no critical tag, since
+/// no key is known; `zones` has the zone that it names; and the moment has the offset of the suffix's zone. Returns the
+/// error of the first check that fails. `Z` and `-00:00` specify no local offset: for them `has_local_offset` is false,
+/// and offsets aren't compared. A zone is checked whether or not the flag `!` marks it as critical.
 pub fn check_suffix(
     suffix: &Suffixed<'_>,
     moment: OffsetDateTime,

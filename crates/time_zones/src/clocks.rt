@@ -19,7 +19,7 @@ use jiff_tz::TimeZone;
 use std::fmt;
 use time_values::{OffsetDateTime, PlainDateTime, UtcOffset};
 
-// Converts an offset of the kit's zone to a `UtcOffset`.
+// Converts an offset of `jiff_core` to a `UtcOffset` of as many seconds.
 fn offset_from(offset: Offset) -> UtcOffset
     ensures { offset_seconds result ≡ offset.seconds }
 {
@@ -29,8 +29,8 @@ fn offset_from(offset: Offset) -> UtcOffset
     }
 }
 
-/// The offset of the zone at the moment. `None` before the year -9999 and after 9999, and within a day of either end,
-/// for which no zone has an offset.
+/// The offset of the zone at the moment. `None` for any zone if the moment is outside the range of zones: before
+/// -9999-01-02T01:59:59Z or after 9999-12-30T22:00:00.999999999Z.
 pub fn offset_at(zone: &TimeZone<'_>, moment: OffsetDateTime) -> Option<UtcOffset>
     ensures told { IsSome result ↔ IsInZoneRange moment }
     ensures value { IfSome result (λ o. offset_seconds o ≡ Zone.offset_at zone.now (offset_instant greatest_year moment)) }
@@ -45,7 +45,7 @@ pub fn offset_at(zone: &TimeZone<'_>, moment: OffsetDateTime) -> Option<UtcOffse
     Some(offset_from(zone.to_offset(stamp)))
 }
 
-/// The moment at the offset of the zone. `None` if [`offset_at`] returns `None`.
+/// The instant of the moment, at the zone's offset at that instant. `None` if [`offset_at`] returns `None`.
 pub fn checked_to_zone(moment: OffsetDateTime, zone: &TimeZone<'_>) -> Option<OffsetDateTime>
     ensures told { IsSome result ↔ IsInZoneRange moment }
     ensures instant { IfSome result (λ v. offset_instant greatest_year v ≡ offset_instant greatest_year moment) }
@@ -62,9 +62,9 @@ pub(crate) fn is_same(a: UtcOffset, b: UtcOffset) -> bool
     a.whole_seconds() == b.whole_seconds()
 }
 
-/// Whether the moment has the offset of the zone, as the one of `2026-11-27T15:00:00+01:00[Europe/Berlin]` does. `None`
-/// if [`offset_at`] returns `None`. An offset of whole minutes doesn't equal an offset with seconds, as many zones had
-/// before 1920.
+/// Whether the moment's offset equals the zone's offset at that instant, as +01:00 equals that of Europe/Berlin in
+/// winter. `None` if [`offset_at`] returns `None`. Offsets are compared in seconds: one of whole minutes doesn't equal
+/// one with seconds, as many zones had before 1920.
 pub fn has_zone_offset(moment: OffsetDateTime, zone: &TimeZone<'_>) -> Option<bool>
     ensures told { IsSome result ↔ IsInZoneRange moment }
     ensures value { IfSome result (λ same. IsTrue same ↔ HasZoneOffset zone.now moment) }
@@ -76,17 +76,17 @@ pub fn has_zone_offset(moment: OffsetDateTime, zone: &TimeZone<'_>) -> Option<bo
 /// Why a local date and time isn't exactly one moment in a zone.
 #[derive(Clone, Copy, Debug, PartialEq, Eq)]
 pub enum NotOne {
-    /// The local time is nonexistent: the clocks skip it.
+    /// The local time is nonexistent: the zone's clocks never show it, since they skip it.
     Gap,
     /// The local time is ambiguous: it occurs more than once.
     Fold {
-        /// The first moment.
+        /// The first moment that has this local time.
         earlier: OffsetDateTime,
-        /// The last moment.
+        /// The last moment that has this local time.
         later: OffsetDateTime,
     },
-    /// The local time occurs at no moment in the range of zones, and is outside the years -9999 to 9999 or within two
-    /// days of their ends.
+    /// The local time occurs at no moment in the range of zones, and is before -9999-01-03T03:59:58 or after
+    /// 9999-12-29T20:00:01.999999999.
     OutsideZoneRange,
 }
 
@@ -100,21 +100,21 @@ impl fmt::Display for NotOne {
         f.write_str(match self {
             NotOne::Gap => "clocks of the time zone leave out this date and time",
             NotOne::Fold { .. } => "clocks of the time zone show this date and time more than once",
-            NotOne::OutsideZoneRange => "no time zone tells of this date and time",
+            NotOne::OutsideZoneRange => "the date and time are outside the range of time zones",
         })
     }
 }
 
 impl std::error::Error for NotOne {}
 
-// Whether the moment of the date and time is in the range of zones at every offset.
+// Whether the date and time, read at each offset from -25:59:59 to +25:59:59, is in the range of zones.
 fn is_in_zone_range_at_each_offset(civil: DateTime) -> bool
     ensures { IsTrue result ↔ ((s : ℤ) → IsOffsetSeconds s → IsTimestampNanos (civil_nanos civil -ℤ nanos_of_seconds s)) }
 {
     Offset::MIN.to_timestamp(civil).is_ok() && Offset::MAX.to_timestamp(civil).is_ok()
 }
 
-// Converts the date and time to the kit's type. `None` for years outside the range of zones.
+// Converts the date and time to `jiff_core`'s type. `None` outside the years -9999 to 9999.
 fn civil_from(clock: PlainDateTime) -> Option<DateTime>
     ensures value { IfSome result (λ civil. civil_nanos civil ≡ plain_instant greatest_year clock) }
     ensures none { IfNone result (¬ (IsCivilNanos (plain_instant greatest_year clock))) }
@@ -122,7 +122,7 @@ fn civil_from(clock: PlainDateTime) -> Option<DateTime>
     DateTime::from_nanosecond(clock.as_utc().unix_timestamp_nanos()).ok()
 }
 
-// The moment at which a clock with that offset shows the date and time.
+// The moment with that date, time and offset.
 #[tactic(auto, using(time_values::proofs::InstantLemmas::instant_is))]
 fn moment_with(clock: PlainDateTime, offset: Offset) -> OffsetDateTime
     ensures { HasClock clock offset.seconds result }
@@ -130,8 +130,8 @@ fn moment_with(clock: PlainDateTime, offset: Offset) -> OffsetDateTime
     clock.assume_offset(offset_from(offset))
 }
 
-// The moment of the date and time in the zone, by each offset that the zone can have then. Not inlined, so that it
-// needs no stack space beside `fast`.
+// The result of `assume_zone`, found by trying each offset that the zone can have then. Not inlined, so that it needs
+// no stack space beside `fast`.
 #[inline(never)]
 fn assume_by_offsets(clock: PlainDateTime, zone: &TimeZone<'_>) -> Result<OffsetDateTime, NotOne>
     ensures ok { IfOk result (IsOnlyMoment zone.now clock) }
@@ -155,7 +155,8 @@ fn assume_by_offsets(clock: PlainDateTime, zone: &TimeZone<'_>) -> Result<Offset
     Ok(earlier)
 }
 
-/// The moment of the local date and time in the zone.
+/// The only moment in the range of zones at which clocks of the zone show the date and time, with the zone's offset. An
+/// error if there is no such moment, or more than one.
 #[inline(always)]
 pub fn assume_zone(clock: PlainDateTime, zone: &TimeZone<'_>) -> Result<OffsetDateTime, NotOne>
     ensures ok { IfOk result (IsOnlyMoment zone.now clock) }

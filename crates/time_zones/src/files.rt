@@ -6,7 +6,7 @@ use std::io::{ErrorKind, Read};
 use std::rt::Files;
 use std::{fs, io};
 
-// The longest file that is read as a zone. Those of the database have a few kilobytes.
+// The length of the longest file that is read as a zone, in bytes: 1 MiB. Those of the database have a few kilobytes.
 const MOST_BYTES: u64 = 1 << 20;
 
 /// Why a file wasn't read.
@@ -16,7 +16,7 @@ pub enum ReadFault {
     Missing,
     /// The path is a folder.
     Folder,
-    /// The file can't be read.
+    /// The file can't be read, or, on disk, isn't a regular file (`InvalidInput`) or exceeds 1 MiB (`FileTooLarge`).
     Unreadable(ErrorKind),
     /// Memory ran out.
     OutOfMemory,
@@ -27,7 +27,7 @@ pub trait ZoneFiles {
     // The possible results of reading the file at a path.
     ghost gives: { Self → List ℕ → Result (List ℕ) Fault → Type 0 };
 
-    /// The bytes of the file at the path.
+    /// All bytes of the file at the path, or why they can't be read.
     fn read(&self, path: &str) -> Result<Vec<u8>, ReadFault>
         ensures ok { IfOk result (λ bytes. gives self.now path.now (Ok bytes.items)) }
         ensures err { IfErr result (λ fault. gives self.now path.now (Err fault)) };
@@ -39,7 +39,7 @@ pub(crate) struct Disk<'a, R> {
     pub(crate) rt: &'a R,
 }
 
-// Converts an error of the system to one of a file.
+// Converts an error of the system: `NotFound` to `Missing`, `OutOfMemory` to `OutOfMemory`, and others to `Unreadable`.
 fn fault_from(error: io::Error) -> ReadFault {
     match error.kind() {
         ErrorKind::NotFound => ReadFault::Missing,
@@ -48,7 +48,7 @@ fn fault_from(error: io::Error) -> ReadFault {
     }
 }
 
-// The bytes of a regular file. Reading stops at the limit, since a pipe or a device might never end.
+// The bytes of the file, or `FileTooLarge` above `MOST_BYTES`. Reading stops there, since a device might never end.
 fn read_whole<R: Files + AllocGlobal>(rt: &R, path: &str) -> io::Result<Vec<u8>> {
     let mut bytes = Vec::new(rt.alloc());
     let mut file = fs::open(rt, path)?.take(MOST_BYTES + 1);
@@ -59,7 +59,7 @@ fn read_whole<R: Files + AllocGlobal>(rt: &R, path: &str) -> io::Result<Vec<u8>>
     Ok(bytes)
 }
 
-// The contents of files are unknown beforehand.
+// The contract permits any result, since the contents of files are unknown beforehand.
 impl<R: Files + AllocGlobal> ZoneFiles for Disk<'_, R> {
     ghost gives = { λ _ _ _. Unit {0} };
 

@@ -14,19 +14,19 @@ use std::rt::{Env, Files};
 // The folder of zones on most systems.
 const FOLDER: &str = "/usr/share/zoneinfo";
 
-/// A zone with the data that it was read from.
+/// An owned zone: UTC, a POSIX rule, or the table of a file.
 #[derive(Debug, Drop)]
 pub enum NamedZone {
     /// UTC.
     Utc,
-    /// A rule, from `TZ`.
+    /// A POSIX rule, from `TZ`.
     Rule(posix::TimeZone),
-    /// The table of a file.
+    /// The transitions of a TZif file, and the rule after them if it has one.
     Table(Tzif),
 }
 
 impl NamedZone {
-    /// The zone, as this crate's functions and the kit's take it.
+    /// The zone as a `TimeZone`. For a table it borrows the table.
     pub fn time_zone(&self) -> TimeZone<'_>
         ensures { IsZoneOf self.now result }
     {
@@ -37,7 +37,8 @@ impl NamedZone {
         }
     }
 
-    /// The zone's name, if it is UTC or was found by its name in a folder of zones.
+    /// `UTC`, or the name by which the table was found in a folder of zones. `None` for a rule, and for a file that was
+    /// read by its path.
     pub fn name(&self) -> Option<&str>
         ensures { option_map (λ name. name.now) result ≡ name_of self.now }
     {
@@ -49,7 +50,7 @@ impl NamedZone {
     }
 }
 
-// Reads the zone of the file at the path.
+// Reads the zone file at the path. `name` becomes the name of its table. `Unknown` stores the path of a missing file.
 fn table_at<F: ZoneFiles>(
     alloc: Global,
     files: &F,
@@ -72,7 +73,7 @@ fn table_at<F: ZoneFiles>(
     }
 }
 
-// The path of a name below a folder.
+// The path `folder/name`. Fails only if memory runs out.
 fn path_below(alloc: Global, folder: &str, name: &str) -> Result<String, AllocError>
     ensures { IfOk result (λ path. string_bytes path ≡ folder.now ++ 47 ∷ name.now) }
 {
@@ -82,7 +83,8 @@ fn path_below(alloc: Global, folder: &str, name: &str) -> Result<String, AllocEr
     Ok(path)
 }
 
-/// Finds the zone at a place.
+/// Finds the zone at the place. `folder` is the path of the folder of zones. The error is `NotAName` if and only if
+/// `place` is `None`.
 pub(crate) fn find_at<F: ZoneFiles>(
     alloc: Global,
     files: &F,
@@ -110,8 +112,9 @@ pub(crate) fn find_at<F: ZoneFiles>(
     }
 }
 
-/// The zone of that name in a folder of zone files, `UTC`, or `local`: the zone that the given value of `TZ` specifies,
-/// or /etc/localtime without one. Reads at most one file.
+/// The zone of the name: `UTC`; `local`, which is the zone that `setting`, a value of `TZ`, specifies, or the file
+/// /etc/localtime if it is `None`; or else the file of that name below `folder`. Reads at most one file. [`find_zone`]
+/// describes the values of `TZ`.
 pub fn find_zone_in<F: ZoneFiles>(
     alloc: Global,
     files: &F,
@@ -124,7 +127,7 @@ pub fn find_zone_in<F: ZoneFiles>(
     find_at(alloc, files, folder, requested_place(setting, name))
 }
 
-// The value of a variable, if it is set.
+// The value of an environment variable, or `None` if it isn't set. An error if it isn't UTF-8, or memory runs out.
 fn variable<R: Env + AllocGlobal>(rt: &R, name: &str) -> Result<Option<String>, ZoneFault>
     ensures { IfErr result IsVariableFault }
 {
@@ -136,7 +139,8 @@ fn variable<R: Env + AllocGlobal>(rt: &R, name: &str) -> Result<Option<String>, 
     }
 }
 
-// The value of `TZ`, if the name is `local`.
+// The value of `TZ`, if the name is `local` and `TZ` is set. `None` otherwise. An error if the name is `local`, and
+// `TZ` isn't UTF-8 or memory runs out.
 fn setting_for<R: Env + AllocGlobal>(rt: &R, name: &str) -> Result<Option<String>, ZoneFault>
     ensures { name.now ≢ codes "local" → result ≡ Ok None }
 {
@@ -147,7 +151,8 @@ fn setting_for<R: Env + AllocGlobal>(rt: &R, name: &str) -> Result<Option<String
     }
 }
 
-/// The folder that `TZDIR` names, or else the usual one.
+/// The folder that `TZDIR` names, or /usr/share/zoneinfo if `TZDIR` isn't set or is empty. An error if `TZDIR` isn't
+/// UTF-8, or memory runs out.
 pub(crate) fn folder<R: Env + AllocGlobal>(rt: &R) -> Result<String, ZoneFault>
     ensures { IfErr result IsVariableFault }
 {
@@ -157,7 +162,8 @@ pub(crate) fn folder<R: Env + AllocGlobal>(rt: &R) -> Result<String, ZoneFault>
     }
 }
 
-// Finds the zone at a place in the system's files.
+// Finds the zone at a place in the system's files. Reads `TZDIR` only for a file in the folder of zones. The error is
+// `NotAName` if and only if `place` is `None`.
 fn find_on_disk<R: Env + Files + AllocGlobal>(
     rt: &R,
     place: Option<Place<'_>>,
@@ -172,9 +178,11 @@ fn find_on_disk<R: Env + Files + AllocGlobal>(
     find_at(rt.alloc(), &Disk { rt }, folder.as_str(), place)
 }
 
-/// The zone of that name, from one file: an IANA name such as `Europe/Berlin` in the folder that `TZDIR` names, or else
-/// in /usr/share/zoneinfo; `UTC`; or `local`, which is the zone that `TZ` specifies, or else /etc/localtime. `TZ` holds
-/// a name, a path, with or without a colon before either, or a rule such as `CET-1CEST,M3.5.0,M10.5.0/3`.
+/// The zone of that name: an IANA name such as `Europe/Berlin` in the folder that `TZDIR` names, or in
+/// /usr/share/zoneinfo if it is unset or empty; `UTC`; or `local`, which is the zone that `TZ` specifies, or
+/// /etc/localtime if it is unset. `TZ` has a name or an absolute path, with or without a colon before it, or a rule
+/// such as `CET-1CEST,M3.5.0,M10.5.0/3`; an empty `TZ` is UTC. Reads at most one file, `TZ` only for `local`, and
+/// `TZDIR` only for a name in the folder. [`ZoneFault`] describes the errors.
 pub fn find_zone<R: Env + Files + AllocGlobal>(rt: &R, name: &str) -> Result<NamedZone, ZoneFault>
     ensures utc { name.now ≡ codes "UTC" → result ≡ Ok NamedZone.Utc }
     ensures refused { name.now ≢ codes "local" → ((result ≡ Err ZoneFault.NotAName)

@@ -9,7 +9,8 @@ use crate::clocks::{NotOne, assume_zone, checked_to_zone};
 use jiff_tz::TimeZone;
 use time_values::{OffsetDateTime, PlainDateTime};
 
-/// The local time of a moment in a zone resolves to the moment again, or to a fold around it.
+/// The local time of a moment in a zone resolves to the moment's instant again, or to a fold that contains it. `None`
+/// if the moment is outside the range of zones.
 pub fn law_read_back(
     moment: OffsetDateTime,
     zone: &TimeZone<'_>,
@@ -21,7 +22,7 @@ pub fn law_read_back(
     Some(assume_zone(PlainDateTime::new(shown.date(), shown.time()), zone))
 }
 
-/// Converting a moment that has the zone's offset to the zone leaves it unchanged.
+/// Converting a moment in the range of zones that has the zone's offset to the zone returns it unchanged.
 pub fn law_left_as_it_is(moment: OffsetDateTime, zone: &TimeZone<'_>) -> Option<OffsetDateTime>
     ensures { IsInZoneRange moment → HasZoneOffset zone.now moment → result ≡ Some moment }
 {
@@ -35,7 +36,7 @@ pub fn law_one_answer(clock: PlainDateTime, zone: &TimeZone<'_>) -> Result<Offse
     assume_zone(clock, zone)
 }
 
-/// A text is a suffix in one way: with one zone or none, and with one list of tags.
+/// A text is a suffix in at most one way: with one zone or none, and with one list of tags.
 pub fn law_one_suffix()
     ensures { OneSuffix }
 {}
@@ -46,13 +47,15 @@ pub fn law_written_suffix()
     ensures { WrittenIsSuffix }
 {}
 
-/// Each zone name that a suffix can have names a file in the folder of zones.
+/// Each zone name that a suffix can have is valid as a path below the folder of zones: no part of it, between slashes,
+/// is empty, `.` or `..`.
 #[tactic(auto, using(crate::proofs::NameLemmas::names_in_folder))]
 pub fn law_names_in_folder()
     ensures { NamesInFolder }
 {}
 
-/// A suffix agrees with a moment or is rejected for one reason, which depends on the suffix, the moment and the zones.
+/// A suffix agrees with a moment or is rejected for one reason. The result depends only on the zones, the moment,
+/// whether it has a local offset, and the zone and first critical key of the suffix.
 #[tactic(auto, using(crate::proofs::FolderLemmas::one_check))]
 pub fn law_one_check()
     ensures { OneCheck }

@@ -4,27 +4,27 @@ ghost use Rattle.time_zones.specs.Finding.{IsPart, IsZoneName, IsPlaceOfName, Is
 
 use jiff_tz::posix;
 
-/// The place of a zone.
+/// Where the data of a zone is.
 #[derive(Clone, Copy)]
 pub(crate) enum Place<'a> {
     /// UTC, which needs no file.
     Utc,
-    /// A rule, which needs no file either.
+    /// A POSIX rule, which needs no file either.
     Rule(posix::TimeZone),
     /// The file of that name in the folder of zones.
     InFolder(&'a str),
-    /// The file at that path.
+    /// The file at that absolute path.
     AtPath(&'a str),
 }
 
-// Whether a part of a name leads to no other folder.
+// Whether a part of a name is neither empty nor `.` nor `..`.
 fn is_part(part: &str) -> bool
     ensures { IsTrue result ↔ IsPart part.now }
 {
     !matches!(part, "" | "." | "..")
 }
 
-// Whether a name stays in the folder of zones.
+// Whether each part of the name, between slashes, is neither empty nor `.` nor `..`.
 fn is_zone_name(name: &str) -> bool
     ensures { IsTrue result ↔ IsZoneName name.now }
 {
@@ -38,7 +38,8 @@ fn is_zone_name(name: &str) -> bool
     is_part(rest)
 }
 
-/// The place that a name specifies. `None` if it would leave the folder of zones.
+/// UTC for `UTC`, and else the file of that name in the folder of zones. `None` if a part of the name, between slashes,
+/// is empty, `.` or `..`.
 pub(crate) fn named(name: &str) -> Option<Place<'_>>
     ensures { IsPlaceOfName name.now result }
 {
@@ -51,7 +52,8 @@ pub(crate) fn named(name: &str) -> Option<Place<'_>>
     Some(Place::InFolder(name))
 }
 
-// The place that a path or a name specifies.
+// The file at the path, if the text begins with a slash, and else the place that the text specifies as a name. `None`
+// if that name is invalid.
 fn at_path(text: &str) -> Option<Place<'_>>
     ensures { IsPlaceOfPath text.now result }
 {
@@ -61,7 +63,8 @@ fn at_path(text: &str) -> Option<Place<'_>>
     }
 }
 
-// The place that a value of `TZ` specifies.
+// The place that a value of `TZ` specifies: UTC if it is empty, a path or a name after a colon, and else a rule, or, if
+// it isn't one, a path or a name. `None` if the name is invalid.
 fn by_setting(setting: &str) -> Option<Place<'_>>
     ensures { IsPlaceOfSetting setting.now result }
 {
@@ -77,7 +80,8 @@ fn by_setting(setting: &str) -> Option<Place<'_>>
     }
 }
 
-/// The place that a name specifies. `local` is the place that `TZ` specifies, or /etc/localtime if `TZ` isn't set.
+/// The place that a name specifies. For `local` it is the place that `setting`, the value of `TZ`, specifies, or
+/// /etc/localtime if `TZ` isn't set. `None` if the name, or that in `TZ`, is invalid.
 pub(crate) fn requested_place<'a>(setting: Option<&'a str>, name: &'a str) -> Option<Place<'a>>
     ensures { IsRequestedPlace (option_map (λ s. s.now) setting.entry) name.now result }
 {

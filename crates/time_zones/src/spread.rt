@@ -10,14 +10,15 @@ use jiff_core::Offset;
 use jiff_core::civil::DateTime;
 use jiff_tz::{AmbiguousOffset, TimeZone, posix};
 
-/// The greatest and the least of some offsets. The greatest gives the first moment.
+/// The greatest and the least offset at which a local date and time occurs in a zone. The greatest is that of the first
+/// moment.
 #[derive(Clone, Copy)]
 pub(crate) struct Spread {
     pub(crate) greatest: Offset,
     pub(crate) least: Offset,
 }
 
-// The two offsets of a result of the kit.
+// The offset before a gap or a fold and the offset after it, or the only offset twice.
 fn sides(offsets: AmbiguousOffset) -> (Offset, Offset)
     ensures { (s : ℤ) → IsSide offsets s → (s ≡ result.0.seconds) ⊎ (s ≡ result.1.seconds) }
 {
@@ -28,7 +29,7 @@ fn sides(offsets: AmbiguousOffset) -> (Offset, Offset)
     }
 }
 
-// The rule of the zone, alone or after its table.
+// The POSIX rule of the zone, alone or after its table. `None` if there is none.
 fn rule_of(zone: &TimeZone<'_>) -> Option<posix::TimeZone>
     ensures { option_map tz_view result ≡ rule_text zone.now }
 {
@@ -39,7 +40,7 @@ fn rule_of(zone: &TimeZone<'_>) -> Option<posix::TimeZone>
     }
 }
 
-// Whether the zone has the offset at the moment at which a clock with it shows the date and time.
+// Whether the date and time, read at the offset, is an instant in the range of zones at which the zone has the offset.
 fn has_offset(zone: &TimeZone<'_>, civil: DateTime, offset: Offset) -> bool
     ensures { IsTrue result ↔ HasOffset zone.now (civil_nanos civil) offset.seconds }
 {
@@ -49,7 +50,7 @@ fn has_offset(zone: &TimeZone<'_>, civil: DateTime, offset: Offset) -> bool
     }
 }
 
-// Whether the offset lies in the spread.
+// Whether the offset is from the least to the greatest of the spread, inclusive. False without a spread.
 fn covers(spread: Option<Spread>, offset: Offset) -> bool
     ensures { IsTrue result ↔ Covers spread offset.seconds }
 {
@@ -60,7 +61,8 @@ fn covers(spread: Option<Spread>, offset: Offset) -> bool
     }
 }
 
-// The spread extended by the offset, if the zone has it at the date and time. An offset in the spread needs no look-up.
+// The spread extended by the offset, if the zone has it at the date and time, and else the given spread. `None` is an
+// empty spread. An offset in the spread needs no look-up.
 fn widened(
     spread: Option<Spread>,
     zone: &TimeZone<'_>,
@@ -99,7 +101,8 @@ fn widened(
     spread
 }
 
-/// The offsets at which the date and time occurs in the zone.
+/// The greatest and the least offset at which the date and time occurs in the zone. `None` if it occurs at no instant
+/// in the range of zones.
 pub(crate) fn spread_at(zone: &TimeZone<'_>, civil: DateTime) -> Option<Spread>
     ensures ends { IfSome result (IsSpread zone.now (civil_nanos civil)) }
     ensures each { (s : ℤ) → HasOffset zone.now (civil_nanos civil) s → Covers result s }

@@ -15,13 +15,13 @@ use time_values::UtcOffset;
 /// How a suffix specifies the zone.
 #[derive(Clone, Copy, Debug, PartialEq, Eq)]
 pub enum ZoneText<'a> {
-    /// By a name, which is ASCII.
+    /// By a name, such as `Europe/Berlin`. A name that was read is ASCII.
     Name(&'a [u8]),
-    /// By an offset of whole minutes, which is 0 for `-00:00` too.
+    /// By an offset. One that was read has whole minutes, up to 23:59 ahead of UTC or behind it, and is 0 for `-00:00`.
     Offset(UtcOffset),
 }
 
-// The zone that the text specifies.
+// The zone that the text inside brackets specifies, by a name or by an offset. `None` if it is neither.
 fn zone_of(text: &[u8]) -> Option<ZoneText<'_>>
     ensures some { IfSome result (λ z. IsZoneText text.now (zone_of z)) }
     ensures none { IfNone result ((z : Zone) → IsZoneText text.now z → ⊥) }
@@ -35,14 +35,14 @@ fn zone_of(text: &[u8]) -> Option<ZoneText<'_>>
     }
 }
 
-// Whether the byte may be inside brackets, after a flag.
+// Whether the byte may be inside brackets, after a flag: an ASCII letter or digit, or one of `._-+/:=`.
 fn is_bracket_char(byte: u8) -> bool
     ensures { result ≡ fronts.is_bracket_char byte }
 {
     is_zone_char(byte) || matches!(byte, b'/' | b':' | b'=')
 }
 
-// The number of such bytes at the start of the text.
+// The number of bytes at the start of the text that may be inside brackets.
 fn bracket_len(text: &[u8]) -> usize
     ensures count { result ≡ prefix_len fronts.is_bracket_char text.now }
     ensures within { result ≤ length text.now }
@@ -52,7 +52,7 @@ fn bracket_len(text: &[u8]) -> usize
         .count()
 }
 
-// Whether the text starts with a flag, and the rest after it.
+// Whether the text starts with the critical flag `!`, and the rest after it. Without a flag the rest is the text.
 fn flag(text: &[u8]) -> (bool, &[u8])
     ensures whole { text.now ≡ suffix.flagged result.0 result.1.now }
     ensures none { result.0 ≡ false → (rest : List ℕ) → text.now ≢ 33 ∷ rest }
@@ -66,13 +66,14 @@ fn flag(text: &[u8]) -> (bool, &[u8])
 /// The contents of brackets.
 #[derive(Clone, Copy)]
 struct Bracketed<'a> {
-    /// Whether a flag marks it as critical.
+    /// Whether the flag `!` marks it as critical.
     is_critical: bool,
-    /// The bytes after the flag.
+    /// The bytes between `[`, or the flag, and `]`.
     inside: &'a [u8],
 }
 
-// The contents of the brackets at the start of the text, and the rest after them.
+// The contents of the brackets at the start of the text, and the rest after `]`. `None` if the text doesn't begin with
+// `[`, an optional flag, any number of bytes that may be inside brackets, and `]`.
 fn brackets(text: &[u8]) -> Option<(Bracketed<'_>, &[u8])>
     ensures some { IfSome result (λ x. BeginsBracketed text.now x.0.is_critical x.0.inside.now x.1.now) }
     ensures none { IfNone result ((is_critical : Bool) (inside rest : List ℕ)
@@ -93,13 +94,13 @@ fn brackets(text: &[u8]) -> Option<(Bracketed<'_>, &[u8])>
 /// The zone of a suffix.
 #[derive(Clone, Copy, Debug, PartialEq, Eq)]
 pub struct ZoneTag<'a> {
-    /// Whether it is critical, as in `[!Europe/Berlin]`.
+    /// Whether the flag `!` marks it as critical, as in `[!Europe/Berlin]`.
     pub is_critical: bool,
     /// The zone itself.
     pub zone: ZoneText<'a>,
 }
 
-// The zone at the start of the text, and the rest after it.
+// The zone in brackets at the start of the text, and the rest after `]`. `None` if the text begins with none.
 fn zone_in_front(text: &[u8]) -> Option<(ZoneTag<'_>, &[u8])>
     ensures some { IfSome result (λ x. BeginsWithZone text.now (Some (zone_tag_of x.0)) x.1.now) }
     ensures none { IfNone result (HasNoZone text.now) }
@@ -110,7 +111,7 @@ fn zone_in_front(text: &[u8]) -> Option<(ZoneTag<'_>, &[u8])>
     Some((ZoneTag { is_critical, zone }, rest))
 }
 
-// The zone at the start of the text, if there is one, and the rest after it.
+// The zone in brackets at the start of the text, and the rest after `]`. Without one: `None` and the whole text.
 fn zone_if_any(text: &[u8]) -> (Option<ZoneTag<'_>>, &[u8])
     ensures zone { BeginsWithZone text.now (option_map zone_tag_of result.0) result.1.now }
     ensures none { IfNone result.0 (HasNoZone text.now) }
@@ -121,7 +122,8 @@ fn zone_if_any(text: &[u8]) -> (Option<ZoneTag<'_>>, &[u8])
     }
 }
 
-// The tag at the start of the text: its key if it is critical, and the rest after it.
+// The tag at the start of the text: its key, or `None` if it isn't critical, and the rest after `]`. `None` if the text
+// begins with no tag.
 fn tag_in_front(text: &[u8]) -> Option<(Option<&[u8]>, &[u8])>
     ensures some { IfSome result (λ x. (t : Tag) × BeginsWithTag text.now t x.1.now
         × (option_map (λ key. key.now) x.0 ≡ critical_key (t ∷ []))) }
@@ -133,7 +135,8 @@ fn tag_in_front(text: &[u8]) -> Option<(Option<&[u8]>, &[u8])>
     Some((found.is_critical.then_some(key), rest))
 }
 
-// The first critical key of the tags at the start of the text, and the rest after them.
+// The key of the first critical tag of all tags at the start of the text, or `None` without one, and the rest after the
+// last tag.
 fn tags_in_front(text: &[u8]) -> (Option<&[u8]>, &[u8])
     ensures { (tags : List Tag) × BeginsWithTags text.now tags result.1.now
         × (option_map (λ key. key.now) result.0 ≡ critical_key tags) }
@@ -159,8 +162,8 @@ pub struct Suffixed<'a> {
 }
 
 /// Reads the longest prefix of the text that is a suffix by RFC 9557, section 4.1, such as
-/// `[Europe/Berlin][u-ca=gregory]`. Its length is 0 if the text begins otherwise. It checks neither values, nor whether
-/// there is such a zone.
+/// `[Europe/Berlin][u-ca=gregory]`. `len` is 0 if the text begins with none. Only the grammar is checked: not what
+/// values mean, nor whether there is such a zone.
 pub fn read_suffix(text: &[u8]) -> Suffixed<'_>
     ensures within { result.len ≤ length text.now }
     ensures says { ParsesSuffix (take result.len text.now) result }

@@ -7,20 +7,21 @@ use std::{fmt, io};
 /// Why a zone wasn't found.
 #[derive(Debug, Drop, PartialEq, Eq)]
 pub enum ZoneFault {
-    /// The name would leave the folder of zones.
+    /// The name, or that in `TZ`, has an empty, `.` or `..` part between slashes.
     NotAName,
-    /// A variable that names the zone isn't UTF-8.
+    /// The variable `TZ` or `TZDIR` isn't UTF-8.
     NotText,
-    /// The zone has no file.
+    /// The zone's file, or the folder of zones, doesn't exist.
     Unknown {
-        /// The path of the missing file.
+        /// The path of the missing file or folder.
         path: String,
     },
-    /// The name is that of a folder of zones.
+    /// The path of the zone's file is that of a folder.
     Folder,
-    /// The file can't be read.
+    /// The zone's file or the folder of zones can't be read, or the file isn't regular (`InvalidInput`) or exceeds
+    /// 1 MiB (`FileTooLarge`).
     Unreadable(io::ErrorKind),
-    /// The file isn't a zone file.
+    /// The file isn't a valid TZif file.
     Malformed(TzifFault),
     /// Memory ran out.
     OutOfMemory,

@@ -33,7 +33,7 @@ impl Zones {
         }
     }
 
-    /// Sets the zone of that name, and replaces an earlier one. If memory runs out, all zones are unchanged.
+    /// Sets the zone of that name, and replaces an earlier one. If memory runs out, the map is unchanged.
     pub fn insert(&mut self, name: &str, zone: NamedZone) -> Result<(), AllocError>
         ensures ok { OnOk result (IsInserted self.old self.new name.now zone) }
         ensures err { OnErr result ((other : List ℕ) → SameNamed self.old self.new other) }
@@ -51,7 +51,7 @@ impl Zones {
         }
     }
 
-    /// The zone of exactly that name, if there is one.
+    /// The zone of exactly that name. `None` if the map has none, or the name isn't UTF-8.
     pub fn get(&self, name: &[u8]) -> Option<TimeZone<'_>>
         ensures { IsZoneIfAny (zone_named self.now name.now) result }
     {
@@ -65,7 +65,8 @@ impl Zones {
     }
 }
 
-// Why the names of a folder weren't read.
+// Converts an error of listing the folder at the path: `NotFound` to `Unknown` with the path, another error of the
+// system to `Unreadable`, and any other to `OutOfMemory`.
 fn fault_from(error: Error, path: String) -> ZoneFault
     ensures { IsFolderFault result }
 {
@@ -76,7 +77,7 @@ fn fault_from(error: Error, path: String) -> ZoneFault
     }
 }
 
-// Adds the zone of that name, if its file is a zone file.
+// Sets the zone of that name, if it is found, and else leaves the map unchanged. Only `OutOfMemory` is an error.
 fn add<F: ZoneFiles>(
     alloc: Global,
     files: &F,
@@ -95,8 +96,9 @@ fn add<F: ZoneFiles>(
     }
 }
 
-/// `UTC`, and the zones in the files of a folder that have these names. Skips a name whose file is missing or isn't a
-/// zone file. If a name occurs twice, its file is read twice, and the last zone that was read is kept.
+/// `UTC`, and the zones in the files of a folder that have these names. Skips a name that is invalid, or whose file is
+/// missing, unreadable or no zone file. If a name occurs twice, its file is read twice, and the last zone that was read
+/// remains. An error only if memory runs out.
 pub fn find_zones_in<F: ZoneFiles>(
     alloc: Global,
     files: &F,
@@ -114,8 +116,10 @@ pub fn find_zones_in<F: ZoneFiles>(
     Ok(zones)
 }
 
-/// `UTC`, and all zones of the folder that `TZDIR` names, or else of /usr/share/zoneinfo, by their paths below it, such
-/// as `Europe/Berlin`. Skips files that aren't zone files, and the folders `posix` and `right`.
+/// `UTC`, and all zones of the folder that `TZDIR` names, or of /usr/share/zoneinfo if it is unset or empty, by their
+/// paths below it, such as `Europe/Berlin`. Skips the folders `posix` and `right` directly in it, files and folders
+/// below it that can't be read, and files that aren't zone files or exceed 1 MiB. Of paths that differ only in ASCII
+/// case, the map has one. An error if the folder is missing or can't be read, `TZDIR` isn't UTF-8, or memory runs out.
 pub fn find_zones<R: Env + Files + AllocGlobal + Clone + Drop>(rt: &R) -> Result<Zones, ZoneFault>
     ensures utc { IfOk result (λ zones. zone_named zones (codes "UTC") ≡ Some Named.Utc) }
     ensures err { IfErr result IsFolderFault }

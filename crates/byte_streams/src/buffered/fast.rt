@@ -30,7 +30,7 @@ fn put_all(array: &mut [u8; CAPACITY], at: usize, bytes: &[u8])
     array[at..at + bytes.len()].copy_from_slice(bytes);
 }
 
-// Writes a block at index `at`. Only its first `count` bytes matter.
+// Writes all `N` bytes of a block at index `at`. The contract covers only the first `count`.
 #[inline(always)]
 fn put_block<const N: usize>(array: &mut [u8; CAPACITY], at: usize, block: [u8; N], count: usize)
     requires few { count ≤ N }
@@ -59,7 +59,7 @@ fn put_first(array: &mut [u8; CAPACITY], at: usize, bytes: &[u8], count: usize)
     array[at..at + count].copy_from_slice(&bytes[..count]);
 }
 
-// Writes a text of fewer than 16 bytes or more than 32.
+// Writes a text at index `at`. Called for fewer than 16 bytes or more than 32, which are rare.
 #[inline(always)]
 fn put_rare(array: &mut [u8; CAPACITY], at: usize, bytes: &[u8])
     requires { at + length bytes.now ≤ CAPACITY }
@@ -71,7 +71,7 @@ fn put_rare(array: &mut [u8; CAPACITY], at: usize, bytes: &[u8])
     }
 }
 
-// Writes a text, usually that of a time.
+// Writes a text at index `at`. A time's text usually has 16 to 32 bytes.
 #[inline(always)]
 fn put_text(array: &mut [u8; CAPACITY], at: usize, bytes: &[u8])
     requires { at + length bytes.now ≤ CAPACITY }
@@ -83,7 +83,8 @@ fn put_text(array: &mut [u8; CAPACITY], at: usize, bytes: &[u8])
     }
 }
 
-/// Appends bytes with a text in place of those from `begin` to before `end`, if all bytes of both fit.
+/// Appends `bytes` with `text` in place of those from `begin` to before `end`. Returns `None`, with the buffer
+/// unchanged, unless all of `bytes` and `text` would fit together.
 #[inline(always)]
 pub(super) fn splice(
     buffer: &mut ArrayBuf<CAPACITY>,

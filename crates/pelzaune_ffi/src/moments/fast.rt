@@ -1,6 +1,6 @@
 //! Fast paths for the commonest moments of RFC 3339, which read many bytes at once.
 //!
-//! Each returns what the library's parser does, or `None`: not this form.
+//! Each returns what the library's parser does, or `None` if it doesn't apply.
 pub(super) mod iso8601;
 pub(super) mod rfc2822;
 
@@ -24,7 +24,8 @@ use time_readers::rfc3339::Numbers;
 use time_readers::rfc3339::fast::to_second;
 use time_values::{Date, Month, OffsetDateTime, Time, UtcOffset};
 
-// The nanosecond of the fraction. `None`: not this form.
+// The numbers with the nanoseconds of a fraction, if the rest starts with `.`, and the bytes after it. Digits after the
+// ninth are ignored. Without a `.`, both are unchanged. `None`: no digit follows the `.`.
 #[inline(always)]
 fn subsecond(numbers: Numbers, rest: &[u8]) -> Option<(Numbers, &[u8])>
     requires { numbers.subsecond ≡ None }
@@ -41,7 +42,8 @@ fn subsecond(numbers: Numbers, rest: &[u8]) -> Option<(Numbers, &[u8])>
     Some((numbers, found.0))
 }
 
-// The numbers of the offset that ends the text. `None`: not this form.
+// The numbers with the offset that is the whole rest: `Z`, or a sign, two digits up to 23, `:` and two digits up to 59.
+// `None`: the rest is anything else.
 #[inline(always)]
 fn offset(numbers: Numbers, rest: &[u8]) -> Option<Numbers>
     requires utc { numbers.is_utc ≡ false }
@@ -81,7 +83,8 @@ fn offset(numbers: Numbers, rest: &[u8]) -> Option<Numbers>
     })
 }
 
-// The offset with these numbers. That of UTC is a constant. `None`: a number is out of range.
+// The offset with the hour and minute of these numbers. That of UTC is a constant. `None`: the hour or the minute is
+// out of range.
 #[inline(always)]
 fn offset_of(parts: MomentNumbers) -> Option<UtcOffset>
     ensures { IfSome result (λ o. Constructs (offset_refusal parts.offset_hour parts.offset_minute (pos 0))
@@ -93,7 +96,7 @@ fn offset_of(parts: MomentNumbers) -> Option<UtcOffset>
     UtcOffset::from_hms(parts.offset_hour, parts.offset_minute, 0).ok()
 }
 
-// The date with these numbers. `None`: a number is out of range.
+// The date with the year, month and day of these numbers. `None`: the calendar has no such date.
 #[inline(always)]
 #[tactic(auto, using(crate::proofs::IsoInPlace::date_of))]
 fn date_of(parts: MomentNumbers) -> Option<Date>
@@ -106,7 +109,7 @@ fn date_of(parts: MomentNumbers) -> Option<Date>
     Date::from_calendar_date(i32::from(parts.year), month, parts.day).ok()
 }
 
-// The moment with these numbers, whose second isn't 60. `None`: a number is out of range.
+// The moment with these numbers, whose second is below 60. `None`: the date, the time or the offset is out of range.
 #[inline(always)]
 fn moment_from(parts: MomentNumbers) -> Option<OffsetDateTime>
     requires { parts.second < 60 }
@@ -121,7 +124,7 @@ fn moment_from(parts: MomentNumbers) -> Option<OffsetDateTime>
     Some(OffsetDateTime::new_in_offset(date, time, offset))
 }
 
-// The moment of a whole text. `None`: not this form.
+// The moment of a whole text of RFC 3339. `None`: the fast path doesn't apply, as to a leap second or a rejected text.
 #[inline(always)]
 pub(super) fn moment(text: &[u8]) -> Option<OffsetDateTime>
     ensures { IfSome result (λ v. of_moment (direct (RefusesRfc3339 greatest_year)) (Reads greatest_year)

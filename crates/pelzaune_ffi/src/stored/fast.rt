@@ -23,7 +23,8 @@ use time_preparing::whole::fast::values;
 use time_record::Parsed;
 use time_values::{Date, OffsetDateTime, PlainDateTime, Time};
 
-/// The date of a whole text by these steps. `None`: the steps or the text have no known form.
+/// The date of a whole text by these steps. `None`: the fast path doesn't apply to the steps or the text, as to a date
+/// that doesn't exist.
 #[inline(always)]
 pub(super) fn date(steps: &[StoredStep], input: &[u8]) -> Option<Date>
     ensures { IfSome result (λ v. IsOutcome (IsDated greatest_year) (Reads greatest_year (steps_shape (map spec.step_of steps.now)))
@@ -33,7 +34,8 @@ pub(super) fn date(steps: &[StoredStep], input: &[u8]) -> Option<Date>
     values::date(&form, input)
 }
 
-/// The time of a whole text by these steps. `None`: the steps or the text have no known form.
+/// The time of a whole text by these steps. `None`: the fast path doesn't apply to the steps or the text, as to a
+/// second of 60.
 #[inline(always)]
 pub(super) fn time(steps: &[StoredStep], input: &[u8]) -> Option<Time>
     ensures { IfSome result (λ v. IsOutcome IsTimed (Reads greatest_year (steps_shape (map spec.step_of steps.now)))
@@ -43,7 +45,8 @@ pub(super) fn time(steps: &[StoredStep], input: &[u8]) -> Option<Time>
     values::time(&form, input)
 }
 
-/// The date and time of a whole text by these steps. `None`: the steps or the text have no known form.
+/// The date and time of a whole text by these steps. `None`: the fast path doesn't apply to the steps or the text, as
+/// to a date that doesn't exist or a second of 60.
 #[inline(always)]
 pub(super) fn date_time(steps: &[StoredStep], input: &[u8]) -> Option<PlainDateTime>
     ensures { IfSome result (λ v. IsOutcome (IsPlain greatest_year) (Reads greatest_year (steps_shape (map spec.step_of steps.now)))
@@ -53,7 +56,8 @@ pub(super) fn date_time(steps: &[StoredStep], input: &[u8]) -> Option<PlainDateT
     values::date_time(&form, input)
 }
 
-/// The moment of a whole text by these steps. `None`: the steps or the text have no known form.
+/// The moment of a whole text by these steps. `None`: the fast path doesn't apply to the steps or the text, as to a
+/// date that doesn't exist or a second of 60.
 #[inline(always)]
 pub(super) fn moment(steps: &[StoredStep], input: &[u8]) -> Option<OffsetDateTime>
     ensures { IfSome result (λ v. IsOutcome (IsMoment greatest_year) (Reads greatest_year (steps_shape (map spec.step_of steps.now)))
@@ -63,7 +67,7 @@ pub(super) fn moment(steps: &[StoredStep], input: &[u8]) -> Option<OffsetDateTim
     values::moment(&form, input)
 }
 
-// Whether the first of these steps continues a literal.
+// Whether the first of these steps is a further byte of a literal. `false` if there are no steps.
 #[inline(always)]
 fn continues_literal(steps: &[StoredStep]) -> bool
     ensures { result ≡ false → further (map spec.step_of steps.now) ≡ [] }
@@ -74,7 +78,8 @@ fn continues_literal(steps: &[StoredStep]) -> bool
     }
 }
 
-// Parses a literal of one byte. `None`: not this form.
+// Parses a literal of one byte, and returns the bytes after it. `None`: the steps `behind` continue the literal, or the
+// input doesn't start with the byte.
 #[inline(always)]
 fn only_byte<'a>(byte: u8, behind: &[StoredStep], input: &'a [u8]) -> Option<&'a [u8]>
     ensures read { (r : Record) → MayRead greatest_year (literal (byte ∷ further (map spec.step_of behind.now)))
@@ -90,7 +95,8 @@ fn only_byte<'a>(byte: u8, behind: &[StoredStep], input: &'a [u8]) -> Option<&'a
     }
 }
 
-// Stores the parsed number in the record, and returns the rest. `None`: it is rejected, and the record is unchanged.
+// Stores a parsed number in the record, and is the rest of the input in `Some`. If none was parsed or it is out of
+// range, the calling function returns `None`, and the record is unchanged.
 macro_rules! put {
     ($found:expr, $parsed:ident.$set:ident) => {{
         let found = $found?;
@@ -99,7 +105,8 @@ macro_rules! put {
     }};
 }
 
-// Parses one of the commonest components, without a call. `None`: not this form, and the record is unchanged.
+// Parses an hour of 24, a minute, a second, a month's number or a day into the record, without a call, and returns the
+// unread bytes. `None`: another component or a text that doesn't match, and the record is unchanged.
 #[inline(always)]
 fn read_common<'a>(component: Component, parsed: &mut Parsed, input: &'a [u8]) -> Option<&'a [u8]>
     ensures { MayRead greatest_year (tree.component false component) input.now parsed.old result parsed.new }
@@ -117,7 +124,8 @@ fn read_common<'a>(component: Component, parsed: &mut Parsed, input: &'a [u8]) -
     }
 }
 
-// Parses a component. `None`: it is rejected, and the record is unchanged.
+// Parses a component into the record, and returns the unread bytes. `None`: the input doesn't match, and the record is
+// unchanged.
 #[inline(always)]
 fn read_component<'a>(
     component: Component,
@@ -135,7 +143,8 @@ fn read_component<'a>(
     }
 }
 
-// Parses a step that is a literal of one byte or a component. `None`: not this form, and the record is unchanged.
+// Parses a step that is a literal of one byte or a component into the record, and returns the unread bytes. `behind`
+// are the steps after it. `None`: another step or a text that doesn't match, and the record is unchanged.
 #[inline(always)]
 pub(super) fn read_step<'a>(
     stored: &StoredStep,

@@ -4,7 +4,8 @@ ghost use Rattle.time_values.specs.Refusal.{refusal_of, refusal_text};
 
 use time_values::error::{Parse, ParseFromDescription, TryFromParsed};
 
-/// The name of the component that couldn't be parsed, if that is the error.
+/// The name in an `InvalidComponent`, the error of a component that couldn't be parsed, as `month`. `None` for any
+/// other error.
 #[inline(always)]
 pub(super) fn missing_component(error: Parse) -> Option<&'static str>
     ensures { IfSome result (λ name. refusal_text (refusal_of error) ≡ codes "the '" ++ name.now ++ codes "' component could not be parsed") }
@@ -15,7 +16,8 @@ pub(super) fn missing_component(error: Parse) -> Option<&'static str>
     }
 }
 
-/// The line of the error, if the text has too few components for the value.
+/// `error: ` and the error's text, without LF, if the error is `InsufficientInformation`: the parsed text has too few
+/// components for the value. `None` for any other error.
 #[inline(always)]
 pub(super) fn insufficient_information(error: Parse) -> Option<&'static str>
     ensures { IfSome result (λ line. codes "error: " ++ refusal_text (refusal_of error) ≡ line.now) }

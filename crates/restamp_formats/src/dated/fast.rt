@@ -12,7 +12,7 @@ use time_record::Parsed;
 use time_values::{OffsetDateTime, PlainDateTime, UtcOffset};
 use time_zones::assume_zone;
 
-// Whether the record has the hour of an offset, a timestamp or a leap second.
+// Whether the record has the hour of an offset, a count from 1970 or a second of 60.
 #[inline(always)]
 fn is_placed(parsed: &Parsed) -> bool
     ensures { result ≡ false → (parsed.now.offset_hour ≡ None) × (parsed.now.unix_timestamp_nanos ≡ None)
@@ -23,7 +23,8 @@ fn is_placed(parsed: &Parsed) -> bool
         || parsed.second() == Some(60)
 }
 
-// Parses a text by ISO 8601 into a record. Not inlined, so that it needs no stack beside descriptions.
+// Parses a prefix of the text by ISO 8601 into the record, and returns the rest; `None` if it doesn't match. Not
+// inlined, so that it needs no stack beside descriptions.
 #[inline(never)]
 fn parse_8601<'a>(text: &'a [u8], parsed: &mut Parsed) -> Option<&'a [u8]>
     ensures { IfSome result (λ rest. iso8601.Reads greatest_year text.now parsed.old rest.now parsed.new) }
@@ -31,7 +32,8 @@ fn parse_8601<'a>(text: &'a [u8], parsed: &mut Parsed) -> Option<&'a [u8]>
     Iso8601.parse_into(text, parsed).ok()
 }
 
-// Parses a text by a description or by ISO 8601 into a record.
+// Parses a prefix of the text by `Described` or `Iso8601` into the record, and returns the rest; `None` if it doesn't
+// match, or for another format.
 #[inline(always)]
 fn parse<'a>(reading: &Reading, text: &'a [u8], parsed: &mut Parsed) -> Option<&'a [u8]>
     ensures { IfSome result (λ rest. ReadsRecord reading.now text.now parsed.old rest.now parsed.new) }
@@ -43,8 +45,8 @@ fn parse<'a>(reading: &Reading, text: &'a [u8], parsed: &mut Parsed) -> Option<&
     }
 }
 
-// The only offset that the zone has at the local date and time of a moment, if there is just one. A reason in the
-// result would cost a line a third of what the offset does.
+// The only offset that the zone has at the local date and time of a moment; `None` if that is nonexistent, ambiguous or
+// out of the zone's range. A reason in the result would cost a line a third of what the offset does.
 #[inline(always)]
 fn only_offset(clocks: &Clocks<'_>, shown: OffsetDateTime) -> Option<UtcOffset>
     ensures { IfSome result (λ offset. IsOffsetWhen clocks.now shown (Ok offset)) }
@@ -55,7 +57,8 @@ fn only_offset(clocks: &Clocks<'_>, shown: OffsetDateTime) -> Option<UtcOffset>
     }
 }
 
-// Parses a text as a local time in that zone. Not inlined, so that lines that need no zone need no stack for it.
+// Parses a text as a local time in that zone; `None` means unknown. Not inlined, so that lines that need no zone need
+// no stack for it.
 #[inline(never)]
 fn read_on(
     clocks: Clocks<'_>,
@@ -85,8 +88,9 @@ fn read_on(
     Some(match_before(rest, text, clock.assume_offset(offset)))
 }
 
-/// Parses a text without an offset as a local time in the zone of the defaults; `None` if it has an offset or a leap
-/// second. It parses the text once, instead of three times: as it is, in UTC and at the zone's offset.
+/// Parses a text without an offset as a local time in the zone of the defaults. `None` means unknown, not rejected: as
+/// for a text with an offset or a leap second, or defaults with an offset or without a zone. It parses the text once,
+/// instead of three times: as it is, in UTC and at the zone's offset.
 #[inline(always)]
 pub(super) fn read_once(
     reading: &Reading,

@@ -6,10 +6,10 @@ ghost use Rattle.restamp_formats.specs.Reading as spec;
 use crate::reading::Match;
 use time_parsing::{Parsable, Rfc3339Strict};
 
-// How many bytes a moment has before its fraction.
+// How many bytes come before the fraction in RFC 3339: those of `YYYY-MM-DDTHH:MM:SS`.
 const SECOND: usize = 19;
 
-// The end of the run of digits that starts at `from`.
+// The index after the run of ASCII digits that starts at `from`: `from` itself if there is no digit.
 #[inline(always)]
 fn digits_end(text: &[u8], from: usize) -> usize
     requires { from ≤ length text.now }
@@ -23,7 +23,8 @@ fn digits_end(text: &[u8], from: usize) -> usize
     text.len()
 }
 
-// The end of the moment that the bytes may start with.
+// The index after an offset that follows the first 19 bytes, or a point and digits after them; `None` if neither `Z`
+// nor `z` is there, nor a sign with a colon three bytes after it and two more bytes. No other byte is checked.
 #[inline(always)]
 fn moment_end(text: &[u8]) -> Option<usize>
     ensures { IfSome result (λ end. end ≤ length text.now) }
@@ -44,7 +45,7 @@ fn moment_end(text: &[u8]) -> Option<usize>
     }
 }
 
-/// Parses a prefix of the bytes.
+/// Parses a prefix of the text by RFC 3339. `None` means unknown, not rejected: the text must be parsed over a record.
 #[tactic(auto, using(crate::proofs::FrontLemmas::front_said))]
 #[inline(always)]
 pub(super) fn front_3339(text: &[u8]) -> Option<Match>

@@ -10,9 +10,10 @@ use super::firsts::{Firsts, is_digit, is_gap, is_in, is_weekday, is_weekday_seco
 use crate::job::Job;
 use restamp_formats::Reading;
 
-// How many places are tested at once.
+// How many bytes of a line are tested at once.
 const BLOCK: usize = 16;
 
+// Whether the byte is an ASCII letter or digit.
 #[inline(always)]
 fn is_alphanumeric(byte: u8) -> bool
     ensures { result ≡ is_ascii_alphanumeric byte }
@@ -20,7 +21,7 @@ fn is_alphanumeric(byte: u8) -> bool
     is_digit(byte) | ((b'A' <= byte) & (byte <= b'Z')) | ((b'a' <= byte) & (byte <= b'z'))
 }
 
-// Whether a text may start at the place, which isn't the first.
+// Whether a text may start at index `place`, not 0: its byte is in `firsts`, and doesn't continue a word or a number.
 #[inline(always)]
 fn may_begin(firsts: Firsts, line: &[u8], place: usize) -> bool
     requires some { 0 < place }
@@ -30,7 +31,7 @@ fn may_begin(firsts: Firsts, line: &[u8], place: usize) -> bool
     !(is_alphanumeric(line[place - 1]) & is_alphanumeric(line[place])) & is_in(firsts, line[place])
 }
 
-// How many of sixteen places come before the first at which a text may start; 16 if no text may start at any.
+// How many of the sixteen bytes from `from` on can be skipped, since no text may start at them.
 #[inline(always)]
 fn first_within(firsts: Firsts, line: &[u8], from: usize) -> u8
     requires some { 0 < from }
@@ -50,7 +51,7 @@ fn first_within(firsts: Firsts, line: &[u8], from: usize) -> u8
     first
 }
 
-// The first of these places at which a text may start, or their end.
+// An index from `from` to `to`, such that no text may start from `from` on before it.
 #[inline(always)]
 fn find_within(firsts: Firsts, line: &[u8], from: usize, to: usize) -> usize
     requires some { 0 < from }
@@ -68,7 +69,8 @@ fn find_within(firsts: Firsts, line: &[u8], from: usize, to: usize) -> usize
     to
 }
 
-/// The first place from `from` on at which a timestamp may start, or the end of the line; `None` if unknown.
+/// An index from `from` to the line's length, such that no timestamp may start from `from` on before it. `None` would
+/// mean unknown, but isn't returned.
 #[inline(always)]
 pub(super) fn next_start(firsts: Firsts, line: &[u8], from: usize) -> Option<usize>
     requires some { 0 < from }
@@ -87,7 +89,7 @@ pub(super) fn next_start(firsts: Firsts, line: &[u8], from: usize) -> Option<usi
     Some(find_within(firsts, line, at, line.len()))
 }
 
-// Whether the bytes start with four digits.
+// Whether the bytes start with four ASCII digits; `false` for fewer than four bytes.
 #[inline(always)]
 fn has_year(bytes: &[u8]) -> bool
     ensures { result ≡ begins.has_year bytes.now }
@@ -98,7 +100,7 @@ fn has_year(bytes: &[u8]) -> bool
     is_digit(bytes[0]) & is_digit(bytes[1]) & is_digit(bytes[2]) & is_digit(bytes[3])
 }
 
-// Whether a day or a weekday, a comment, or more white space may start with the bytes.
+// Whether a day or a weekday, a comment, or white space may start with the two bytes.
 #[inline(always)]
 fn begins_day(first: u8, second: u8) -> bool
     ensures { result ≡ begins.begins_day first second }
@@ -106,7 +108,8 @@ fn begins_day(first: u8, second: u8) -> bool
     is_digit(first) | is_gap(first) | (is_weekday(first) & is_weekday_second(second))
 }
 
-// Whether the bytes may start with a mail date, judged by the first three.
+// Whether the bytes may start with a mail date, judged by the first two, or by the two after a space; `true` for fewer
+// than three bytes.
 #[inline(always)]
 fn may_be_mail(bytes: &[u8]) -> bool
     ensures { result ≡ false → begins.may_be_mail bytes.now ≡ false }
@@ -137,7 +140,8 @@ fn may_be_of(reading: &Reading, bytes: &[u8]) -> bool
     }
 }
 
-/// Returns `Some` if no prefix of the line from `start` on parses by that format; `None` if unknown.
+/// Returns `Some` if the first bytes from `start` on show that no prefix of the rest of the line parses by that format;
+/// `None` if unknown.
 #[inline(always)]
 pub(super) fn matches_nothing(
     job: &Job<'_>,

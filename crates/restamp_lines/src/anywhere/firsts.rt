@@ -6,42 +6,46 @@ ghost use Rattle.restamp_lines.specs.Begins as begins;
 use restamp_formats::Reading;
 use time_components::{Component, Padding, Step};
 
-// The bytes that texts may start with, besides digits.
+// A set of bytes that texts may start with: the ASCII digits, and those of the fields that are `true`.
 #[derive(Clone, Copy)]
 pub(super) struct Firsts {
     // `+` and `-`.
     signs: bool,
-    // The first bytes of mail dates.
+    // The first bytes of mail dates: white space, `(` and the first letters of weekdays.
     mail: bool,
-    // Any other byte.
+    // All bytes.
     others: bool,
 }
 
+// The ASCII digits.
 const DIGITS: Firsts = Firsts {
     signs: false,
     mail: false,
     others: false,
 };
 
+// The ASCII digits, `+` and `-`.
 const NUMBERS: Firsts = Firsts {
     signs: true,
     mail: false,
     others: false,
 };
 
+// The first bytes of mail dates: ASCII digits, white space, `(` and the first letters of weekdays.
 const MAIL: Firsts = Firsts {
     signs: false,
     mail: true,
     others: false,
 };
 
+// All bytes.
 const ALL: Firsts = Firsts {
     signs: true,
     mail: false,
     others: true,
 };
 
-// These bytes, or any byte if spaces pad the text.
+// `firsts`, or all bytes if spaces pad the text.
 #[inline(always)]
 fn padded(padding: Padding, firsts: Firsts) -> Firsts
     ensures { result ≡ begins.padded padding firsts }
@@ -52,7 +56,7 @@ fn padded(padding: Padding, firsts: Firsts) -> Firsts
     }
 }
 
-// The bytes that a component's text may start with.
+// The bytes that a component's text may start with; all bytes for a component without a rule of its own.
 #[inline(always)]
 fn component_firsts(component: Component) -> Firsts
     ensures { result ≡ begins.component_firsts component }
@@ -69,7 +73,7 @@ fn component_firsts(component: Component) -> Firsts
     }
 }
 
-// The bytes that a description's text may start with, by its first step.
+// The bytes that a description's text may start with, by its first step; all bytes unless that is a component.
 #[inline(always)]
 pub(super) fn steps_firsts(steps: &[Step]) -> Firsts
     ensures { result ≡ begins.steps_firsts steps.now }
@@ -113,6 +117,7 @@ pub(super) fn all_firsts(first: &Reading, others: &[Reading]) -> Firsts
     firsts
 }
 
+// Whether the byte is an ASCII digit.
 #[inline(always)]
 pub(super) fn is_digit(byte: u8) -> bool
     ensures { result ≡ is_ascii_digit byte }
@@ -120,7 +125,7 @@ pub(super) fn is_digit(byte: u8) -> bool
     (b'0' <= byte) & (byte <= b'9')
 }
 
-// Whether white space or a comment may start with the byte.
+// Whether white space or a comment of a mail date may start with the byte: a space, a tab, CR or `(`.
 #[inline(always)]
 pub(super) fn is_gap(byte: u8) -> bool
     ensures { result ≡ begins.is_gap byte }
@@ -128,7 +133,7 @@ pub(super) fn is_gap(byte: u8) -> bool
     (byte == b' ') | (byte == b'\t') | (byte == b'\r') | (byte == b'(')
 }
 
-// Whether the byte is that lower case letter in either case.
+// Whether the byte is the ASCII letter, which is given in lower case, in either case.
 #[inline(always)]
 fn is_letter(byte: u8, letter: u8) -> bool
     requires { 97 ≤ letter }
@@ -137,7 +142,7 @@ fn is_letter(byte: u8, letter: u8) -> bool
     (byte == letter) | (byte == letter - 32)
 }
 
-// Whether the name of a weekday may start with the byte.
+// Whether the English name of a weekday may start with the byte, in either case.
 #[inline(always)]
 pub(super) fn is_weekday(byte: u8) -> bool
     ensures { result ≡ begins.is_weekday byte }
@@ -149,7 +154,7 @@ pub(super) fn is_weekday(byte: u8) -> bool
         | is_letter(byte, b's')
 }
 
-// Whether the byte may be the second of a weekday's name.
+// Whether the byte may be the second letter of a weekday's English name, in either case.
 #[inline(always)]
 pub(super) fn is_weekday_second(byte: u8) -> bool
     ensures { result ≡ begins.is_weekday_second byte }
@@ -162,7 +167,7 @@ pub(super) fn is_weekday_second(byte: u8) -> bool
         | is_letter(byte, b'a')
 }
 
-// Whether a text may start with the byte.
+// Whether the byte is in the set `firsts`.
 #[inline(always)]
 pub(super) fn is_in(firsts: Firsts, byte: u8) -> bool
     ensures { result ≡ begins.is_in firsts byte }

@@ -4,8 +4,9 @@ ghost use Rattle.restamp_formats.specs.Reading.{ParsesAs};
 
 use restamp_formats::{Brief, Defaults, Match, Reading};
 
-/// Parses a text by a format. `None`: the format rejects the text, or the defaults have more to try. A reason beside a
-/// match would cost a line a tenth of its instructions.
+/// Parses a text by the format: a prefix of it if `is_prefix` is true, otherwise the whole text. `None` if the format
+/// rejects the text, or if the defaults have a zone for local times or a latest moment, even if the format would match.
+/// A reason beside a match would cost a line a tenth of its instructions.
 #[inline(always)]
 pub(super) fn parse(
     reading: &Reading,

@@ -4,7 +4,7 @@ ghost use Rattle.restamp_place.specs.Words.{IsPassed, word_ends};
 
 use crate::texts::is_blank;
 
-/// How far a line is skipped.
+/// How far a line is skipped: the word that is searched for has index `left`, from 0, in the bytes from `start` on.
 #[derive(Clone, Copy)]
 pub(crate) struct Passed {
     /// How many bytes are skipped.
@@ -13,7 +13,7 @@ pub(crate) struct Passed {
     pub(crate) left: usize,
 }
 
-// How many words end within a block of bytes that isn't the line's last.
+// How many words end with one of the `block` bytes from `start`, each before a space or TAB. The line has more bytes.
 #[inline(always)]
 fn ends_within(line: &[u8], start: usize, block: usize) -> u8
     requires few { block ≤ 16 }
@@ -28,7 +28,7 @@ fn ends_within(line: &[u8], start: usize, block: usize) -> u8
     ends
 }
 
-// Skips blocks of bytes, as long as fewer words end in them than have to be skipped.
+// Skips `block` bytes at a time, while fewer than `left` words end in the next ones and more bytes follow these.
 #[inline(always)]
 #[tactic(auto, using(crate::proofs::WordLemmas::word_steps))]
 fn pass_blocks(passed: Passed, line: &[u8], block: usize) -> Passed
@@ -50,7 +50,7 @@ fn pass_blocks(passed: Passed, line: &[u8], block: usize) -> Passed
     next
 }
 
-// Skips single bytes, up to the end of the last word that has to be skipped.
+// Skips single bytes, up to the end of the last word that has to be skipped, but never the last byte of the line.
 #[inline(always)]
 #[tactic(auto, using(crate::proofs::WordLemmas::word_steps))]
 fn pass_bytes(passed: Passed, line: &[u8]) -> Passed
@@ -66,7 +66,7 @@ fn pass_bytes(passed: Passed, line: &[u8]) -> Passed
     next
 }
 
-/// Skips a part of the line before the word after n others. `None` is always allowed.
+/// Skips bytes that come before the word with index n, from 0. It always returns `Some`; the contract leaves that open.
 #[inline(always)]
 pub(super) fn pass_words(n: usize, line: &[u8]) -> Option<Passed>
     ensures { IfSome result (λ p. IsPassed n line.now p × (p.start ≤ length line.now)) }

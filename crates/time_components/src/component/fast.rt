@@ -1,7 +1,7 @@
 //! Fast paths for the commonest texts of components, parsed without function calls.
 //!
-//! Each parser returns what the component's plain parser returns, with any padding, or `None` if the text has another
-//! form. After `None`, call the plain parser.
+//! Each parser returns what the component's plain parser returns, with any padding, or `None` for other texts. After
+//! `None`, call the plain parser.
 ghost use Rattle.std.specs.Prelude.{◌≡◌, IfSome, take, true};
 ghost use Rattle.std.specs.Int.NonZero.{non_zero_u16_get};
 ghost use Rattle.time_digits.specs.Digits.{Cut};
@@ -15,7 +15,8 @@ use crate::{Padding, ParsedItem, Period, SubsecondDigits, modifier};
 use std::num::NonZero;
 use time_values::{Month, Weekday};
 
-/// Parses a year of four digits without a sign. Returns `None` for another form.
+/// Parses a year of four ASCII digits without a sign, 0 to 9999. Neither `MOST`, the greatest number of digits after a
+/// sign, nor the padding changes the result. Returns `None` for another text, or if a sign is mandatory.
 #[inline(always)]
 pub fn year<const MOST: u8>(
     input: &[u8],
@@ -32,7 +33,7 @@ pub fn year<const MOST: u8>(
     Some(ParsedItem(year.0, year.1 as i32))
 }
 
-/// Parses a day of the year of three digits. Returns `None` for another form.
+/// Parses a day of the year of three ASCII digits, 1 to 999, whatever the padding. Returns `None` for another text.
 #[inline(always)]
 pub fn ordinal(input: &[u8], padding: Padding) -> Option<ParsedItem<'_, NonZero<u16>>>
     ensures { IfSome result (λ found. Cut (HasMappedValue number (IsPositiveRun padding 3))
@@ -42,8 +43,8 @@ pub fn ordinal(input: &[u8], padding: Padding) -> Option<ParsedItem<'_, NonZero<
     Some(ParsedItem(ordinal.0, NonZero::<u16>::new(ordinal.1 as u16)?))
 }
 
-/// Parses a sign and two digits of an offset's hour. The bool is whether the sign is a minus. Returns `None` for
-/// another form.
+/// Parses a sign and two ASCII digits of an offset's hours, -99 to 99, negative after `-`. The bool is whether the sign
+/// is `-`. The padding and `sign_is_mandatory` don't change the result. Returns `None` for another text.
 #[inline(always)]
 pub fn offset_hour(
     input: &[u8],
@@ -58,7 +59,8 @@ pub fn offset_hour(
     Some(ParsedItem(hour.0, signed_hour(sign.1, hour.1)))
 }
 
-/// Parses a fraction of up to nine digits, if any number of digits is allowed. Returns `None` for another form.
+/// Parses one to nine ASCII digits of a fraction of a second, as nanoseconds, if `digits` is `OneOrMore`. Returns
+/// `None` for other `digits`, without a digit, or if a tenth digit follows.
 #[inline(always)]
 pub fn subsecond(input: &[u8], digits: SubsecondDigits) -> Option<ParsedItem<'_, u32>>
     ensures { IfSome result (λ found. Cut (HasMappedValue number (IsFractionRun (least_digits digits) (most_digits digits)))
@@ -70,7 +72,8 @@ pub fn subsecond(input: &[u8], digits: SubsecondDigits) -> Option<ParsedItem<'_,
     }
 }
 
-// Parses a fraction of one to nine digits, in nanoseconds.
+// Parses one to nine digits of a fraction of a second, as nanoseconds. Returns `None` without a digit, or if a tenth
+// digit follows.
 #[inline(always)]
 fn short_fraction(input: &[u8]) -> Option<ParsedItem<'_, u32>>
     ensures { IfSome result (λ found. Cut (HasMappedValue number (IsFractionRun 1 32))
@@ -94,7 +97,8 @@ fn short_fraction(input: &[u8]) -> Option<ParsedItem<'_, u32>>
     Some(ParsedItem(rest, nanoseconds))
 }
 
-// Parses the first three letters of a month's name, a capital and two small ones. Returns `None` for another form.
+// Parses the first three letters of a month's English name, in exactly this case (`Jan`), whether or not the case
+// matters. Returns `None` for another text.
 #[inline(always)]
 pub(super) fn month_short(input: &[u8], case_sensitive: bool) -> Option<ParsedItem<'_, Month>>
     ensures { IfSome result (λ found. Cut (HasMappedValue month (IsShortOf case_sensitive Names.month_name))
@@ -107,7 +111,8 @@ pub(super) fn month_short(input: &[u8], case_sensitive: bool) -> Option<ParsedIt
     Some(ParsedItem(rest, month))
 }
 
-// Parses the first three letters of a weekday's name, a capital and two small ones. Returns `None` for another form.
+// Parses the first three letters of a weekday's English name, in exactly this case (`Mon`), whether or not the case
+// matters. Returns `None` for another text.
 #[inline(always)]
 pub(super) fn weekday_short(input: &[u8], case_sensitive: bool) -> Option<ParsedItem<'_, Weekday>>
     ensures { IfSome result (λ found. Cut (HasMappedValue weekday (IsShortOf case_sensitive Names.weekday_name))
@@ -120,7 +125,7 @@ pub(super) fn weekday_short(input: &[u8], case_sensitive: bool) -> Option<Parsed
     Some(ParsedItem(rest, weekday))
 }
 
-/// The month whose name begins with these letters, in exactly this case. Returns `None` for other letters.
+/// The month whose English name begins with these letters, in exactly this case (`Jan`). Returns `None` for others.
 #[inline(always)]
 pub fn month_name(letters: [u8; 3]) -> Option<Month>
     ensures { IfSome result (λ v. letters ≡ take 3 (Names.month_name v)) }
@@ -142,7 +147,7 @@ pub fn month_name(letters: [u8; 3]) -> Option<Month>
     }
 }
 
-/// The weekday whose name begins with these letters, in exactly this case. Returns `None` for other letters.
+/// The weekday whose English name begins with these letters, in exactly this case (`Mon`). Returns `None` for others.
 #[inline(always)]
 pub fn weekday_name(letters: [u8; 3]) -> Option<Weekday>
     ensures { IfSome result (λ v. letters ≡ take 3 (Names.weekday_name v)) }
@@ -159,7 +164,8 @@ pub fn weekday_name(letters: [u8; 3]) -> Option<Weekday>
     }
 }
 
-// Parses `AM` or `PM`, if the modifiers accept capitals. Returns `None` for another form.
+// Parses `AM` or `PM`, if the modifiers accept capitals: with `is_uppercase`, or if the case doesn't matter. Returns
+// `None` for another text.
 #[inline(always)]
 pub(super) fn period(input: &[u8], modifiers: modifier::Period) -> Option<ParsedItem<'_, Period>>
     ensures { IfSome result (λ found. Cut (HasMappedValue Spelling.period (IsNameOf modifiers.case_sensitive (period_name modifiers.is_uppercase)))
@@ -171,7 +177,7 @@ pub(super) fn period(input: &[u8], modifiers: modifier::Period) -> Option<Parsed
     }
 }
 
-// Parses `AM` or `PM`.
+// Parses `AM` or `PM`. Returns `None` for another text.
 #[inline(always)]
 fn capitals(input: &[u8]) -> Option<ParsedItem<'_, Period>>
     ensures { IfSome result (λ found. Cut (λ text rest v. text ≡ period_name true v) input.now found.0.now found.1) }

@@ -10,7 +10,7 @@ ghost use Rattle.time_components.specs.Spelling as Spelling;
 use crate::{ParsedItem, Period, modifier};
 use time_values::{Month, Weekday, names};
 
-// Parses the first three letters of a month's name.
+// Parses the first three letters of a month's English name: `Jan`, or any ASCII case of it unless the case matters.
 #[inline(always)]
 pub(super) fn month_short(input: &[u8], case_sensitive: bool) -> Option<ParsedItem<'_, Month>>
     ensures { Finds (HasMappedValue month (IsShortOf case_sensitive month_name)) month input.now result }
@@ -20,7 +20,7 @@ pub(super) fn month_short(input: &[u8], case_sensitive: bool) -> Option<ParsedIt
     Some(ParsedItem(letters.0, month))
 }
 
-// Parses the first three letters of a weekday's name.
+// Parses the first three letters of a weekday's English name: `Mon`, or any ASCII case of it unless the case matters.
 #[inline(always)]
 pub(super) fn weekday_short(input: &[u8], case_sensitive: bool) -> Option<ParsedItem<'_, Weekday>>
     ensures { Finds (HasMappedValue weekday (IsShortOf case_sensitive weekday_name)) weekday input.now result }
@@ -30,8 +30,8 @@ pub(super) fn weekday_short(input: &[u8], case_sensitive: bool) -> Option<Parsed
     Some(ParsedItem(letters.0, weekday))
 }
 
-// Parses three bytes, and returns them in lower case. If the case matters, they must be a capital and two small
-// letters.
+// Parses any three bytes, and returns them in ASCII lower case. If the case matters, they must be a capital and two
+// small ASCII letters; otherwise they need be no letters.
 #[inline(always)]
 fn three_letters(input: &[u8], case_sensitive: bool) -> Option<ParsedItem<'_, [u8; 3]>>
     ensures { Finds (IsTitleCase case_sensitive) (λ v. v) input.now result }
@@ -50,7 +50,7 @@ fn three_letters(input: &[u8], case_sensitive: bool) -> Option<ParsedItem<'_, [u
     Some(ParsedItem(rest, small))
 }
 
-// Whether the letters are a capital and two small ones.
+// Whether the bytes are an ASCII capital and two small ASCII letters.
 #[inline]
 fn is_title_case(letters: [u8; 3]) -> bool
     ensures { result ≡ ShortNames.is_title_case letters }
@@ -59,7 +59,7 @@ fn is_title_case(letters: [u8; 3]) -> bool
     first.is_ascii_uppercase() && second.is_ascii_lowercase() && third.is_ascii_lowercase()
 }
 
-// The month whose name begins with these small letters.
+// The month whose name begins with these letters, which are given in lower case. Returns `None` for other letters.
 #[inline(always)]
 fn month_of(letters: [u8; 3]) -> Option<Month>
     ensures { IsWithLetters month_name letters result }
@@ -81,7 +81,7 @@ fn month_of(letters: [u8; 3]) -> Option<Month>
     }
 }
 
-// The weekday whose name begins with these small letters.
+// The weekday whose name begins with these letters, which are given in lower case. Returns `None` for other letters.
 #[inline(always)]
 fn weekday_of(letters: [u8; 3]) -> Option<Weekday>
     ensures { IsWithLetters weekday_name letters result }
@@ -98,21 +98,21 @@ fn weekday_of(letters: [u8; 3]) -> Option<Weekday>
     }
 }
 
-// The month's name after its first three letters.
+// The month's English name after its first three letters: empty for May.
 pub(super) fn month_ending(month: Month) -> &'static [u8]
     ensures { result.now ≡ drop 3 (month_name month) }
 {
     &names::month_name(month).as_bytes()[3..]
 }
 
-// The weekday's name after its first three letters.
+// The weekday's English name after its first three letters.
 pub(super) fn weekday_ending(weekday: Weekday) -> &'static [u8]
     ensures { result.now ≡ drop 3 (weekday_name weekday) }
 {
     &names::weekday_name(weekday).as_bytes()[3..]
 }
 
-// Parses the rest of a name.
+// Parses the bytes of `ending`, in any ASCII case unless the case matters. Returns `None` for other bytes.
 pub(super) fn ending_of<'a>(
     input: &'a [u8],
     ending: &[u8],
@@ -128,7 +128,7 @@ pub(super) fn ending_of<'a>(
     }
 }
 
-// Whether the text is the name.
+// Whether the text is the whole name, in any ASCII case unless the case matters.
 fn is_named(text: &[u8], name: &[u8], case_sensitive: bool) -> bool
     ensures { IsTrue result ↔ IsNamed case_sensitive name.now text.now }
 {
@@ -155,6 +155,7 @@ pub(super) fn weekday_digit(input: &[u8], one_indexed: bool) -> Option<ParsedIte
     }
 }
 
+// The byte of the digit for the first day: `1` if days are one-indexed, and otherwise `0`.
 #[inline]
 fn first_digit(one_indexed: bool) -> u8
     ensures value { result ≡ Spelling.first_digit one_indexed }
@@ -163,7 +164,7 @@ fn first_digit(one_indexed: bool) -> u8
     if one_indexed { b'1' } else { b'0' }
 }
 
-// Parses two bytes, and returns them unchanged if the case matters, otherwise in lower case.
+// Parses any two bytes, and returns them unchanged if the case matters, otherwise in ASCII lower case.
 #[inline]
 fn two_letters(input: &[u8], case_sensitive: bool) -> Option<ParsedItem<'_, [u8; 2]>>
     ensures { Finds (IsLetters case_sensitive) (λ v. v) input.now result }
@@ -174,7 +175,7 @@ fn two_letters(input: &[u8], case_sensitive: bool) -> Option<ParsedItem<'_, [u8;
     Some(ParsedItem(rest, folded([*first, *second], case_sensitive)))
 }
 
-// The letters, unchanged if the case matters, otherwise in lower case.
+// The letters, unchanged if the case matters, otherwise in ASCII lower case.
 #[inline]
 fn folded(letters: [u8; 2], case_sensitive: bool) -> [u8; 2]
     ensures { result ≡ ShortNames.folded case_sensitive letters }
@@ -187,7 +188,8 @@ fn folded(letters: [u8; 2], case_sensitive: bool) -> [u8; 2]
     }
 }
 
-// Parses the half of the day.
+// Parses the half of the day. If the case matters, the text is `AM` or `PM` with `is_uppercase`, and `am` or `pm`
+// without; otherwise it is `AM` or `PM` in any ASCII case.
 #[inline(always)]
 pub(super) fn period(input: &[u8], modifiers: modifier::Period) -> Option<ParsedItem<'_, Period>>
     ensures { Finds (HasMappedValue Spelling.period (IsNameOf modifiers.case_sensitive (period_name modifiers.is_uppercase)))
@@ -202,7 +204,7 @@ pub(super) fn period(input: &[u8], modifiers: modifier::Period) -> Option<Parsed
     Some(ParsedItem(letters.0, period_of(letters.1, upper)?))
 }
 
-// The half of the day that the letters name, in capitals or in small letters.
+// The half of the day of the letters `AM` or `PM` if `upper`, otherwise of `am` or `pm`. `None` for other letters.
 #[inline]
 fn period_of(letters: [u8; 2], upper: bool) -> Option<Period>
     ensures { MatchOption result

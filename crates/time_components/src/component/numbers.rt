@@ -12,7 +12,8 @@ use crate::combinator::{
 use crate::{Integer, Padding, ParsedItem, Sign};
 use std::num::NonZero;
 
-// Parses `N` to `M` digits with the given padding. The type must hold every number of `M` digits.
+// Parses `N` to `M` digits with the given padding, as their decimal value; `Padding::None` allows 1 to `M` digits.
+// The type must hold every number of `M` digits. Returns `None` if the input doesn't begin with such a number.
 #[inline(always)]
 fn run<const N: u8, const M: u8, T: Integer>(
     input: &[u8],
@@ -27,7 +28,8 @@ fn run<const N: u8, const M: u8, T: Integer>(
     n_to_m_digits_padded::<N, M, T>(input, padding)
 }
 
-// Parses a number in two places: two digits, whatever the padding; otherwise one digit, alone or after a space.
+// Parses a number, 0 to 99: two digits, whatever the padding; otherwise one digit with `Padding::None`, or a space and
+// a digit with `Padding::Space`. Returns `None` for another text.
 #[inline(always)]
 pub(super) fn two_digits(input: &[u8], padding: Padding) -> Option<ParsedItem<'_, u8>>
     ensures { Finds (IsPaddedRun padding 2 2) (λ v. v) input.now result }
@@ -42,7 +44,7 @@ pub(super) fn two_digits(input: &[u8], padding: Padding) -> Option<ParsedItem<'_
     }
 }
 
-// Parses a space and a digit. The input doesn't begin with two digits.
+// Parses a space and a digit, as that digit, 0 to 9. The input doesn't begin with two digits, as the contract requires.
 #[inline(always)]
 #[tactic(auto, using(time_digits::proofs::Runs::no_spaced_digit))]
 fn spaced_digit(input: &[u8]) -> Option<ParsedItem<'_, u8>>
@@ -59,7 +61,7 @@ fn spaced_digit(input: &[u8]) -> Option<ParsedItem<'_, u8>>
     }
 }
 
-// Parses a number in two places.
+// Parses a number in two places, as `two_digits` does, with a contract in terms of a component's value.
 #[inline(always)]
 pub(super) fn two_places(input: &[u8], padding: Padding) -> Option<ParsedItem<'_, u8>>
     ensures { Finds (HasMappedValue number (IsPaddedRun padding 2 2)) number input.now result }
@@ -67,7 +69,7 @@ pub(super) fn two_places(input: &[u8], padding: Padding) -> Option<ParsedItem<'_
     two_digits(input, padding)
 }
 
-// Parses a day of the year in three places, 1 to 999.
+// Parses a day of the year in three places with the padding, 1 to 999. Returns `None` for 0 or another text.
 #[inline]
 pub(super) fn ordinal(input: &[u8], padding: Padding) -> Option<ParsedItem<'_, NonZero<u16>>>
     ensures { Finds (HasMappedValue number (IsPositiveRun padding 3)) (λ n. number n.value) input.now result }
@@ -77,7 +79,7 @@ pub(super) fn ordinal(input: &[u8], padding: Padding) -> Option<ParsedItem<'_, N
 }
 
 // Parses a sign and `N` to `M` digits with the first padding, or, if the sign is missing and isn't mandatory, `A` to
-// `B` digits with the second padding.
+// `B` digits with the second padding. Returns the sign, positive if it is missing, and the number without it.
 #[inline]
 fn sign_and_run<const N: u8, const M: u8, const A: u8, const B: u8, T: Integer>(
     input: &[u8],
@@ -109,7 +111,7 @@ fn sign_and_run<const N: u8, const M: u8, const A: u8, const B: u8, T: Integer>(
     }
 }
 
-// Parses a year: four digits, or a sign and four to `MOST` digits.
+// Parses a year: four digits, or a sign and four to `MOST` digits, both with the padding. It is negative after `-`.
 #[cold]
 #[inline(never)]
 pub(super) fn full_year<const MOST: u8>(
@@ -125,8 +127,8 @@ pub(super) fn full_year<const MOST: u8>(
     Some(ParsedItem(found.0, signed_year(found.1.0, found.1.1)))
 }
 
-// Parses a century: one or two digits, or a sign and two to `MOST` digits with the given padding. The bool is whether
-// the sign is a minus.
+// Parses a century: one or two digits, whatever the padding, or a sign and two to `MOST` digits with the padding. It is
+// negative after `-`. The bool is whether the sign is `-`, also for the number 0.
 #[inline]
 pub(super) fn century<const MOST: u8>(
     input: &[u8],
@@ -146,8 +148,8 @@ pub(super) fn century<const MOST: u8>(
     Some(ParsedItem(found.0, signed_century(found.1.0, found.1.1)))
 }
 
-// Parses a time since 1970-01-01T00:00:00Z in up to `MOST` digits, in units of the given number of nanoseconds, and
-// returns it in nanoseconds.
+// Parses a time since 1970-01-01T00:00:00Z in 1 to `MOST` digits, with or without a sign, in units of `unit`
+// nanoseconds, and returns it in nanoseconds, negative after `-`.
 #[inline]
 pub(super) fn timestamp<const MOST: u8>(
     input: &[u8],
@@ -168,7 +170,8 @@ pub(super) fn timestamp<const MOST: u8>(
     Some(ParsedItem(found.0, signed_nanoseconds(found.1.0, found.1.1 * unit)))
 }
 
-// Parses the hours of an offset. The bool is whether the sign is a minus.
+// Parses the hours of an offset: two digits with the padding, with or without a sign. They are negative after `-`. The
+// bool is whether the sign is `-`, also for 0 hours.
 #[cold]
 #[inline(never)]
 pub(super) fn offset_hour(
@@ -182,7 +185,7 @@ pub(super) fn offset_hour(
     Some(ParsedItem(found.0, signed_hour(found.1.0, found.1.1)))
 }
 
-// Parses the minutes or the seconds of an offset, which have no sign.
+// Parses the minutes or the seconds of an offset, 0 to 99, without a sign: two digits with the padding.
 #[inline]
 pub(super) fn offset_part(input: &[u8], padding: Padding) -> Option<ParsedItem<'_, i8>>
     ensures { Finds (HasMappedValue positive (IsPaddedRun padding 2 2)) signed input.now result }
@@ -191,6 +194,7 @@ pub(super) fn offset_part(input: &[u8], padding: Padding) -> Option<ParsedItem<'
     Some(ParsedItem(part.0, part.1 as i8))
 }
 
+// The year, below 1000000, with that sign.
 fn signed_year(sign: Sign, year: u32) -> i32
     requires { year < 10 ^ 6 }
     ensures { result ≡ signed_by (is_negative sign) (pos year) }
@@ -201,6 +205,7 @@ fn signed_year(sign: Sign, year: u32) -> i32
     }
 }
 
+// The century, below 10000, with that sign, and whether the sign is `-`.
 fn signed_century(sign: Sign, century: u16) -> (i16, bool)
     requires { century < 10 ^ 4 }
     ensures number { result.0 ≡ signed_by (is_negative sign) (pos century) }
@@ -212,6 +217,7 @@ fn signed_century(sign: Sign, century: u16) -> (i16, bool)
     }
 }
 
+// The hours, below 100, with that sign, and whether the sign is `-`.
 pub(super) fn signed_hour(sign: Sign, hour: u8) -> (i8, bool)
     requires { hour < 10 ^ 2 }
     ensures number { result.0 ≡ signed_by (is_negative sign) (pos hour) }
@@ -221,6 +227,7 @@ pub(super) fn signed_hour(sign: Sign, hour: u8) -> (i8, bool)
     (time_values::sign::signed(is_negative, hour), is_negative)
 }
 
+// The nanoseconds, at most 10 to the power of 23, with that sign.
 fn signed_nanoseconds(sign: Sign, nanoseconds: u128) -> i128
     requires { nanoseconds ≤ 10 ^ 23 }
     ensures { result ≡ signed_by (is_negative sign) (pos nanoseconds) }
@@ -231,7 +238,7 @@ fn signed_nanoseconds(sign: Sign, nanoseconds: u128) -> i128
     }
 }
 
-// Parses a fraction of exactly `N` digits, in nanoseconds.
+// Parses exactly `N` digits of a fraction of a second, 1 to 9 digits, as nanoseconds. A further digit begins the rest.
 #[inline]
 pub(super) fn fraction<const N: u8>(input: &[u8]) -> Option<ParsedItem<'_, u32>>
     requires least { 1 ≤ N }
@@ -242,7 +249,7 @@ pub(super) fn fraction<const N: u8>(input: &[u8]) -> Option<ParsedItem<'_, u32>>
     Some(ParsedItem(digits.0, digits.1 * power_of_ten(9 - usize::from(N))))
 }
 
-// Parses a fraction of 1 to 32 digits, in nanoseconds. The first nine digits count.
+// Parses 1 to 32 digits of a fraction of a second, as nanoseconds. Those after the ninth don't change the value.
 #[inline]
 pub(super) fn long_fraction(input: &[u8]) -> Option<ParsedItem<'_, u32>>
     ensures { Finds (HasMappedValue number (IsFractionRun 1 32)) number input.now result }

@@ -10,7 +10,8 @@ use crate::describing::writing::{DescriptionText, Full};
 use itoa::Buffer;
 use time_components::{Component, Padding, SubsecondDigits, TrailingInput};
 
-// The name, with the modifiers that select the form.
+// The component's name, and its modifiers `repr`, `range`, `base`, `precision` and `case` unless they have their
+// defaults. For an `ignore`, the key of its count follows.
 fn name_part(component: Component) -> &'static str
     ensures { result.now ≡ parts.name_part component }
 {
@@ -67,7 +68,7 @@ macro_rules! of_names {
     };
 }
 
-// The padding of the number. For a component without a number it is one that isn't written.
+// The component's padding. For a component without one it is `Zero`, which isn't written.
 fn padding_of(component: Component) -> Padding
     ensures { writing.padding_text result ≡ parts.padding_part component }
 {
@@ -83,6 +84,7 @@ fn padding_of(component: Component) -> Padding
     )
 }
 
+// A space and the padding's modifier, or nothing for the default, `Zero`.
 fn padding_text(padding: Padding) -> &'static str
     ensures { result.now ≡ writing.padding_text padding }
 {
@@ -93,6 +95,7 @@ fn padding_text(padding: Padding) -> &'static str
     }
 }
 
+// A space and the modifier of a mandatory sign, or nothing for the default, an automatic sign.
 fn sign_text(sign_is_mandatory: bool) -> &'static str
     ensures { result.now ≡ writing.sign_text sign_is_mandatory }
 {
@@ -103,13 +106,14 @@ fn sign_text(sign_is_mandatory: bool) -> &'static str
     }
 }
 
-// A modifier that is written if the flag isn't set.
+// The modifier if the flag isn't set, and otherwise nothing.
 fn where_false(modifier: &'static str, is_set: bool) -> &'static str
     ensures { result.now ≡ writing.where_false modifier.now is_set }
 {
     if is_set { "" } else { modifier }
 }
 
+// A space and the modifier of the number of digits, or nothing for the default, one or more digits.
 fn digits_text(digits: SubsecondDigits) -> &'static str
     ensures { result.now ≡ writing.digits_text digits }
 {
@@ -127,6 +131,7 @@ fn digits_text(digits: SubsecondDigits) -> &'static str
     }
 }
 
+// A space and the modifier that discards trailing input, or nothing for the default, which rejects trailing input.
 fn trailing_input_text(trailing_input: TrailingInput) -> &'static str
     ensures { result.now ≡ writing.trailing_input_text trailing_input }
 {
@@ -136,7 +141,8 @@ fn trailing_input_text(trailing_input: TrailingInput) -> &'static str
     }
 }
 
-// The modifier after the padding, if it isn't the default.
+// The component's modifier after the padding, with a space before it. Empty if it has the default, or if the component
+// has no such modifier.
 fn modifier_part(component: Component) -> &'static str
     ensures { result.now ≡ parts.modifier_part component }
 {
@@ -156,7 +162,7 @@ fn modifier_part(component: Component) -> &'static str
     )
 }
 
-// Writes the digits of a count.
+// Appends the decimal count of an `ignore`, and nothing for another component. The error is that there is no room.
 fn put_count<const N: usize>(
     component: Component,
     text: &mut DescriptionText<N>,
@@ -169,7 +175,7 @@ fn put_count<const N: usize>(
     }
 }
 
-// Writes the contents of the component's brackets.
+// Appends the contents of the component's brackets. The error is that there is no room.
 fn put_words<const N: usize>(
     component: Component,
     text: &mut DescriptionText<N>,
@@ -182,7 +188,8 @@ fn put_words<const N: usize>(
     put_count(component, text)
 }
 
-/// Writes the component in its brackets.
+/// Appends the component in its brackets, with the modifiers that differ from their defaults. The error is that there
+/// is no room; a part may then have been appended.
 pub(crate) fn put_component<const N: usize>(
     component: Component,
     text: &mut DescriptionText<N>,

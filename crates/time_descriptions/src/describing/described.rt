@@ -12,17 +12,18 @@ use crate::describing::writing::{DescriptionText, put_item};
 use crate::{Description, parse_borrowed};
 use time_components::{Component, Inspect, Node};
 
-// The greatest depth of nested lists.
+// How deep lists may nest, with the outermost lists as the first level.
 const MOST_LISTS: usize = 8;
 
-// Whether it is one byte that is written after a backslash.
+// Whether the literal is exactly one byte that is written after a backslash: `[`, `\` or `]`.
 fn is_escape(bytes: &[u8]) -> bool
     ensures { result ≡ described.is_escape bytes.now }
 {
     matches!(bytes, [b'[' | b'\\' | b']'])
 }
 
-// The number of bytes at the start that need no backslash.
+// The number of bytes at the start that need no backslash. `[` and `\` need one, and so does `]` inside a list, which
+// `nested` means.
 fn plain_len(nested: bool, bytes: &[u8]) -> usize
     ensures { result ≡ prefix_len (grammar.is_plain versions.Two nested) bytes.now }
 {
@@ -32,6 +33,7 @@ fn plain_len(nested: bool, bytes: &[u8]) -> usize
         .count()
 }
 
+// Whether none of the bytes needs a backslash, inside a list if `nested`. True for no bytes.
 #[tactic(auto, using(crate::proofs::Checks::plain_by_len))]
 fn are_plain(nested: bool, bytes: &[u8]) -> bool
     ensures { result ≡ described.are_plain nested bytes.now }
@@ -39,13 +41,15 @@ fn are_plain(nested: bool, bytes: &[u8]) -> bool
     plain_len(nested, bytes) == bytes.len()
 }
 
+// Whether a text can describe the bytes as one literal, inside a list if `nested`: they are one escaped byte, or they
+// aren't empty and none needs a backslash.
 fn is_literal(nested: bool, bytes: &[u8]) -> bool
     ensures { result ≡ described.is_literal nested bytes.now }
 {
     is_escape(bytes) || !bytes.is_empty() && are_plain(nested, bytes)
 }
 
-// Whether the item is a literal that needs no backslash. A text would join another one after it to one literal.
+// Whether the item is a literal other than one escaped byte. Two of these in a row would be parsed as one literal.
 fn is_run<I: Inspect>(item: &I) -> bool
     ensures { result ≡ described.is_run (I.shape item.now) }
 {
@@ -55,8 +59,8 @@ fn is_run<I: Inspect>(item: &I) -> bool
     }
 }
 
-// Whether a text can describe the component. The type of an `ignore` limits a count to 1 to 65535, which digits can
-// write.
+// Whether a text can describe the component. The result is always true: an `ignore` has a count of 1 to 65535, which
+// digits can write.
 fn has_words(component: Component) -> bool
     ensures { result ≡ described.has_words component }
 {
@@ -66,7 +70,8 @@ fn has_words(component: Component) -> bool
     }
 }
 
-// Whether a text can describe the item, with at most `depth` nested lists.
+// Whether a text can describe the item, inside a list if `nested`, with lists nested at most `depth` deep in it. False
+// for a list outside a group, and for a component that must end between characters.
 #[cycle(described)]
 fn is_item<I: Inspect>(depth: usize, nested: bool, item: &I) -> bool
     ensures { result ≡ described.is_item depth nested (I.shape item.now) }
@@ -81,7 +86,8 @@ fn is_item<I: Inspect>(depth: usize, nested: bool, item: &I) -> bool
     }
 }
 
-// Whether a text can describe these lists as a choice, which has at least one.
+// Whether a text can describe these lists as a choice, with further lists nested at most `depth` deep in each. False
+// for no lists.
 #[cycle(described)]
 #[tactic(auto, using(crate::proofs::Checks::some_trees))]
 fn is_choice<I: Inspect>(depth: usize, lists: &[I]) -> bool
@@ -90,7 +96,7 @@ fn is_choice<I: Inspect>(depth: usize, lists: &[I]) -> bool
     !lists.is_empty() && are_lists(depth, lists)
 }
 
-// Whether a text can describe the item as a list of a group.
+// Whether a text can describe the item as a list of a group, with further lists nested at most `depth` deep in it.
 #[cycle(described)]
 #[tactic(auto, unfolding(crate::specs::Described::is_list))]
 fn is_list<I: Inspect>(depth: usize, item: &I) -> bool
@@ -102,7 +108,7 @@ fn is_list<I: Inspect>(depth: usize, item: &I) -> bool
     }
 }
 
-// Whether a text can describe these lists of a choice.
+// Whether a text can describe each of these as a list of a choice. True for none.
 #[cycle(described)]
 fn are_lists<I: Inspect>(depth: usize, lists: &[I]) -> bool
     ensures { result ≡ described.are_lists depth (trees (map I.shape lists.now)) }
@@ -115,7 +121,8 @@ fn are_lists<I: Inspect>(depth: usize, lists: &[I]) -> bool
     true
 }
 
-// Whether a text can describe these items in turn.
+// Whether a text can describe these items in turn, inside a list if `nested`. False if a literal other than one escaped
+// byte directly follows another such literal; true for no items.
 #[cycle(described)]
 fn are_items<I: Inspect>(depth: usize, nested: bool, items: &[I]) -> bool
     ensures { result ≡ described.are_items depth nested (trees (map I.shape items.now)) }
@@ -154,7 +161,7 @@ pub fn is_described<I: Inspect>(item: &I) -> bool
 pub enum NoText {
     /// No text describes it, by [`is_described`](crate::is_described).
     Undescribed,
-    /// Its text is longer than the limit.
+    /// A text describes it, but the one that [`text_of`](crate::text_of) writes is longer than the limit.
     TooLong,
 }
 
@@ -179,11 +186,11 @@ pub fn text_of<const N: usize, I: Inspect>(item: &I) -> Result<DescriptionText<N
     }
 }
 
-/// The description of an item, of at most `N` steps: its text, parsed again. It has the item's tree.
+/// The description that the text of an item, of at most `N` bytes, parses as. It has the item's tree.
 ///
 /// # Errors
 ///
-/// The errors of [`text_of`].
+/// The errors of [`text_of`]: `TooLong` if the text has more than `N` bytes, even if its steps would fit.
 pub fn description_of<const N: usize, I: Inspect>(item: &I) -> Result<Description<N>, NoText>
     ensures ok { IfOk result (λ d. description.shape d ≡ I.shape item.now) }
     ensures err { IfErr result (λ e. IsNoText N (I.shape item.now) e) }

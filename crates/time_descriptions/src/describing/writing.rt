@@ -9,7 +9,7 @@ use crate::describing::component::put_component;
 use arrayvec::ArrayVec;
 use time_components::{Inspect, Node};
 
-// Writes a literal, with a backslash before a byte that needs one.
+// Appends a literal, after a backslash if it is exactly one byte `[`, `\` or `]`. Other literals aren't escaped.
 fn put_literal<const N: usize>(bytes: &[u8], text: &mut DescriptionText<N>) -> Result<(), Full>
     ensures { Puts N (tree_text (tree.literal bytes.now)) text.old.bytes.items result text.new.bytes.items }
 {
@@ -19,7 +19,8 @@ fn put_literal<const N: usize>(bytes: &[u8], text: &mut DescriptionText<N>) -> R
     text.put(bytes)
 }
 
-/// Writes an item.
+/// Appends the text of an item, whether or not it describes the item. The error is that there is no room; a part may
+/// then have been appended. That a component must end between characters isn't written.
 #[cycle(items)]
 pub(crate) fn put_item<const N: usize, I: Inspect>(
     item: &I,
@@ -38,7 +39,7 @@ pub(crate) fn put_item<const N: usize, I: Inspect>(
     }
 }
 
-// Writes items in turn.
+// Appends the texts of items in turn, without anything between them.
 #[cycle(items)]
 fn put_items<const N: usize, I: Inspect>(
     items: &[I],
@@ -52,7 +53,7 @@ fn put_items<const N: usize, I: Inspect>(
     Ok(())
 }
 
-// Writes an optional item.
+// Appends the text of an optional item, whose list is the given item: `[optional [` and `]]` around it.
 #[cycle(items)]
 fn put_optional<const N: usize, I: Inspect>(
     item: &I,
@@ -65,7 +66,7 @@ fn put_optional<const N: usize, I: Inspect>(
     text.put(b"]]")
 }
 
-// Writes a choice.
+// Appends the text of a choice with the given lists: `[first` and `]` around them.
 #[cycle(items)]
 fn put_first<const N: usize, I: Inspect>(
     items: &[I],
@@ -79,7 +80,7 @@ fn put_first<const N: usize, I: Inspect>(
     text.put(b"]")
 }
 
-// Writes the lists of a choice.
+// Appends the lists of a choice, each in brackets after a space.
 #[cycle(items)]
 fn put_lists<const N: usize, I: Inspect>(
     items: &[I],
@@ -93,7 +94,7 @@ fn put_lists<const N: usize, I: Inspect>(
     Ok(())
 }
 
-// Writes a list of a choice.
+// Appends a list of a choice in brackets, after a space.
 #[cycle(items)]
 fn put_list<const N: usize, I: Inspect>(item: &I, text: &mut DescriptionText<N>) -> Result<(), Full>
     ensures { Puts N (list_text (I.shape item.now)) text.old.bytes.items result text.new.bytes.items }
@@ -109,12 +110,12 @@ pub struct DescriptionText<const N: usize> {
     pub(crate) bytes: ArrayVec<u8, N>,
 }
 
-/// A text has no room left.
+/// The error that not all bytes fit into a text.
 #[derive(Clone, Copy)]
 pub(crate) struct Full;
 
 impl<const N: usize> DescriptionText<N> {
-    /// The bytes.
+    /// The bytes of the text, at most `N`.
     pub fn as_bytes(&self) -> &[u8]
         ensures value { result.now ≡ self.now.bytes.items }
         ensures fits { length result.now ≤ N }
@@ -131,7 +132,7 @@ impl<const N: usize> DescriptionText<N> {
         }
     }
 
-    // Appends bytes, if there is room.
+    // Appends bytes. The error is that there is no room for all of them.
     pub(crate) fn put(&mut self, bytes: &[u8]) -> Result<(), Full>
         ensures { Puts N bytes.now self.old.bytes.items result self.new.bytes.items }
     {

@@ -1,6 +1,6 @@
 //! Fast paths for the commonest fractions of a second.
 //!
-//! Each parser returns what the plain parser in `grammar` returns, or `None` if the input has another form.
+//! Each parser returns what `grammar::fraction` returns, or `None` if the input has another number of digits.
 ghost use Rattle.std.specs.Prelude.{IfSome};
 ghost use Rattle.time_digits.specs.Digits.{Cut, IsFraction};
 
@@ -8,7 +8,8 @@ use crate::ParsedItem;
 use crate::combinator::grammar::without_digits;
 use crate::combinator::{any_digit, nine_digits, three_digits};
 
-// Parses a fraction of a second of nine or more digits, or of exactly six or three. Returns `None` for another form.
+// Parses a fraction of a second of nine or more digits, or of exactly six or three, in nanoseconds. Returns `None` for
+// another number of digits.
 #[inline(always)]
 pub(super) fn fraction(input: &[u8]) -> Option<ParsedItem<'_, u32>>
     ensures { IfSome result (λ found. Cut IsFraction input.now found.0.now found.1) }
@@ -22,7 +23,8 @@ pub(super) fn fraction(input: &[u8]) -> Option<ParsedItem<'_, u32>>
     fraction_by_threes(input)
 }
 
-// Parses a fraction of a second of exactly six or three digits. Returns `None` for another form.
+// Parses a fraction of a second of exactly six or three digits, in nanoseconds. Returns `None` for another number of
+// digits.
 #[inline(always)]
 fn fraction_by_threes(input: &[u8]) -> Option<ParsedItem<'_, u32>>
     ensures { IfSome result (λ found. Cut IsFraction input.now found.0.now found.1) }

@@ -5,7 +5,7 @@ ghost use Rattle.time_digits.specs.Digits.{Finds, IsDigit, AllDigits, digits_val
 use crate::combinator::n_to_m_digits;
 use crate::{Integer, ParsedItem};
 
-// The nanoseconds in one unit of a decimal place, by the number of places after the point of a second.
+// The nanoseconds in one unit of the n-th decimal place after the point of a second, at index n: 10^(9 - n).
 const NANOSECONDS_OF_PLACE: [u32; 10] = [
     1_000_000_000,
     100_000_000,
@@ -19,7 +19,7 @@ const NANOSECONDS_OF_PLACE: [u32; 10] = [
     1,
 ];
 
-// Parses exactly `n` digits, one after another.
+// Parses the first `n` digits, as their decimal value, or returns `None` if the input begins with fewer.
 #[inline]
 pub(super) fn exact_run(input: &[u8], n: u8) -> Option<ParsedItem<'_, u32>>
     requires { n ≤ 9 }
@@ -28,7 +28,7 @@ pub(super) fn exact_run(input: &[u8], n: u8) -> Option<ParsedItem<'_, u32>>
     digit_run(input, usize::from(n), usize::from(n))
 }
 
-// The run of leading digits, if it is long enough and its value fits `T`.
+// Parses all leading digits up to `most`. Returns `None` if there are fewer than `least`, or the value doesn't fit `T`.
 #[inline]
 pub(super) fn digit_run<T: Integer>(
     input: &[u8],
@@ -46,7 +46,7 @@ pub(super) fn digit_run<T: Integer>(
     Some(ParsedItem(&input[count..], value))
 }
 
-/// The number of digits that the input begins with, counted up to `most`.
+/// The number of ASCII digits that the input begins with, or `most` if there are more.
 #[inline]
 pub fn leading_digits(input: &[u8], most: usize) -> usize
     ensures in_range { result ≤ length input.now }
@@ -68,7 +68,8 @@ fn is_digit(byte: u8) -> bool
     byte >= b'0' && byte <= b'9'
 }
 
-// The decimal value of the digits, if it fits `T`. The value moves at each digit, so `T` need not be `Copy`.
+// The decimal value of the digits, or `None` if it doesn't fit `T`. The value moves at each digit, so `T` need not be
+// `Copy`.
 #[inline]
 fn value_of_digits<T: Integer>(digits: &[u8]) -> Option<T>
     requires all { AllDigits digits.now }
@@ -91,7 +92,7 @@ fn value_of_digits<T: Integer>(digits: &[u8]) -> Option<T>
     Some(value)
 }
 
-// The number of spaces that the input begins with, counted up to `most`.
+// The number of spaces that the input begins with, or `most` if there are more.
 #[inline]
 pub(super) fn leading_spaces(input: &[u8], most: usize) -> usize
     ensures in_range { result ≤ length input.now }
@@ -106,8 +107,8 @@ pub(super) fn leading_spaces(input: &[u8], most: usize) -> usize
     count
 }
 
-// Parses all leading digits as a fraction of a second, in nanoseconds. The first nine digits count, and later ones are
-// dropped. Returns `None` if the input doesn't begin with a digit.
+// Parses all leading digits as the digits of a second after its decimal point, in nanoseconds. Digits after the ninth
+// are read and ignored. Returns `None` if the input doesn't begin with a digit.
 pub(super) fn fraction(input: &[u8]) -> Option<ParsedItem<'_, u32>>
     ensures { Finds IsFraction (λ v. v) input.now result }
 {
@@ -131,7 +132,7 @@ pub(super) fn without_digits(input: &[u8]) -> &[u8]
     rest
 }
 
-// The nanoseconds in one unit of a decimal place, by the number of places after the point of a second.
+// The nanoseconds in one unit of the last of that many decimal places after the point of a second: 10^(9 - digits).
 #[inline]
 fn nanoseconds_of_place(digits: usize) -> u32
     requires { digits ≤ 9 }

@@ -7,7 +7,7 @@ ghost use Rattle.time_digits.specs.Words.{first_bytes};
 use crate::ParsedItem;
 use crate::combinator::any_digit;
 
-// Parses exactly `N` digits from one machine word.
+// Parses the first `N` digits, 4 to 8, in one machine word. Returns `None` if the input begins with fewer.
 #[inline(always)]
 pub(super) fn digits<const N: u8>(input: &[u8]) -> Option<ParsedItem<'_, u32>>
     requires least { 4 ≤ N }
@@ -18,7 +18,8 @@ pub(super) fn digits<const N: u8>(input: &[u8]) -> Option<ParsedItem<'_, u32>>
     Some(ParsedItem(&input[usize::from(N)..], value))
 }
 
-/// Parses exactly nine digits, as their decimal value. Returns `None` if the input begins with fewer.
+/// Parses the first nine ASCII digits, as their decimal value. Returns `None` if the input begins with fewer. Later
+/// digits are left in the rest.
 #[inline(always)]
 pub fn nine_digits(input: &[u8]) -> Option<ParsedItem<'_, u32>>
     ensures { Finds (IsDigitRun 9 9) (λ v. v) input.now result }
@@ -39,7 +40,8 @@ fn leading_word(input: &[u8]) -> u64
     }
 }
 
-// At most eight bytes in one word, in the order of `leading_word`. Not inlined, since most inputs have eight bytes.
+// At most eight bytes in one word, the first byte lowest, and zero bytes above. Not inlined, since most inputs have
+// eight bytes.
 #[cold]
 #[inline(never)]
 fn short_word(bytes: &[u8]) -> u64
@@ -49,7 +51,7 @@ fn short_word(bytes: &[u8]) -> u64
     u64::from_le_bytes(with_zeros(bytes))
 }
 
-// The bytes, filled up to eight with zeros.
+// The bytes, followed by zero bytes (not ASCII zeros) up to eight.
 fn with_zeros(bytes: &[u8]) -> [u8; 8]
     requires { length bytes.now ≤ 8 }
     ensures { result ≡ bytes.now ++ replicate (8 - length bytes.now) 0 }

@@ -1,6 +1,6 @@
 //! Matches the names of a line by patterns.
 //!
-//! `request` returns what `split_request` does for the lines that it splits. `None`: not this form.
+//! For lines with known names `request` returns the request that `split_request` does, and `None` for all others.
 ghost use Rattle.std.specs.Prelude.{◌≡◌, ℕ, List, ◌++◌, IfSome};
 ghost use Rattle.programs_answers.specs.Formats as formats;
 ghost use Rattle.programs_answers.specs.Output.{IsParsed};
@@ -9,7 +9,7 @@ ghost use Rattle.time_lines.specs.Output.{IsAnswer};
 
 use programs_answers::formats::{Format, Target};
 
-// The bytes after a name and its TAB. `None`: not this form.
+// The bytes after `name`, whose last byte is a TAB. `None` if the bytes don't start with `name`.
 #[inline(always)]
 fn after<'a>(bytes: &'a [u8], name: &[u8]) -> Option<&'a [u8]>
     ensures { IfSome result (λ rest. bytes.now ≡ name.now ++ rest.now) }
@@ -17,7 +17,7 @@ fn after<'a>(bytes: &'a [u8], name: &[u8]) -> Option<&'a [u8]>
     bytes.strip_prefix(name)
 }
 
-// The format whose name and TAB start the line, and the bytes after them. `None`: not this form.
+// The format whose name and TAB start the line, and the bytes after them. `None` if no format's name does.
 #[inline(always)]
 fn format(line: &[u8]) -> Option<(Format, &[u8])>
     ensures { IfSome result (λ read. StartsWithName formats.format_named line.now read.0 read.1.now) }
@@ -36,7 +36,7 @@ fn format(line: &[u8]) -> Option<(Format, &[u8])>
     }
 }
 
-// The target whose name and TAB start the bytes, and the bytes after them. `None`: not this form.
+// The target whose name and TAB start the bytes, and the bytes after them. `None` if no target's name does.
 #[inline(always)]
 fn target(bytes: &[u8]) -> Option<(Target, &[u8])>
     ensures { IfSome result (λ read. StartsWithName formats.target_named bytes.now read.0 read.1.now) }
@@ -58,7 +58,7 @@ fn target(bytes: &[u8]) -> Option<(Target, &[u8])>
     }
 }
 
-// The request of a line with known names. `None`: not this form.
+// The format, target and text of the line. `None` unless it starts with a format's name, TAB, a target's name and TAB.
 #[inline(always)]
 pub(super) fn request(line: &[u8]) -> Option<(Format, Target, &[u8])>
     ensures { IfSome result

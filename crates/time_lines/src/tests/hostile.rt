@@ -1,7 +1,7 @@
 //! Lines at the ends of the range of years, and every error that the program may meet.
 use super::{Row, are_answered, fills, joined, try_allocations, try_parts, try_reads, try_sizes};
 
-/// The first moment of the years of four digits, and the first moment at all.
+/// Rows for the first instants of the years -9999 and -999999, and for instants before the latter.
 pub(super) static RANGE_ENDS: [Row; 7] = [
     (
         "unix\tdatetime\t-377705116800",
@@ -38,7 +38,7 @@ fn range_ends(rt: HostRuntime) {
     are_answered(&rt, &RANGE_ENDS);
 }
 
-// Years of more than four digits, in and out of UTC.
+// Lines whose values, or whose rejected texts, have years of more than four digits.
 pub(super) mod wide_years {
     use crate::tests::{Row, are_answered};
 
@@ -74,7 +74,8 @@ pub(super) mod wide_years {
         ),
     ];
 
-    /// Lines of the formats that are descriptions.
+    /// Lines of the formats `unix` and `local`, which are descriptions, with values or rejected texts whose years have
+    /// more than four digits.
     pub(in crate::tests) static DESCRIBED_YEARS: [Row; 8] = [
         (
             "unix\tdatetime\t253402300800",
@@ -123,6 +124,7 @@ rfc3339\tstaged\t2021-13-01T00:00:00Z
 
 ";
 
+// The answers to `LINES`.
 const ANSWERS: &[u8] = b"1985-04-12 23:20:50.520000000 +00:00:00
 2021-01-02 03:04:05.000000000 +06:07:00
 2021-01-02
@@ -134,8 +136,8 @@ error: the 'month' component could not be parsed
 error: line
 ";
 
-// The input takes some growths of the buffer. Each fails in turn, and then within a heap of some of these sizes. `run`
-// has no allocator, and writes its output without one.
+// Reading the input grows a buffer several times. Each of these allocations fails in turn, and then some of the heaps
+// are too small. `run` has no allocator, and writes its output without one.
 #[test]
 fn hostile_program(rt: HostRuntime) {
     let input = joined(rt.alloc(), &[(&[LINES], 40)]).expect(&rt, "memory");

@@ -151,7 +151,7 @@ static ISO8601: [Row; 31] = [
     ("iso8601\ttime\t03.0001", "03:00:00.360000000\n"),
 ];
 
-/// Lines of the formats that are descriptions.
+/// Lines of the formats `ymd`, `clock`, `unix` and `local`, which are descriptions.
 pub(super) static DESCRIBED: [Row; 30] = [
     ("ymd\tdate\t-0044-03-15", "-0044-03-15\n"),
     ("ymd\tdate\t+2021-03-04", "2021-03-04\n"),
@@ -232,7 +232,8 @@ fn whole_parses(rt: HostRuntime) {
     are_answered(&rt, &DESCRIBED);
 }
 
-// Stamps and mail dates as `datetime`, which is parsed without a record, and as `staged`, over an empty record.
+// Texts of RFC 3339 and RFC 2822 as `datetime`, which is parsed on a direct path without a record, and as `staged`,
+// which is parsed over an empty record.
 mod two_paths {
     use crate::serving::run;
     use crate::tests::{Row as Line, are_answered, joined};
@@ -241,7 +242,7 @@ mod two_paths {
     /// A format, a text, and its answers as `datetime` and as `staged`.
     type Row = (&'static [u8], &'static [u8], &'static [u8], &'static [u8]);
 
-    /// Both answers of the row are those of `run`.
+    /// Whether `run` writes both answers of the row. `Err` if memory for its lines or answers runs out.
     fn are_both_answered(alloc: Global, row: &Row) -> Result<bool, AllocError> {
         let (format, text, without_record, over_record) = *row;
         let lines: [&[u8]; 7] = [
@@ -401,7 +402,7 @@ mod two_paths {
         ),
     ];
 
-    /// Such texts for other targets, which are parsed over a record.
+    /// Texts of RFC 3339 and RFC 2822 for other targets, which are parsed over a record.
     static OTHER_TARGETS: [Line; 4] = [
         (
             "rfc3339\tutc\t9999-12-31T23:59:59.999999999-23:59",
@@ -457,6 +458,7 @@ mod walks {
     use std::alloc::Global;
     use std::process::Abort;
 
+    /// Writes the answer by the format `clock`, without LF.
     fn write_clock<W: Sink>(target: Target, text: &[u8], out: &mut W) -> Result<(), Unwritten> {
         let fraction = fraction_items();
         let fraction = compound(&fraction);
@@ -465,6 +467,7 @@ mod walks {
         write_value(&compound(&clock_items(&seconds)), target, text, out)
     }
 
+    /// Writes the answer by the format `local`, without LF.
     fn write_local<W: Sink>(target: Target, text: &[u8], out: &mut W) -> Result<(), Unwritten> {
         let items = local_items();
         let (date_time, ordinal) = items.split_at(15);
@@ -472,7 +475,8 @@ mod walks {
         write_value(&first(&lists), target, text, out)
     }
 
-    /// Writes the answer to a line, or nothing where its format isn't a description or its target is unknown.
+    /// Writes the answer to a line, parsed by the tree of its format, without LF. `None` if the format isn't a
+    /// description, the target is unknown, a TAB is missing, or a write failed.
     fn write_walked<W: Sink>(line: &[u8], out: &mut W) -> Option<()> {
         let (format, rest) = split_at_tab(line)?;
         let (target, text) = split_at_tab(rest)?;
@@ -506,7 +510,7 @@ mod walks {
     fn trees_of_described_formats(rt: HostRuntime) {
         are_walked(&rt, &DESCRIBED);
         are_walked(&rt, &DESCRIBED_YEARS);
-        // The other ends are those of ISO 8601.
+        // The other rows are lines of ISO 8601, which has no tree.
         are_walked(&rt, &RANGE_ENDS[..4]);
     }
 }

@@ -29,7 +29,7 @@ use Rattle.time_parsing.specs.Rfc3339Strict.{strict_text, Reads as StrictReads}
 use Rattle.time_locating.specs.Rfc3339Strict.{cut_off, Locates as StrictLocates, Marks as StrictMarks}
 use Rattle.time_locating.specs.Rfc3339.{Locates as Rfc3339Locates, Marks as Rfc3339Marks, expected_at as rfc3339_expected_at}
 
--- the bytes at the start of the place that doesn't match
+-- The places match up to the first that doesn't, and `mid` are the bytes that are left at its start.
 abbrev StopsBefore : {P N : Type 0} → Format P N → List P → N → List ℕ → List ℕ → Type 0
 StopsBefore A [] n bytes mid = ⊥
 StopsBefore {P} {N} A (p ∷ ps) n bytes mid =
@@ -84,7 +84,7 @@ module _ {P N : Type 0} (A : Format P N) (one : AtMostOneEach A) (ps : List P) (
   LocatesPlace-unread expected_at b m n (inr s) k =
       s.3 ((one_form A one ps start b).one_reading s.0 [] s.1 n s.2 k).0
 
-  -- a format that reads exactly the places has one place for each text
+  -- a format that reads only texts of the places has at most one place for each text, and none if it reads it whole
   pub place_exact : (expected_at : P → Expectation) (reads : Reading)
       → ((b : List ℕ) (r q : Record) → reads b r [] q → (n : N) × MatchesPlaces A ps start b [] n)
       → IsExactPlace reads (λ b r m. LocatesPlace A ps start expected_from expected_at b m)
@@ -93,7 +93,7 @@ module _ {P N : Type 0} (A : Format P N) (one : AtMostOneEach A) (ps : List P) (
     not_read = λ b r q m h k. let f = form b r q k in LocatesPlace-unread expected_at b m f.0 h f.1;
   }
 
--- a format by places has one mark for each name
+-- a format by places has at most one mark for each component's name
 module _ {P N : Type 0} (A : Format P N) (one : AtMostOneEach A) (expected_from : Beginning P) (fault : P → Refusal)
     (name : List ℕ) where
   MarksPlaces-one : (ps : List P) (n : N) (b : List ℕ) (x y : Option ℕ)
@@ -124,25 +124,28 @@ module _ {P N : Type 0} (A : Format P N) (one : AtMostOneEach A) (expected_from 
       absurd ((one_form A one ps start b).never_both h.0.0 h.0.1 k.0.0 h.0.2 k.0.1)
   MarksText-one name b x y (inr h) (inr k) = MarksPlaces-one A one expected_from fault name ps start b x y h.1 k.1
 
+  -- a text over a record has at most one mark for each component's name
   pub place_exact_mark : IsExactMark (λ name b r mark. MarksText A expected_from fault ps start name b mark)
   place_exact_mark name b r x y h k = MarksText-one name b x y h k
 
 -- ---- A text has one place in ISO 8601, since the place is a function.
 
--- the place after what is read
+-- the place of a text over a record; `read` is the rest and the new record, or none if no prefix is read
 abbrev place_of : List ℕ → Record → Option (List ℕ × Record) → Option Miss
 place_of b r read = place_after (rest_of read) (furthest (misses b (with_leap_second r)))
 
+-- a text that ISO 8601 doesn't read whole over a record has at most one place, and one that it reads has none
 pub iso8601_exact_place : IsExactPlace (Reads greatest_year) Locates
 iso8601_exact_place = record {
   one_place = λ b r m n h k. same_Some m n (sym h ∙ k);
   not_read = λ b r q m h k. none-some m (sym (ap (place_of b r) k) ∙ h);
 }
 
+-- by ISO 8601, a text over a record has at most one mark for each component's name
 pub iso8601_exact_mark : IsExactMark Marks
 iso8601_exact_mark name b r x y h k = h ∙ sym k
 
--- ---- A text has one mark for each name by a tree.
+-- ---- A text has at most one mark for each component's name by a tree.
 
 mutual
   unfolding TreeMarks MarksAll MarksFirst
@@ -177,6 +180,7 @@ mutual
   MarksFirst-one name (more t ts) b r x y (inr h) (inl k) = absurd (h.0 k.0 k.1 k.2)
   MarksFirst-one name (more t ts) b r x y (inr h) (inr k) = MarksFirst-one name ts b r x y h.1 k.1
 
+-- by a tree, a text over a record has at most one mark for each component's name
 pub tree_exact_mark : (t : Tree) → IsExactMark (MarksTree t)
 tree_exact_mark t name b r x y h k = Marks-one name (optional t) b r x y h k
 
@@ -192,6 +196,7 @@ MissesLeaf-one t w b r ms ns (inr h) (inr k) = h.1 ∙ sym k.1
 mutual
   unfolding Misses MissesAll MissesFirst
 
+  -- a tree has at most one list of misses
   pub Misses-one : (told : LiteralReport) (t : Tree) (b : List ℕ) (r : Record) (ms ns : List Miss)
       → Misses told t b r ms → Misses told t b r ns → ms ≡ ns
   Misses-one told (literal x) b r ms ns h k = h ∙ sym k
@@ -247,6 +252,7 @@ module _ (told : LiteralReport) (t : Tree) (b : List ℕ) (r : Record) where
   LocatesTree-one m n (ms, h, is) (ns, k, be) =
       let same : Some m ≡ Some n = is ∙ ap furthest (MissesText-one ms ns h k) ∙ sym be in cc
 
+-- a text that a tree doesn't read whole over a record has at most one place, and one that it reads has none
 pub tree_exact_place : (told : LiteralReport) (t : Tree) → IsExactPlace (TreeReads greatest_year t) (LocatesTree told t)
 tree_exact_place told t = record {
   one_place = λ b r m n h k. LocatesTree-one told t b r m n h k;
@@ -255,27 +261,32 @@ tree_exact_place told t = record {
 
 -- ---- A text has one place in RFC 2822.
 
+-- a text that RFC 2822 doesn't read whole has at most one place, and one that it reads has none
 pub rfc2822_exact_place : IsExactPlace (Rfc2822Reads greatest_year) Rfc2822Locates
 rfc2822_exact_place =
     place_exact (PlaceSyntax true) (MailAsks-unique true) places nothing_read expected_from expected_at
     (Rfc2822Reads greatest_year)
     (λ b r q h. (h.0, h.1))
 
+-- by RFC 2822, a text has at most one mark for each component's name
 pub rfc2822_exact_mark : IsExactMark Rfc2822Marks
 rfc2822_exact_mark = place_exact_mark (PlaceSyntax true) (MailAsks-unique true) expected_from fault places nothing_read
 
 -- ---- A text has one place in RFC 3339.
 
+-- a text that RFC 3339 doesn't read whole has at most one place, and one that it reads has none
 pub rfc3339_exact_place : IsExactPlace (Rfc3339Reads greatest_year) Rfc3339Locates
 rfc3339_exact_place =
     place_exact (Rfc3339Syntax true) (PlaceSyntax-unique true) rfc3339_places rfc3339_nothing_read at_once
     rfc3339_expected_at (Rfc3339Reads greatest_year) (λ b r q h. (h.0, h.2))
 
+-- by RFC 3339, a text has at most one mark for each component's name
 pub rfc3339_exact_mark : IsExactMark Rfc3339Marks
 rfc3339_exact_mark =
     place_exact_mark (Rfc3339Syntax true) (PlaceSyntax-unique true) at_once rfc3339_fault rfc3339_places
     rfc3339_nothing_read
 
+-- a text that the strict RFC 3339 doesn't read whole has at most one place, and one that it reads has none
 pub strict_exact_place : IsExactPlace (StrictReads greatest_year) StrictLocates
 strict_exact_place = record {
   one_place = λ b r m n p q.
@@ -286,6 +297,7 @@ strict_exact_place = record {
   not_read = λ b r q m p read. (rfc3339_exact_place).not_read (strict_text b) r q p.0 p.1 read;
 }
 
+-- by the strict RFC 3339, a text has at most one mark for each component's name
 pub strict_exact_mark : IsExactMark StrictMarks
 strict_exact_mark name b r mark other p q =
     p.2 ∙ ap (option_map (λ n. n + cut_off b)) (rfc3339_exact_mark name (strict_text b) r p.0 q.0 p.1 q.1) ∙ sym q.2

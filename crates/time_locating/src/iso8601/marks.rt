@@ -21,7 +21,7 @@ fn expects(expected: Expected<'_>, name: &str) -> bool
     }
 }
 
-// Whether the piece belongs to the component of this name.
+// Whether the piece belongs to the component of this name. `Z` and a sign belong to `offset hour`.
 #[tactic(auto, using(crate::proofs::IsoDates::other_piece))]
 fn is_piece_of(piece: Piece, name: &str) -> bool
     ensures { result ≡ spec.is_piece_of name.now piece }
@@ -43,7 +43,8 @@ fn past_row<'a>(row: &[Piece], input: &'a [u8]) -> Option<&'a [u8]>
     Some(rest)
 }
 
-// How many bytes are left at the start of the row's first piece of this name.
+// How many bytes are left at the start of the row's first piece of this name. `None` if the row has no such piece, or
+// if a piece before it doesn't match.
 fn row_mark(row: &[Piece], input: &[u8], name: &str) -> Option<usize>
     ensures { result ≡ spec.row_mark name.now row.now input.now }
 {
@@ -57,7 +58,7 @@ fn row_mark(row: &[Piece], input: &[u8], name: &str) -> Option<usize>
     None
 }
 
-// Whether the row leaves exactly `left` bytes.
+// Whether the row matches and leaves exactly `left` bytes unread.
 fn leaves(left: usize, row: &[Piece], input: &[u8]) -> bool
     ensures { result ≡ spec.leaves left (spec.after_row row.now input.now) }
 {
@@ -67,7 +68,7 @@ fn leaves(left: usize, row: &[Piece], input: &[u8]) -> bool
     }
 }
 
-// The `row_mark` of the first row that leaves exactly `left` bytes.
+// The `row_mark` of the first row that leaves exactly `left` bytes, or `None` if no row does.
 fn rows_mark(rows: &[&[Piece]], left: usize, input: &[u8], name: &str) -> Option<usize>
     ensures { result ≡ spec.rows_mark name.now left (map (λ row. row.now) rows.now) input.now }
 {
@@ -79,14 +80,16 @@ fn rows_mark(rows: &[&[Piece]], left: usize, input: &[u8], name: &str) -> Option
     None
 }
 
-// The `rows_mark` of an offset of that kind.
+// How many bytes are left at the start of the component of this name, in an offset of that kind that leaves exactly
+// `left` bytes. `None` if there is no such offset or component.
 fn offset_mark(kind: ExtendedKind, left: usize, input: &[u8], name: &str) -> Option<usize>
     ensures { result ≡ spec.offset_mark name.now left kind input.now }
 {
     rows_mark(offsets_of(kind), left, input, name)
 }
 
-// The `rows_mark` of a time of that kind, which may begin with `T`.
+// How many bytes are left at the start of the component of this name, in a time of that kind that may begin with `T`
+// and leaves exactly `left` bytes. `None` if there is no such time or component.
 fn time_mark(kind: ExtendedKind, left: usize, input: &[u8], name: &str) -> Option<usize>
     ensures { result ≡ spec.time_mark name.now left kind input.now }
 {
@@ -94,7 +97,9 @@ fn time_mark(kind: ExtendedKind, left: usize, input: &[u8], name: &str) -> Optio
     rows_mark(times_of(kind), left, after, name)
 }
 
-// The mark of a time and an offset after it, or `otherwise` if there is no time.
+// The mark (how many bytes are left at its start) of the component of this name, in an offset that follows a time and
+// leaves `left` bytes, or else in the time. `otherwise` if no time of that kind, whose `T` is required if `needs_t`,
+// matches.
 fn mark_from_time(
     needs_t: bool,
     kind: ExtendedKind,
@@ -116,7 +121,9 @@ fn mark_from_time(
     }
 }
 
-// The mark of a text without a date.
+// The mark (how many bytes are left at its start) of the component of this name, in a text that is parsed without a
+// date and leaves `left` bytes: as a time, perhaps with an offset, or if no time matches, as an offset alone. `None` if
+// there is no such component.
 fn mark_without_date(left: usize, input: &[u8], name: &str) -> Option<usize>
     ensures { result ≡ spec.without_date name.now left input.now }
 {
@@ -125,6 +132,7 @@ fn mark_without_date(left: usize, input: &[u8], name: &str) -> Option<usize>
 }
 
 /// How many bytes are left at the start of the component of this name, in a text that leaves `left` bytes unread.
+/// `None` if the text has no such component.
 pub(crate) fn text_mark(left: usize, input: &[u8], name: &str) -> Option<usize>
     ensures { (r : Record) → result ≡ spec.text_mark name.now left input.now r }
 {

@@ -12,7 +12,8 @@ use time_readers::ParsedItem;
 use time_readers::combinator::{ascii_char, sign};
 use time_readers::iso8601::{day, dayk, dayo, float, hour, month, round_fraction, week, year};
 
-// What a piece expects.
+// What is reported as expected where a piece doesn't match: its byte, or the name of its component, which for a sign is
+// `offset hour`.
 pub(crate) fn expected_at(piece: Piece) -> Expected<'static>
     ensures { wants result ≡ spec.expected_at piece }
 {
@@ -62,14 +63,14 @@ pub(crate) fn past(piece: Piece, input: &[u8]) -> Option<&[u8]>
     }
 }
 
-// The rest after a value.
+// The rest after a parsed value, or `None` if none was parsed.
 fn past_value<V: Copy>(found: Option<ParsedItem<'_, V>>) -> Option<&[u8]>
     ensures { option_copied result ≡ option_map (λ p. p.0.now) found.entry }
 {
     Some(found?.0)
 }
 
-// The rest after that byte.
+// The rest after the byte `C`, or `None` if the input doesn't begin with it.
 #[tactic(auto, using(crate::proofs::IsoLengths::finds_byte))]
 pub(crate) fn past_byte<const C: u8>(input: &[u8]) -> Option<&[u8]>
     ensures { option_copied result ≡ byte C input.now }
@@ -77,7 +78,7 @@ pub(crate) fn past_byte<const C: u8>(input: &[u8]) -> Option<&[u8]>
     past_value(ascii_char::<C>(input))
 }
 
-// The rest after two digits whose number is at most `greatest`.
+// The rest after two digits whose number is at most `greatest`, or `None` for any other input.
 fn past_digits(greatest: u8, input: &[u8]) -> Option<&[u8]>
     ensures { option_copied result ≡ spec.rest_of (up_to greatest 2 input.now) }
 {
@@ -88,7 +89,7 @@ fn past_digits(greatest: u8, input: &[u8]) -> Option<&[u8]>
     Some(found.0)
 }
 
-// The rest after a number without a fraction, of at most `greatest`.
+// The rest after two digits whose number is at most `greatest`. `None` for any other input, or if `.` or `,` follows.
 fn past_whole(greatest: u8, input: &[u8]) -> Option<&[u8]>
     ensures { option_copied result ≡ option_and_then (whole_up_to greatest) (number input.now) }
 {
@@ -99,7 +100,8 @@ fn past_whole(greatest: u8, input: &[u8]) -> Option<&[u8]>
     Some(found.0)
 }
 
-// The rest after a number with a fraction, whose whole part is at most `greatest`.
+// The rest after two digits, whose number is at most `greatest`, and a fraction: `.` or `,` and one or more digits.
+// `None` for any other input.
 fn past_part(greatest: u8, input: &[u8]) -> Option<&[u8]>
     ensures { option_copied result ≡ option_and_then (part_up_to greatest) (number input.now) }
 {
@@ -110,7 +112,8 @@ fn past_part(greatest: u8, input: &[u8]) -> Option<&[u8]>
     Some(found.0)
 }
 
-// The rest after a second.
+// The rest after two digits, 00 to 60, and after a fraction, `.` or `,` and one or more digits, if `.` or `,` follows.
+// `None` for any other input, or if the fraction rounds up to 1 in nanoseconds.
 fn past_second(input: &[u8]) -> Option<&[u8]>
     ensures { option_copied result ≡ option_and_then second_up_to (number input.now) }
 {

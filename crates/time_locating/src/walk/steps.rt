@@ -16,7 +16,9 @@ use std::slice;
 use time_components::{Group, Step, item_len};
 use time_record::Parsed;
 
-/// Reads the steps as a list at the front of the input, and returns what `walk` returns for an item.
+/// Reads the items of the steps in turn, the first at the front of the input, and returns what `walk_all` returns for
+/// items, but the miss of a literal expects only one byte. If an item doesn't match, neither does the whole, and the
+/// record is unchanged.
 #[cycle(steps)]
 pub(crate) fn walk_list<'a, 'd>(
     steps: &'d [Step],
@@ -58,7 +60,9 @@ pub(crate) fn walk_list<'a, 'd>(
     }
 }
 
-// Reads the first item that matches, or nothing if there are no items.
+// Reads the first of the steps' items that matches. If none does, the record is unchanged. Returns the furthest miss of
+// all items that were tried; of several at one index, that of the first item. Without any steps the empty text matches,
+// and the rest is the input.
 #[cycle(steps)]
 fn walk_first<'a, 'd>(
     steps: &'d [Step],
@@ -99,7 +103,7 @@ fn walk_first<'a, 'd>(
     }
 }
 
-// Reads the steps of one item.
+// Reads an item, whose steps are `item`, at the front of the input. The contract doesn't cover an `item` without steps.
 #[cycle(steps)]
 fn walk_item<'a, 'd>(
     item: &'d [Step],
@@ -128,7 +132,8 @@ fn walk_item<'a, 'd>(
     }
 }
 
-// Reads a group of these steps.
+// Reads a group: its items in turn, or these only if all match (an optional group), or the first of them that matches.
+// `inside` are the steps of its items.
 #[cycle(steps)]
 fn walk_group<'a, 'd>(
     group: Group,
@@ -156,7 +161,8 @@ fn walk_group<'a, 'd>(
     }
 }
 
-// Reads the item of a literal's steps: this byte, and those inside.
+// Reads a literal, whose steps are `item`: this byte, and the further bytes inside. Without a match the miss is at the
+// literal's first byte that isn't there. The record is unchanged.
 fn literal<'a, 'd>(
     byte: &'d u8,
     inside: &'d [Step],
@@ -188,7 +194,8 @@ fn literal<'a, 'd>(
     }
 }
 
-// The miss in a literal of this byte and the further ones at the front of the steps: its first byte that isn't there.
+// The miss in a literal of this byte and the further ones at the front of the steps: it expects only the first byte
+// that doesn't match. `None` if the input begins with the literal.
 fn missed_in<'d>(byte: &'d u8, steps: &'d [Step], input: &[u8]) -> Option<Miss<'d>>
     ensures { erased_miss result ≡ furthest (literal_misses first_byte (byte.now ∷ steps_.further steps.now) input.now) }
 {
@@ -209,7 +216,7 @@ fn missed_in<'d>(byte: &'d u8, steps: &'d [Step], input: &[u8]) -> Option<Miss<'
     missed_at(Expected::Literal(slice::from_ref(wanted)), rest)
 }
 
-// The steps of the first item, and those after it. This is no second way of reading.
+// The steps of the first item, and those after it, or `None` if there are no steps. This is not a fast path.
 fn split_item(steps: &[Step]) -> Option<(&[Step], &[Step])>
     ensures { MatchOption result (length steps.now ≡ 0) (λ p. IsSplit steps.now p.0.now p.1.now) }
 {

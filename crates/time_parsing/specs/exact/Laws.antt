@@ -1,4 +1,5 @@
--- A format has one answer for a text over a record, and a direct path has one for a text. `Y` is the greatest year.
+-- A format has at most one result for a text over a record, and a direct path has at most one for a text. `Y` is the
+-- greatest year.
 use Rattle.std.specs.Prelude.{ℕ}
 use Rattle.std.proofs.Common.{false, None, ◌≡◌, ◌∙◌, sym, ap, List, Option, Some, Result, Ok, Err, true}
 use Rattle.time_values.specs.Calendar.{greatest_year}
@@ -35,6 +36,7 @@ use Rattle.time_parsing.specs.Rfc2822.{entries, Reads as Rfc2822Reads, Refuses a
 
 -- ---- A description has one answer for a text over a record. `Y` is the greatest year.
 
+-- for a text and a record, a description has at most one reading or one error, and never both
 pub tree_exact : (Y : ℕ) (t : Tree) → IsExact (Reads Y t) (Refuses Y t)
 tree_exact Y t = record {
   one_rest = λ b r x y p q u v. (Reads-unique Y t b r x p y q u v).0;
@@ -45,18 +47,21 @@ tree_exact Y t = record {
 
 -- ---- The direct paths of RFC 3339 and RFC 2822 have one answer for a text
 
+-- the direct path of RFC 3339 has at most one error for a text, and none for a text that has a moment
 pub rfc3339_exact_path :
     IsExactPath greatest_year (direct (RefusesRfc3339 greatest_year)) (Rfc3339.Reads greatest_year)
     (Rfc3339.Refuses greatest_year)
 rfc3339_exact_path =
     let one =
-    one_direct (rfc3339.PlaceSyntax false) rfc3339.places rfc3339.nothing_read rfc3339.fault minute_refusal rfc3339_numbers
+    one_direct (rfc3339.PlaceSyntax false) rfc3339.places rfc3339.nothing_read rfc3339.fault minute_refusal
+    rfc3339_numbers
     (one_form (rfc3339.PlaceSyntax false) (PlaceSyntax-unique false) rfc3339.places rfc3339.nothing_read) in (
       one.one_refusal,
       λ bytes v e told refused. one.never_both bytes v e (RecordedRfc3339.record-value bytes v told)
           refused,
     )
 
+-- the direct path of RFC 2822 has at most one error for a text, and none for a text that has a moment
 pub rfc2822_exact_path :
     IsExactPath greatest_year (direct (RefusesRfc2822 greatest_year)) (Rfc2822.Reads greatest_year)
     (Rfc2822.Refuses greatest_year)
@@ -71,18 +76,22 @@ rfc2822_exact_path =
 
 -- ---- ISO 8601 has one answer for a text over a record, since a reading is a function. `Y` is the greatest year.
 
+-- the rest of a reading, or x if there is no reading
 abbrev rest_of : List ℕ → Option (List ℕ × Record) → List ℕ
 rest_of x (Some p) = p.0
 rest_of x None = x
 
+-- the record of a reading, or r if there is no reading
 abbrev record_of : Record → Option (List ℕ × Record) → Record
 record_of r (Some p) = p.1
 record_of r None = r
 
+-- the error of a date, or e if there is a date
 abbrev fault_of : Refusal → Result (Found Record) Refusal → Refusal
 fault_of e (Ok d) = e
 fault_of e (Err f) = f
 
+-- for a text and a record, ISO 8601 has at most one reading or one error, and never both
 pub iso8601_exact : (Y : ℕ) → IsExact (Iso8601Reads Y) (Iso8601Refuses Y)
 iso8601_exact Y = record {
   one_rest = λ b r x y p q u v. ap (rest_of x) (sym u ∙ v);
@@ -106,6 +115,7 @@ rfc2822_put-unique : (Y : ℕ) (n m : Numbers) (r p q : Record) → n ≡ m
 rfc2822_put-unique Y n m r p q same u v =
     same_value p q (sym u ∙ ap (λ (x : Numbers). put_all Y (entries x) r) same ∙ v)
 
+-- for a text and a record, RFC 2822 has at most one reading or one error, and never both
 pub rfc2822_exact : (Y : ℕ) → IsExact (Rfc2822Reads Y) (Rfc2822Refuses Y)
 rfc2822_exact Y = record {
   one_rest = λ b r x y p q u v. ((rfc2822_form b).one_reading x y u.0 v.0 u.1 v.1).0;
@@ -132,6 +142,7 @@ put-unique Y n m k l r p q same kn lm u v =
     ∙ ap (λ (x : Month). put_all Y (rfc3339_entries m x) r) months in
     same_value p q (sym u ∙ puts ∙ v)
 
+-- for a text and a record, RFC 3339 has at most one reading or one error, and never both
 pub rfc3339_exact : (Y : ℕ) → IsExact (Rfc3339Reads Y) (Rfc3339Refuses Y)
 rfc3339_exact Y = record {
   one_rest = λ b r x y p q u v. ((form b).one_reading x y u.0 v.0 u.2 v.2).0;
@@ -142,6 +153,7 @@ rfc3339_exact Y = record {
   not_both = λ b r x p e u v. (form b).never_both x u.0 v.0 u.2 v.1;
 }
 
+-- for a text and a record, the strict RFC 3339 has at most one reading or one error, and never both
 pub strict_exact : (Y : ℕ) → IsExact (Strict.Reads Y) (Strict.Refuses Y)
 strict_exact Y = record {
   one_rest = λ b. (rfc3339_exact Y).one_rest (strict_text b);
@@ -150,6 +162,7 @@ strict_exact Y = record {
   not_both = λ b. (rfc3339_exact Y).not_both (strict_text b);
 }
 
+-- the strict direct path has at most one error for a text, and none for a text that has a moment
 pub strict_exact_path :
     IsExactPath greatest_year (direct (Strict.RefusesDirectly greatest_year)) (Strict.Reads greatest_year)
     (Strict.Refuses greatest_year)

@@ -1,4 +1,4 @@
--- A record with a text's numbers for a moment resolves to that moment.
+-- A record with a text's numbers resolves to the moment that the numbers make, and to no other.
 use Rattle.std.proofs.Common.{◌≡◌, ◌≤◌, ℕ, ℤ, pos, refl, sym, ap, ◌∙◌, subst, inl, inr, arith, Option, Some, None, Result, Ok, Err, IsTrue, MatchOption, IsOkAnd}
 use Rattle.std.specs.Prelude.{◌==◌, if◌then◌else◌, unsigned_abs}
 use Rattle.std.proofs.lemmas.Bool.Decides.{nat_tests}
@@ -23,11 +23,13 @@ use Rattle.time_record.specs.Record.{Record}
 use Rattle.time_record.specs.Resolution as Resolution
 use Rattle.time_record.specs.Resolution.{IsConstructed, Clock, clock_of, is_leap_second, replace_leap_second, offset_part, offset_seconds_of, IsDated, IsTimed, IsOffset, IsMomentOfParts, IsStamped, Row, by_month_and_day, first_row, HasRow, IsRowDate}
 
--- the clock of a text's numbers
+-- the clock of a text's numbers, with a leap second replaced by the last nanosecond before it
 abbrev pub clock_of_numbers : MomentNumbers → Clock
-clock_of_numbers s = record { hour = s.hour; minute = s.minute; second = moment_second s; nanosecond = moment_nanosecond s }
+clock_of_numbers s =
+    record { hour = s.hour; minute = s.minute; second = moment_second s; nanosecond = moment_nanosecond s }
 
--- the record has the text's numbers, with the month m
+-- the record has the text's numbers, with the month m, no seconds of an offset, and no timestamp; a second of 60 is a
+-- leap second, which it allows
 pub record HasNumbers (r : Record) (m : Month) (s : MomentNumbers) : Type 0 where
   pub row : first_row r ≡ Some (by_month_and_day (pos s.year) m s.day)
   pub month : month_number m ≡ s.month
@@ -50,12 +52,12 @@ leap_told r s same leap = eqb-true s.second 60 (sym same ∙ leap)
 accepted : {V : Type 0} (o : Option Refusal) (P : V → Type 0) (v : V) → o ≡ None → P v → IsConstructed o P (Ok v)
 accepted o P v none is = subst (λ x. IsConstructed x P (Ok v)) (sym none) is
 
--- a constructed value had no error
+-- if a value was constructed, there is no error, and the value has the property P
 pub given : {V : Type 0} (o : Option Refusal) (P : V → Type 0) (v : V) → IsConstructed o P (Ok v) → (o ≡ None) × P v
 given None P v h = (refl, h)
 given (Some e) P v h = absurd h
 
--- the date of a row
+-- a record with this first row has the date d; false if there is no row
 abbrev DatedBy : Option Row → Date → Type 0
 DatedBy row d =
     MatchOption row (◌≡◌ {A = Result Date Refusal} (Ok d) (Err insufficient)) (λ x. IsRowDate greatest_year x (Ok d))
@@ -70,12 +72,13 @@ of_date : (r : Record) (row : Row) (d : Date) → first_row r ≡ Some row → I
 unfolding IsDated
 of_date r row d e h = subst (λ x. DatedBy x d) e h
 
--- the time of a clock
+-- the time has the numbers of the clock, which are in their ranges
 abbrev ClockGives : Clock → Time → Type 0
 ClockGives c t =
     IsConstructed (time_refusal c.hour c.minute c.second c.nanosecond)
     (HasClock c.hour c.minute c.second c.nanosecond) (Ok t)
 
+-- a record with this clock has the time t; false if there is no clock
 abbrev TimedBy : Option Clock → Time → Type 0
 TimedBy clock t = MatchOption clock (◌≡◌ {A = Result Time Refusal} (Ok t) (Err insufficient)) (λ c. ClockGives c t)
 
@@ -87,10 +90,11 @@ of_time : (r : Record) (c : Clock) (t : Time) → clock_of r ≡ Some c → IsTi
 unfolding IsTimed
 of_time r c t e h = subst (λ x. TimedBy x t) e h
 
--- the offset with these parts
+-- the offset is that of this hour, minute and second by `HasOffset`, and they are in their ranges
 abbrev OffsetGives : ℤ → ℤ → ℤ → UtcOffset → Type 0
 OffsetGives h m s o = IsConstructed (offset_refusal h m s) (HasOffset h m s) (Ok o)
 
+-- a record with these parts of an offset has the offset o; false if there is no hour
 abbrev OffsetBy : Option ℤ → ℤ → ℤ → UtcOffset → Type 0
 OffsetBy hour m s o =
     MatchOption hour (◌≡◌ {A = Result UtcOffset Refusal} (Ok o) (Err insufficient)) (λ h. OffsetGives h m s o)
@@ -113,7 +117,7 @@ of_offset r s o hour minute second h =
     (subst (λ x. OffsetGives s.offset_hour x (offset_seconds_of r) o) minute
     (subst (λ x. OffsetBy x (offset_part r r.offset_minute) (offset_seconds_of r) o) hour h))
 
--- the record has no timestamp that overrides the parts
+-- the record, if its timestamp is `stamp`, has the moment v: that of its parts if there is no timestamp
 abbrev MomentBy : Option ℤ → Record → OffsetDateTime → Type 0
 MomentBy stamp r v =
     MatchOption stamp (IsMomentOfParts greatest_year r (Ok v))
@@ -131,6 +135,7 @@ of_parts : (r : Record) (v : OffsetDateTime) → r.unix_timestamp_nanos ≡ None
 unfolding Resolution.IsMoment
 of_parts r v e h = subst (λ x. MomentBy x r v) e h
 
+-- if the numbers make a moment, the record with these numbers resolves to it
 pub made-resolves : (r : Record) (m : Month) (s : MomentNumbers) (v : OffsetDateTime) → HasNumbers r m s
     → m ≡ Dates.month (offset_date v)
     → IsMade greatest_year s v → Resolution.IsMoment greatest_year r (Ok v)
@@ -169,7 +174,7 @@ made-resolves r m s v t same made =
 Err-Ok : {A : Type 0} (a : A) (e : Refusal) → ◌≡◌ {A = Result A Refusal} (Ok a) (Err e) → ⊥
 Err-Ok a e h = cc
 
--- the ranges of numbers that no part rejects
+-- the numbers are in their ranges; the month may still have no such day
 pub record Accepted (s : MomentNumbers) : Type 0 where
   pub month : s.month ≤ 12
   pub day : (1 ≤ s.day) × (s.day ≤ 31)
@@ -191,15 +196,18 @@ second_accepted h m s n e = grind (arith, nat_tests)
 month_accepted : (m : ℕ) → month_refusal m ≡ None → m ≤ 12
 month_accepted m e = grind (arith, nat_tests)
 
+-- no month has more than 31 days
 pub month_short : (y : ℤ) (m : ℕ) → month_length y m ≤ 31
 month_short y m = grind (arith, nat_tests)
 
 day_accepted : (y : ℤ) (m d : ℕ) → calendar_date_refusal greatest_year y m d ≡ None → (1 ≤ d) × (d ≤ month_length y m)
 day_accepted y m d e = (grind (arith, nat_tests), grind (arith, nat_tests))
 
+-- the hour and the minute of an offset without an error are in their ranges
 pub offset_accepted : (h m : ℤ) → offset_refusal h m (pos 0) ≡ None → (unsigned_abs h ≤ 25) × (unsigned_abs m ≤ 59)
 offset_accepted h m e = (grind (arith, nat_tests), grind (arith, nat_tests))
 
+-- numbers that no part rejects are in their ranges
 pub accepted_ranges : (s : MomentNumbers) → first_refusal greatest_year s ≡ None → Accepted s
 accepted_ranges s none =
     let second = moment_second s in
@@ -223,7 +231,7 @@ accepted_ranges s none =
       offset_minute = offset.1;
     }
 
--- no part rejects a date that exists
+-- if a date has the year, month and day of the numbers, these aren't rejected
 dated-accepted : (s : MomentNumbers) (m : Month) (d : Date) → s.year ≤ greatest_year → month_number m ≡ s.month
     → month_refusal s.month ≡ None
     → HasParts (pos s.year) m s.day d → date_refusal greatest_year s ≡ None
@@ -242,7 +250,7 @@ dated-accepted s m d year month named parts =
       le-leb s.day (month_length (pos s.year) s.month) high,
     ) refl
 
--- the parts of the record's moment are those of the text
+-- if the record's parts resolve to a moment, the text's numbers make that moment
 by_parts : (r : Record) (m : Month) (s : MomentNumbers) (v : OffsetDateTime) → HasNumbers r m s → s.year ≤ greatest_year
     → month_refusal s.month ≡ None
     → IsMomentOfParts greatest_year r (Ok v) → IsMade greatest_year s v
@@ -278,6 +286,7 @@ by_parts r m s v t year named (inr (d, dated, inr (w, timed, inr (o, offset, jud
           rw (is.0, is.1, is.2) at_end,
     )
 
+-- if the record with these numbers resolves to a moment, the numbers make that moment
 pub resolves-made : (r : Record) (m : Month) (s : MomentNumbers) (v : OffsetDateTime) → HasNumbers r m s
     → s.year ≤ greatest_year
     → month_refusal s.month ≡ None

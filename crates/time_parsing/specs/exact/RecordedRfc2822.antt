@@ -28,25 +28,28 @@ use Rattle.time_parsing.specs.exact.MomentOfNumbers.{HasNumbers, clock_of_number
 
 -- ---- Entries that are all in their ranges, stored in a record in turn
 
--- the record with the entries stored in turn
+-- the record with the entries stored in turn, whether their values are in range or not
 abbrev pub put_each : List Entry → Record → Record
 put_each [] r = r
 put_each (e ∷ es) r = put_each es (put_here e r)
 
--- each value is one that its option may have
+-- the value of each entry is in the range of its option
 abbrev pub AllInRange : ℕ → List Entry → Type 0
 AllInRange Y [] = Unit {0}
 AllInRange Y (e ∷ es) = InRange Y e × AllInRange Y es
 
+-- if each value is in its range, storing the entries succeeds, and the result is `put_each`
 pub put-each : (Y : ℕ) (es : List Entry) (r : Record) → AllInRange Y es → put_all Y es r ≡ Some (put_each es r)
 put-each Y [] r all = refl
 put-each Y (e ∷ es) r (one, others) = rw one (put-each Y es (put_here e r) others)
 
+-- if the values of both lists are in their ranges, those of the joined list are
 pub in_range-append : (Y : ℕ) (es fs : List Entry) → AllInRange Y es → AllInRange Y fs → AllInRange Y (es ++ fs)
 in_range-append Y [] fs all others = others
 in_range-append Y (e ∷ es) fs (one, all) others = (one, in_range-append Y es fs all others)
 
--- the record with the numbers: a zone name, which has no sign, also determines minute and second
+-- the record that a mail date with these numbers has over an empty one: for a zone name, which has no sign, the minute
+-- and the second of the offset are 0
 abbrev recorded : Numbers → Record
 recorded n = record (with_leap_second (without_offset_sign empty)) {
   weekday = n.weekday;
@@ -139,7 +142,7 @@ tells n none = record {
   stamp = refl;
 }
 
--- a second, if there is one, is the one in the text
+-- if the second, or 0 for a missing one, is at most 60, then a second that isn't missing is 0 to 60
 second_within : (o : Option ℕ) → unwrap_or o 0 ≤ 60 → IfSome o (λ v. (0 ≤ v) × (v ≤ 60))
 second_within None h = tt
 second_within (Some v) h = (omega arith, h)
@@ -148,7 +151,7 @@ second_of : (o : Option ℕ) → IfSome o (λ v. (0 ≤ v) × (v ≤ 60)) → If
 second_of None h = tt
 second_of (Some v) h = h.1
 
--- the ranges of numbers that form a moment
+-- numbers that no part rejects are in their ranges
 in_ranges : (n : Numbers) → first_refusal greatest_year (rfc2822_numbers n) ≡ None → InRanges n
 in_ranges n none =
     let a = accepted_ranges (rfc2822_numbers n) none in
@@ -161,7 +164,7 @@ in_ranges n none =
       offset_minute = (omega arith, a.offset_minute);
     }
 
--- the direct path's value is that of the record
+-- a moment of the direct path is that of a parse over an empty record
 pub direct-value : (bytes : List ℕ) (v : OffsetDateTime) → IsDirectRfc2822 greatest_year bytes v
     → IsOutcome (IsMoment greatest_year) (Reads greatest_year) (Refuses greatest_year) bytes empty (Ok v)
 direct-value bytes v (n, form, last, made) =
@@ -184,7 +187,7 @@ month_named : (m : Month) → month_refusal (month_number m) ≡ None
 month_named = each_month (λ m. month_refusal (month_number m) ≡ None)
     (refl, refl, refl, refl, refl, refl, refl, refl, refl, refl, refl, refl)
 
--- the record's value is that of the direct path
+-- a moment of a parse over an empty record is that of the direct path
 pub record-value : (bytes : List ℕ) (v : OffsetDateTime)
     → IsOutcome (IsMoment greatest_year) (Reads greatest_year) (Refuses greatest_year) bytes empty (Ok v)
     → IsDirectRfc2822 greatest_year bytes v
@@ -204,7 +207,7 @@ record-value bytes v (r, (n, form, put), moment) =
           (subst (λ (x : Record). IsMoment greatest_year x (Ok v)) same moment),
     )
 
--- the direct path's answer is the outcome of a parse
+-- a result of the direct path, a moment or an error, is an outcome of a parse without defaults
 pub direct-outcome : (bytes : List ℕ) (result : Result OffsetDateTime Parse)
     → DirectRfc2822 greatest_year bytes result
     → IsMomentOutcome greatest_year (direct (RefusesRfc2822 greatest_year)) (Reads greatest_year)

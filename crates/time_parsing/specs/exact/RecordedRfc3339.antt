@@ -24,7 +24,7 @@ use Rattle.time_parsing.specs.Rfc3339.{entries, date_entries, time_entries, subs
 use Rattle.time_parsing.specs.exact.RecordedRfc2822.{AllInRange, put_each, put-each, in_range-append}
 use Rattle.time_parsing.specs.exact.MomentOfNumbers.{HasNumbers, clock_of_numbers, accepted_ranges, made-resolves, resolves-made}
 
--- the record with the numbers, whose month is m
+-- the record that a text with these numbers has over an empty one; m is its month
 abbrev recorded : Numbers → Month → Record
 recorded n m = record (with_leap_second (without_offset_sign empty)) {
   year = Some (pos n.year);
@@ -102,7 +102,7 @@ tells n m month = record {
   stamp = refl;
 }
 
--- the ranges of numbers that form a moment
+-- numbers that no part rejects are in their ranges
 in_ranges : (n : Numbers) → n.month ≢ 0 → first_refusal greatest_year (rfc3339_numbers n) ≡ None
     → n.offset_minute ≤ 59 → InRanges n
 in_ranges n some none minute =
@@ -119,7 +119,7 @@ in_ranges n some none minute =
 minute_within : (n : Numbers) → minute_refusal n ≡ None → n.offset_minute ≤ 59
 minute_within n e = grind (arith, nat_tests)
 
--- the direct path's value is that of the record
+-- a moment of the direct path is that of a parse over an empty record
 pub direct-value : (bytes : List ℕ) (v : OffsetDateTime) → IsDirectRfc3339 greatest_year bytes v
     → IsOutcome (IsMoment greatest_year) (Reads greatest_year) (Refuses greatest_year) bytes empty (Ok v)
 direct-value bytes v (n, form, last, made) =
@@ -140,7 +140,7 @@ direct-value bytes v (n, form, last, made) =
       made-resolves (recorded n m) m (rfc3339_numbers n) v (tells n m month) refl made,
     )
 
--- the record's value is that of the direct path
+-- a moment of a parse over an empty record is that of the direct path
 pub record-value : (bytes : List ℕ) (v : OffsetDateTime)
     → IsOutcome (IsMoment greatest_year) (Reads greatest_year) (Refuses greatest_year) bytes empty (Ok v)
     → IsDirectRfc3339 greatest_year bytes v
@@ -160,7 +160,7 @@ record-value bytes v (r, (n, m, form, month, put), moment) =
           (subst (λ (x : Record). IsMoment greatest_year x (Ok v)) same moment),
     )
 
--- the direct path's answer is the outcome of a parse
+-- a result of the direct path, a moment or an error, is an outcome of a parse without defaults
 pub direct-outcome : (bytes : List ℕ) (result : Result OffsetDateTime Parse)
     → DirectRfc3339 greatest_year bytes result
     → IsMomentOutcome greatest_year (direct (RefusesRfc3339 greatest_year)) (Reads greatest_year)

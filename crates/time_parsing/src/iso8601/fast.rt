@@ -1,6 +1,7 @@
 //! The commonest texts of ISO 8601, parsed whole and without a record.
 //!
-//! Each function returns the value that parsing over the record would give, or `None`: not this form.
+//! Each function returns the value that parsing over the record would give, or `None`. After `None` the text is parsed
+//! over the record, which may still accept it.
 ghost use Rattle.std.specs.Prelude.{◌≡◌, [], IfSome, Some, Ok};
 ghost use Rattle.time_values.specs.Moments.{plain_date, plain_time};
 ghost use Rattle.time_values.specs.Calendar.{greatest_year};
@@ -18,7 +19,9 @@ use time_readers::iso8601::{
 };
 use time_values::{Date, OffsetDateTime, PlainDateTime, Time, UtcOffset};
 
-// The date and time of a whole text, which may have an offset after them. `None`: not this form.
+// The date and time of a whole text, which may have an offset after them; the offset is ignored. `None` if the text
+// doesn't begin with a date by month and day and a time, as in `parts`, or if bytes after these aren't an offset,
+// or if the date doesn't exist, or the second is 60.
 #[inline(always)]
 pub(super) fn date_time(input: &[u8]) -> Option<PlainDateTime>
     ensures { IfSome result (λ p. IsOutcome (IsPlain greatest_year) (Reads greatest_year)
@@ -33,7 +36,8 @@ pub(super) fn date_time(input: &[u8]) -> Option<PlainDateTime>
     Some(plain)
 }
 
-// The moment of a whole text. `None`: not this form.
+// The date, time and offset of a whole text. `None` if the text isn't a date by month and day and a time, as in
+// `parts`, with an offset up to the end, or if the date doesn't exist, or the second is 60.
 #[inline(always)]
 pub(super) fn moment(input: &[u8]) -> Option<OffsetDateTime>
     ensures { IfSome result (λ v. IsOutcome (IsMoment greatest_year) (Reads greatest_year)
@@ -46,8 +50,8 @@ pub(super) fn moment(input: &[u8]) -> Option<OffsetDateTime>
     Some(OffsetDateTime::new_in_offset(plain.date(), plain.time(), offset))
 }
 
-/// The date and time of these numbers. `None`: not this form, for example if they are no date of the calendar, or a
-/// leap second.
+/// The date and time of these numbers. `None` if the date is by the day of the year or by the week, or doesn't exist,
+/// or if a number of the time is out of its range, as a second of 60.
 #[inline(always)]
 pub fn date_time_of(date: DateNumbers, time: TimeNumbers) -> Option<PlainDateTime>
     ensures { IfSome result (λ p. (iso_date date ≡ iso_date_of (plain_date p)) × (time ≡ time_numbers_of (plain_time p))) }
@@ -63,7 +67,8 @@ pub fn date_time_of(date: DateNumbers, time: TimeNumbers) -> Option<PlainDateTim
     }
 }
 
-// The offset of these numbers. `None`: not this form.
+// The offset of these numbers: UTC for `Z`, or else the hour and the minute with 0 seconds. `None` if the hour isn't
+// -25 to 25, or the minute isn't -59 to 59.
 #[inline(always)]
 fn offset_of(numbers: OffsetNumbers) -> Option<UtcOffset>
     ensures { IfSome result (IsOffsetOfNumbers numbers) }
@@ -74,8 +79,8 @@ fn offset_of(numbers: OffsetNumbers) -> Option<UtcOffset>
     }
 }
 
-// The date and the time of a text that looks as if it began with a date of the calendar, whose year has four digits,
-// and a time. `None`: not this form, which is found out before other dates are read.
+// The date at the start of a text, and the time after it if there is one. `None` if its date can't be parsed, or if the
+// text has neither both `-` of `YYYY-MM-DD`, nor the `T` of `YYYYMMDDT` and a month that begins with 0 or 1.
 #[inline(always)]
 fn parts(input: &[u8]) -> Option<DateAndTime<'_>>
     ensures { IfSome result (λ p. ReturnsDateAndTime input.now (Ok p)) }
@@ -87,7 +92,8 @@ fn parts(input: &[u8]) -> Option<DateAndTime<'_>>
     }
 }
 
-/// The ISO 8601 offset that is all of the bytes. `None`: not this form.
+/// The ISO 8601 offset that is the whole input: `Z`, or a sign, an hour and an optional minute. `kind` is the kind of
+/// the text before it. `None` if the input isn't such an offset, or if the hour is above 25 or the minute above 59.
 #[inline(always)]
 pub fn offset_to_the_end(input: &[u8], kind: ExtendedKind) -> Option<UtcOffset>
     ensures { IfSome result (λ o. (n : OffsetNumbers_) × (offset_found kind input.now ≡ Some ([], n)) × IsOffsetOfNumbers n o) }

@@ -1,7 +1,7 @@
-//! Parsers of forms whose parts are at fixed places.
+//! Parsers of the commonest texts of the forms.
 //!
-//! Each returns the numbers and the rest that the form's steps parse one after the other, each number in its range, or
-//! `None`: not this form.
+//! Each returns the numbers and the rest that the form's steps parse one after the other, or `None`. After `None` the
+//! steps may still match. The parsers of dates, times and offsets check the ranges of their numbers.
 ghost use Rattle.std.specs.Prelude.{◌≡◌, ◌∷◌, ◌++◌, ◌≤◌, IfSome, ℕ, List, false, true, nat_le, pos, unsigned_abs, FitsSigned};
 ghost use Rattle.std.specs.Int.{w8, w32};
 ghost use Rattle.time_values.specs.Calendar.{greatest_year};
@@ -25,7 +25,7 @@ use time_components::component::fast;
 use time_components::{Padding, ParsedItem, SubsecondDigits, modifier};
 use time_values::Month;
 
-/// The rest after this byte. `None`: the input doesn't begin with it.
+/// The rest of the input after its first byte, if that is `byte`. `None`: the input is empty or begins with another.
 #[inline(always)]
 pub(crate) fn after(input: &[u8], byte: u8) -> Option<&[u8]>
     ensures { IfSome result (λ rest. input.now ≡ byte ∷ rest.now) }
@@ -36,7 +36,9 @@ pub(crate) fn after(input: &[u8], byte: u8) -> Option<&[u8]>
     }
 }
 
-/// Reads a number in two places: two digits, or what the padding allows instead. `None`: neither.
+/// Reads the value of the first two ASCII digits, 0 to 99. If there are fewer, reads one digit if the padding is
+/// `None`, or a space and a digit if it is `Space`. Returns the rest after them too, or `None` if the input begins
+/// otherwise.
 #[inline(always)]
 pub(crate) fn places(input: &[u8], padding: Padding) -> Option<ParsedItem<'_, u8>>
     ensures { IfSome result (λ found. Cut (IsPaddedRun padding 2 2) input.now found.0.now found.1) }
@@ -51,7 +53,7 @@ pub(crate) fn places(input: &[u8], padding: Padding) -> Option<ParsedItem<'_, u8
     }
 }
 
-// Reads a space and a digit.
+// Reads a space and an ASCII digit, as the digit's value. `None` if the input begins otherwise.
 #[inline(always)]
 fn spaced_digit(input: &[u8]) -> Option<ParsedItem<'_, u8>>
     ensures { IfSome result (λ found. Cut (IsPaddedRun Space 2 2) input.now found.0.now found.1) }
@@ -62,7 +64,9 @@ fn spaced_digit(input: &[u8]) -> Option<ParsedItem<'_, u8>>
     }
 }
 
-/// Reads a year of four digits, which is in either range of years. `None`: not this form.
+/// Reads a year of four ASCII digits without a sign, 0 to 9999, whatever the padding. A fifth digit is left in the
+/// rest. Components of both ranges of years parse it equally. `None` if there are fewer digits, or if the sign is
+/// mandatory.
 #[inline(always)]
 pub(crate) fn year(
     input: &[u8],
@@ -83,7 +87,8 @@ pub(crate) fn year(
     Some(ParsedItem(year.0, year.1 as i32))
 }
 
-/// Reads a month's number. `None`: no such number.
+/// Reads a month by its number: two ASCII digits, or what else `places` accepts with this padding. `None` if there is
+/// no number, or if it isn't 1 to 12.
 #[inline(always)]
 pub(crate) fn month_number(
     input: &[u8],
@@ -99,7 +104,8 @@ pub(crate) fn month_number(
     }
 }
 
-/// Reads a month's first three letters, a capital and two small ones. `None`: not this form.
+/// Reads the first three letters of a month's English name, a capital and two small ones, whatever the modifiers.
+/// `None`: the input doesn't begin with them.
 #[inline(always)]
 pub(crate) fn month_name(
     input: &[u8],
@@ -115,7 +121,8 @@ pub(crate) fn month_name(
     Some(ParsedItem(rest, month))
 }
 
-/// Reads a day. `None`: no day.
+/// Reads a day's number, 1 to 99: two ASCII digits, or what else `places` accepts with this padding. It isn't checked
+/// against 31. `None` if there is no number, or if it is 0.
 #[inline(always)]
 pub(crate) fn day(input: &[u8], modifiers: modifier::Day) -> Option<ParsedItem<'_, NonZero<u8>>>
     ensures { IfSome result (λ found. Cut (Spells false (component.Day modifiers))
@@ -125,7 +132,7 @@ pub(crate) fn day(input: &[u8], modifiers: modifier::Day) -> Option<ParsedItem<'
     Some(ParsedItem(day.0, NonZero::<u8>::new(day.1)?))
 }
 
-/// Reads a number in two places. `None`: no such number.
+/// Reads a number, 0 to 99: two ASCII digits, or what else `places` accepts with this padding. `None` if there is none.
 #[inline(always)]
 pub(crate) fn two_places(input: &[u8], padding: Padding) -> Option<ParsedItem<'_, u8>>
     ensures { IfSome result (λ found. Cut (HasMappedValue number (IsPaddedRun padding 2 2))
@@ -135,7 +142,8 @@ pub(crate) fn two_places(input: &[u8], padding: Padding) -> Option<ParsedItem<'_
     Some(found)
 }
 
-/// Reads the minute of an offset, up to 59. `None`: no such minute.
+/// Reads the minute of an offset, without a sign: two ASCII digits, or what else `places` accepts with this padding.
+/// `None` if there is no number, or if it is above 59.
 #[inline(always)]
 pub(crate) fn offset_minute(
     input: &[u8],
@@ -153,7 +161,8 @@ pub(crate) fn offset_minute(
     Some(ParsedItem(minute.0, minute.1 as i8))
 }
 
-/// Reads a date of that form. `None`: not this form.
+/// Reads a date of that form with a year of four digits without a sign, and returns the rest. `None` if the input
+/// doesn't begin with one. The day is 1 to 31, and isn't checked against the month.
 #[inline(always)]
 pub(crate) fn date<'a>(form: &Dated, input: &'a [u8]) -> Option<(DateNumbers, &'a [u8])>
     ensures { IfSome result (λ f. (r : Record) → ReadsAll greatest_year (leaves (dated_parts form.now))
@@ -167,7 +176,8 @@ pub(crate) fn date<'a>(form: &Dated, input: &'a [u8]) -> Option<(DateNumbers, &'
     }
 }
 
-/// Reads a date of ten bytes, by a year of either range. `None`: not this form.
+/// Reads `YYYY MM DD` with the byte `between` for each space, and returns the rest. Components of both ranges of years
+/// parse it equally. `None` if the input begins otherwise, or if the month isn't 1 to 12 or the day isn't 1 to 31.
 #[inline(always)]
 pub(crate) fn year_first(input: &[u8], between: u8) -> Option<(DateNumbers, &[u8])>
     ensures extended { IfSome result (λ f. (r : Record) → ReadsAll greatest_year (leaves (date_parts between))
@@ -189,7 +199,8 @@ pub(crate) fn year_first(input: &[u8], between: u8) -> Option<(DateNumbers, &[u8
     Some((numbers, day.0))
 }
 
-/// Reads a date of eleven bytes. `None`: not this form.
+/// Reads `DD Mmm YYYY` with the byte `between` for each space, and returns the rest. `Mmm` is the short English name of
+/// a month, such as `Mar`. `None` if the input begins otherwise, or if the day isn't 1 to 31.
 #[inline(always)]
 pub(crate) fn day_first(input: &[u8], between: u8) -> Option<(DateNumbers, &[u8])>
     ensures { IfSome result (λ f. (r : Record) → ReadsAll greatest_year (leaves (day_first_parts between))
@@ -209,7 +220,8 @@ pub(crate) fn day_first(input: &[u8], between: u8) -> Option<(DateNumbers, &[u8]
     Some((numbers, year.0))
 }
 
-/// Reads a time of eight bytes. `None`: not this form.
+/// Reads `HH MM SS` with the byte `between` for each space, and returns the rest. `None` if the input begins otherwise,
+/// or if the hour is above 23, the minute above 59 or the second above 60.
 #[inline(always)]
 pub(crate) fn clock(between: u8, input: &[u8]) -> Option<(ClockNumbers, &[u8])>
     ensures { IfSome result (λ f. (r : Record) → ReadsAll greatest_year (leaves (time_parts between))
@@ -229,7 +241,7 @@ pub(crate) fn clock(between: u8, input: &[u8]) -> Option<(ClockNumbers, &[u8])>
     Some((numbers, second.0))
 }
 
-/// The rest after this byte, or all of the input if no byte is given. `None`: the input doesn't begin with the byte.
+/// The rest of the input after `byte`, or all of the input without a `byte`. `None`: the input doesn't begin with it.
 #[inline(always)]
 pub(crate) fn after_byte(input: &[u8], byte: Option<u8>) -> Option<&[u8]>
     ensures { IfSome result (λ rest. input.now ≡ bytes_of byte ++ rest.now) }
@@ -240,7 +252,9 @@ pub(crate) fn after_byte(input: &[u8], byte: Option<u8>) -> Option<&[u8]>
     }
 }
 
-/// Reads an offset with a sign, of two digits for its hour and two for its minute. `None`: not this form.
+/// Reads an offset: `+` or `-`, two digits of the hour, the byte `between` if it is given, and two digits of the
+/// minute. Returns the rest too. `None` if the input begins otherwise, or if the hour is above 25 or the minute above
+/// 59.
 #[inline(always)]
 pub(crate) fn offset(between: Option<u8>, input: &[u8]) -> Option<(OffsetNumbers, &[u8])>
     ensures reads { IfSome result (λ f. (r : Record) → ReadsAll greatest_year (leaves (offset_parts between))
@@ -272,7 +286,9 @@ fn begins_with(input: &[u8], byte: u8) -> bool
     }
 }
 
-/// The nanoseconds of a fraction after this byte, and the rest. Without that byte there is no fraction.
+/// The nanoseconds of a fraction of one to nine digits after the byte `point`, and the rest. If the input doesn't begin
+/// with that byte, there is no fraction, and the rest is the input. `None` if no digit or more than nine follow the
+/// byte.
 #[inline(always)]
 pub(crate) fn fraction(input: &[u8], point: u8) -> Option<(Option<u32>, &[u8])>
     ensures reads { IfSome result (λ f. (r : Record) → Reads greatest_year (fraction_tree point)
@@ -289,7 +305,9 @@ pub(crate) fn fraction(input: &[u8], point: u8) -> Option<(Option<u32>, &[u8])>
     Some((Some(fraction.1), fraction.0))
 }
 
-/// A second after this byte with its fraction, and the rest. Without that byte there is no second.
+/// A second of two digits, 0 to 60, after the byte `between`, with the nanoseconds of its optional fraction after
+/// `point`, and the rest. If the input doesn't begin with `between`, there is no second, and the rest is the input.
+/// `None` if no such second follows the byte, or if no digit or more than nine follow the byte `point`.
 #[inline(always)]
 pub(crate) fn second(
     input: &[u8],

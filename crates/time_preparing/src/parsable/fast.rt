@@ -1,6 +1,7 @@
-//! Whole texts of one form, parsed as values without a record.
+//! Whole texts by the known form of a prepared description, parsed as values without a record.
 //!
-//! Each function returns the value that parsing over the record would give, or `None`: not this form.
+//! Each function returns the value that parsing over the record would give, or `None`. After `None` the text is parsed
+//! over the record, which may still accept it.
 ghost use Rattle.std.specs.Prelude.{IfSome, Ok};
 ghost use Rattle.time_components.specs.Tree.{steps_shape};
 ghost use Rattle.time_record.specs.Reading.{Reads, Refuses};
@@ -14,7 +15,8 @@ use crate::whole::fast::{self, in_year};
 use time_record::Parsed;
 use time_values::{Date, OffsetDateTime, PlainDateTime, Time};
 
-/// The date of a whole text. `None`: not this form.
+/// The date of a whole text. `None`: the description's form isn't `Whole::Date`, or the text isn't such a date of the
+/// calendar with a year of four digits.
 #[inline(always)]
 pub(super) fn date<const N: usize>(format: &Prepared<N>, input: &[u8]) -> Option<Date>
     ensures { IfSome result (λ v. IsOutcome (IsDated greatest_year) (Reads greatest_year (steps_shape format.now))
@@ -23,7 +25,8 @@ pub(super) fn date<const N: usize>(format: &Prepared<N>, input: &[u8]) -> Option
     fast::date(format.whole(), input)
 }
 
-/// The time of a whole text. `None`: not this form.
+/// The time of a whole text. `None`: the description's form isn't `Whole::Time` or `Whole::Half`, the text isn't such a
+/// time, its second is 60, or its fraction has more than nine digits.
 #[inline(always)]
 pub(super) fn time<const N: usize>(format: &Prepared<N>, input: &[u8]) -> Option<Time>
     ensures { IfSome result (λ v. IsOutcome IsTimed (Reads greatest_year (steps_shape format.now))
@@ -32,7 +35,10 @@ pub(super) fn time<const N: usize>(format: &Prepared<N>, input: &[u8]) -> Option
     fast::time(format.whole(), input)
 }
 
-/// The date and time of a whole text over the defaults. `None`: not this form.
+/// The date and time of a whole text. The description's form must be `Whole::Plain` without defaults, and
+/// `Whole::InYear` with defaults, whose year is then the date's. `None`: another form, a text that isn't such a valid
+/// date and time, one of `Whole::Plain` whose year isn't four digits, a second of 60, or defaults without a year, or
+/// with an ordinal or a fraction of a second.
 #[inline(always)]
 pub(super) fn date_time<const N: usize>(
     format: &Prepared<N>,
@@ -49,7 +55,8 @@ pub(super) fn date_time<const N: usize>(
     }
 }
 
-/// The moment of a whole text. `None`: not this form.
+/// The date, time and offset of a whole text. `None`: the description's form isn't `Whole::Moment`, the text isn't such
+/// a valid date, time and offset with a year of four digits, or its second is 60.
 #[inline(always)]
 pub(super) fn moment<const N: usize>(format: &Prepared<N>, input: &[u8]) -> Option<OffsetDateTime>
     ensures { IfSome result (λ v. IsOutcome (IsMoment greatest_year) (Reads greatest_year (steps_shape format.now))

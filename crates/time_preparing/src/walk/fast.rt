@@ -1,7 +1,8 @@
 //! Parsers of joined steps.
 //!
-//! Each returns the rest after what the steps parse one after the other, and stores their values. `None`: not this
-//! form, and the record is unchanged; then the steps are walked.
+//! Each stores in the record the values that the steps would store, and returns the unread rest. `None`: the input
+//! isn't in the commonest form, or a value is out of range. Then the record is unchanged, and the steps, parsed one by
+//! one, may still match.
 ghost use Rattle.std.specs.Prelude.{◌≡◌, ◌<◌, ◌≤◌, IfSome, ◌∷◌, ℕ, List, false, Some, None};
 ghost use Rattle.time_values.specs.Calendar.{greatest_year};
 ghost use Rattle.time_components.specs.Tree.{component as component_tree, more, none as none_};
@@ -20,7 +21,8 @@ use time_components::component::parse_period;
 use time_components::{Component, Period, modifier};
 use time_record::Parsed;
 
-// Reads a component. The commonest ones are parsed inline.
+// Reads a component and stores its value. The commonest ones are parsed inline. Returns the rest. `None`, without a
+// change: the text doesn't match, or is a less common text of one of these.
 #[inline(always)]
 pub(super) fn component<'a>(
     parsed: &mut Parsed,
@@ -48,7 +50,8 @@ pub(super) fn component<'a>(
     }
 }
 
-// Reads a year of four digits.
+// Reads a year of four digits without a sign, whatever the padding, and stores it. Returns the rest. `None`, without a
+// change, for another text, or if the sign is mandatory.
 #[inline(always)]
 pub(super) fn year<'a>(
     parsed: &mut Parsed,
@@ -63,7 +66,7 @@ pub(super) fn year<'a>(
     Some(found.0)
 }
 
-// Reads a year of four digits, by a description that accepts no year of more.
+// Reads a year as `year` does, for a component that accepts no year of more than four digits.
 #[inline(always)]
 fn standard_year<'a>(
     parsed: &mut Parsed,
@@ -82,7 +85,8 @@ fn standard_year<'a>(
     Some(found.0)
 }
 
-// Reads a day of the year, of three digits.
+// Reads a day of the year of three digits, 1 to 366, whatever the padding, and stores it. Returns the rest, or `None`
+// without a change.
 #[inline(always)]
 fn ordinal<'a>(
     parsed: &mut Parsed,
@@ -97,7 +101,8 @@ fn ordinal<'a>(
     Some(found.0)
 }
 
-// Reads the first letters of a month's name.
+// Reads the first three letters of a month's English name, a capital and two small ones, whatever the modifiers, and
+// stores the month. Returns the rest, or `None` without a change.
 #[inline(always)]
 pub(super) fn month_name<'a>(
     parsed: &mut Parsed,
@@ -112,7 +117,8 @@ pub(super) fn month_name<'a>(
     Some(found.0)
 }
 
-// Reads an hour of the 12-hour clock.
+// Reads an hour of the 12-hour clock, 1 to 12, with this padding, and stores it. Returns the rest, or `None` without a
+// change.
 #[inline(always)]
 fn hour_12<'a>(
     parsed: &mut Parsed,
@@ -127,7 +133,8 @@ fn hour_12<'a>(
     Some(found.0)
 }
 
-// Reads the half of a day, AM or PM.
+// Reads AM or PM in a case that the modifiers accept, and stores whether it is PM. Returns the rest, or `None` without
+// a change.
 #[inline(always)]
 fn period<'a>(parsed: &mut Parsed, input: &'a [u8], modifiers: modifier::Period) -> Option<&'a [u8]>
     ensures { MayRead greatest_year (component_tree false (components.Period modifiers))
@@ -138,7 +145,7 @@ fn period<'a>(parsed: &mut Parsed, input: &'a [u8], modifiers: modifier::Period)
     Some(found.0)
 }
 
-// Whether the half of a day is PM.
+// `true` for PM, `false` for AM.
 #[inline(always)]
 fn is_pm(period: Period) -> bool
     ensures { result ≡ is_pm_ period }
@@ -149,7 +156,8 @@ fn is_pm(period: Period) -> bool
     }
 }
 
-// Reads a month's number.
+// Reads a month's number, 1 to 12, with this padding, and stores the month. Returns the rest, or `None` without a
+// change.
 #[inline(always)]
 pub(super) fn month<'a>(
     parsed: &mut Parsed,
@@ -164,7 +172,7 @@ pub(super) fn month<'a>(
     Some(found.0)
 }
 
-// Reads a day.
+// Reads a day of the month, 1 to 31, with this padding, and stores it. Returns the rest, or `None` without a change.
 #[inline(always)]
 pub(super) fn day<'a>(
     parsed: &mut Parsed,
@@ -179,7 +187,8 @@ pub(super) fn day<'a>(
     Some(found.0)
 }
 
-// Reads an hour of the 24-hour clock.
+// Reads an hour of the 24-hour clock, 0 to 23, with this padding, and stores it. Returns the rest, or `None` without a
+// change.
 #[inline(always)]
 pub(super) fn hour_24<'a>(
     parsed: &mut Parsed,
@@ -194,7 +203,7 @@ pub(super) fn hour_24<'a>(
     Some(found.0)
 }
 
-// Reads a minute.
+// Reads a minute, 0 to 59, with this padding, and stores it. Returns the rest, or `None` without a change.
 #[inline(always)]
 pub(super) fn minute<'a>(
     parsed: &mut Parsed,
@@ -209,7 +218,7 @@ pub(super) fn minute<'a>(
     Some(found.0)
 }
 
-// Reads a second.
+// Reads a second, 0 to 60, with this padding, and stores it. Returns the rest, or `None` without a change.
 #[inline(always)]
 pub(super) fn second<'a>(
     parsed: &mut Parsed,
@@ -224,7 +233,8 @@ pub(super) fn second<'a>(
     Some(found.0)
 }
 
-// Reads the minute of an offset.
+// Reads the minute of an offset, 0 to 59 without a sign, with this padding, and stores it. Returns the rest, or `None`
+// without a change.
 #[inline(always)]
 fn offset_minute<'a>(
     parsed: &mut Parsed,
@@ -239,7 +249,7 @@ fn offset_minute<'a>(
     Some(found.0)
 }
 
-// Stores nanoseconds, if there are any.
+// Stores the nanoseconds of the second, if there are any.
 #[inline(always)]
 fn put_fraction(parsed: &mut Parsed, fraction: Option<u32>)
     requires { IfSome fraction (λ n. n ≤ 999_999_999) }
@@ -250,7 +260,7 @@ fn put_fraction(parsed: &mut Parsed, fraction: Option<u32>)
     }
 }
 
-// Stores a second with its nanoseconds, if there is one.
+// Stores the second, if there is one, and its nanoseconds, if it has any.
 #[inline(always)]
 fn put_second(parsed: &mut Parsed, second: Option<(u8, Option<u32>)>)
     requires { IfSome second (λ s. (s.0 ≤ 60) × IfSome s.1 (λ n. n ≤ 999_999_999)) }
@@ -262,7 +272,8 @@ fn put_second(parsed: &mut Parsed, second: Option<(u8, Option<u32>)>)
     }
 }
 
-// Reads an optional fraction.
+// Reads an optional fraction of one to nine digits after the byte `point`, and stores its nanoseconds. Without that
+// byte the rest is the input, and nothing is stored. `None`, without a change, if no digit or more than nine follow it.
 #[inline(always)]
 pub(super) fn fraction<'a>(parsed: &mut Parsed, input: &'a [u8], point: u8) -> Option<&'a [u8]>
     ensures { MayReadAll (more (fraction_tree point) none_) input.now parsed.old result parsed.new }
@@ -272,7 +283,9 @@ pub(super) fn fraction<'a>(parsed: &mut Parsed, input: &'a [u8], point: u8) -> O
     Some(found.1)
 }
 
-// Reads an optional second with its optional fraction.
+// Reads an optional second after the byte `between`, with an optional fraction after `point`, and stores them. Without
+// the byte `between` the rest is the input, and nothing is stored. `None`, without a change, if no second of two
+// digits, 0 to 60, follows it, or if no digit or more than nine follow `point`.
 #[inline(always)]
 pub(super) fn seconds<'a>(
     parsed: &mut Parsed,

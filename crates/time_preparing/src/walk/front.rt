@@ -1,4 +1,4 @@
-//! Joined steps, parsed in turn and as far as they match: a second root over the parsers of single parts.
+//! Parses joined steps one after the other, as far as they match. Like `walk.rt`, this module may call the fast paths.
 ghost use Rattle.std.specs.Prelude.{◌≡◌, ◌<◌, ◌≤◌, IsTrue, MatchOption, take};
 ghost use Rattle.time_values.specs.Calendar.{greatest_year};
 ghost use Rattle.time_record.specs.Reading.{ReadsAll};
@@ -14,18 +14,20 @@ use crate::joined::Joined;
 use time_components::Component;
 use time_record::Parsed;
 
-/// Steps that were parsed in turn.
+/// The result of parsing joined steps as far as they match.
 #[derive(Clone, Copy)]
 pub(super) struct Front<'a> {
-    /// How many there are.
+    /// How many steps were parsed.
     pub count: usize,
-    /// The rest after them.
+    /// The unread rest after these steps.
     pub rest: &'a [u8],
-    /// Whether they are all of the joined steps, and there is one at least.
+    /// Whether all of the joined steps were parsed, and at least one.
     pub is_all: bool,
 }
 
-/// Parses joined steps as far as they match. `left` is how many steps there are from here on.
+/// Parses joined steps as far as they match, and stores their values. An optional group is parsed wholly or not at all.
+/// `left` is how many steps there are from here on; if they are fewer than the joined ones, none is parsed. For
+/// `Joined::Nothing` none is parsed either.
 #[inline(always)]
 pub(super) fn read<'a>(
     joined: &Joined,
@@ -53,7 +55,7 @@ pub(super) fn read<'a>(
     }
 }
 
-// No step was parsed.
+// The result if no step was parsed: the rest is the input.
 #[inline(always)]
 fn none(input: &[u8]) -> Front<'_>
     ensures count { result.count ≡ 0 }
@@ -63,7 +65,7 @@ fn none(input: &[u8]) -> Front<'_>
     part(0, input)
 }
 
-// The first `count` steps were parsed, and there are more.
+// The result if the first `count` of the joined steps were parsed, but not all.
 #[inline(always)]
 fn part(count: usize, rest: &[u8]) -> Front<'_>
     ensures count { result.count ≡ count }
@@ -77,7 +79,8 @@ fn part(count: usize, rest: &[u8]) -> Front<'_>
     }
 }
 
-// All `count` steps were parsed if there is a rest, and otherwise none.
+// The result if all `count` joined steps were parsed, up to this rest. Without a rest none was parsed, and the result's
+// rest is the input.
 #[inline(always)]
 fn whole<'a>(count: usize, rest: Option<&'a [u8]>, input: &'a [u8]) -> Front<'a>
     requires { 0 < count }
@@ -96,7 +99,8 @@ fn whole<'a>(count: usize, rest: Option<&'a [u8]>, input: &'a [u8]) -> Front<'a>
     }
 }
 
-// Reads three components in turn with this byte between them, as far as they match.
+// Reads three components one after the other, with this byte between them, and stores them, as far as they match. Each
+// is given by its parser and its modifiers.
 macro_rules! three {
     ($parsed:expr, $input:expr, $between:expr, $first:ident $a:ident, $second:ident $b:ident, $third:ident $c:ident) => {{
         let Some(first) = $first($parsed, $input, $a) else {
@@ -122,7 +126,7 @@ macro_rules! three {
     }};
 }
 
-// Reads a year, a month and a day in turn, as far as they match.
+// Reads a year, a month's number and a day, with this byte between them, and stores them, as far as they match.
 #[inline(always)]
 fn date<'a>(between: u8, parsed: &mut Parsed, input: &'a [u8]) -> Front<'a>
     ensures within { result.count ≤ 5 }
@@ -133,7 +137,7 @@ fn date<'a>(between: u8, parsed: &mut Parsed, input: &'a [u8]) -> Front<'a>
     three!(parsed, input, between, year YEAR, month MONTH, day DAY)
 }
 
-// Reads a day, a month's name and a year in turn, as far as they match.
+// Reads a day, a month's short name and a year, with this byte between them, and stores them, as far as they match.
 #[inline(always)]
 fn day_first<'a>(between: u8, parsed: &mut Parsed, input: &'a [u8]) -> Front<'a>
     ensures within { result.count ≤ 5 }
@@ -144,7 +148,8 @@ fn day_first<'a>(between: u8, parsed: &mut Parsed, input: &'a [u8]) -> Front<'a>
     three!(parsed, input, between, day DAY, month_name MONTH_NAME, year YEAR)
 }
 
-// Reads an hour, a minute and a second in turn, as far as they match.
+// Reads an hour of the 24-hour clock, a minute and a second, with this byte between them, and stores them, as far as
+// they match.
 #[inline(always)]
 fn time<'a>(between: u8, parsed: &mut Parsed, input: &'a [u8]) -> Front<'a>
     ensures within { result.count ≤ 5 }
@@ -155,7 +160,7 @@ fn time<'a>(between: u8, parsed: &mut Parsed, input: &'a [u8]) -> Front<'a>
     three!(parsed, input, between, hour_24 HOUR, minute MINUTE, second SECOND)
 }
 
-// Reads a month's name and a day in turn with this byte between them, as far as they match.
+// Reads a month's short name and a day, with this byte between them, and stores them, as far as they match.
 #[inline(always)]
 fn month_day<'a>(between: u8, parsed: &mut Parsed, input: &'a [u8]) -> Front<'a>
     ensures within { result.count ≤ 3 }

@@ -1,7 +1,7 @@
-//! Whole texts of one form, parsed without a record.
+//! Whole texts of a known form, parsed without a record.
 //!
-//! `form` returns the form of some steps. Each parser returns the value that the record of the whole text resolves to,
-//! or `None`.
+//! `whole` and `form` return the form of some steps. Each parser returns the value that the steps parse from the whole
+//! text, or `None`. After `None` the steps may still parse the text.
 ghost use Rattle.std.specs.Prelude.{◌≡◌, ◌≤◌, ◌∷◌, ◌++◌, ℕ, pos, IfSome, Ok};
 ghost use Rattle.time_values.specs.Sign.{signed_by};
 ghost use Rattle.time_values.specs.Calendar.{greatest_year};
@@ -27,15 +27,17 @@ use crate::forms::{
 use time_components::{Group, Step};
 use time_values::{Date, OffsetDateTime, PlainDateTime, Time, UtcOffset};
 
-// The fewest bytes of a date, of a time and of an offset. Checking them first saves each parser a check for the end.
+// The fewest bytes of a date. Checking the length first saves each parser a check for the end.
 const DATE_LEN: usize = 10;
 
+// The fewest bytes of a time.
 const TIME_LEN: usize = 8;
 
+// The fewest bytes of an offset, without a byte between its hour and minute.
 const OFFSET_LEN: usize = 5;
 
-/// The form of the texts that these steps parse. If the steps are a choice that begins with a list, it is the form of
-/// the texts that the list parses. `None`: none of the known forms.
+/// The form of the texts that these steps parse. If the steps are one group of alternatives that begins with a list, it
+/// is the form of the texts that the list parses. `None`: none of the known forms.
 pub(super) fn whole(steps: &[Step]) -> Option<Whole>
     ensures { IfSome result (λ whole. Leads whole steps.now) }
 {
@@ -51,7 +53,7 @@ pub(super) fn whole(steps: &[Step]) -> Option<Whole>
     }
 }
 
-// The steps of the first list, if all of the steps are a choice that begins with it.
+// The steps in the first list, if all of the steps are one group of alternatives that begins with it, or else `None`.
 fn first_list(steps: &[Step]) -> Option<&[Step]>
     ensures { IfSome result (λ list. IsLed list.now steps.now) }
 {
@@ -70,7 +72,7 @@ fn first_list(steps: &[Step]) -> Option<&[Step]>
     Some(first)
 }
 
-// How many steps a group of the wanted kind has.
+// How many steps the group step counts as its own, or `None` if the step isn't a group of the wanted kind.
 fn len_of(step: &Step, wanted: Group) -> Option<usize>
     ensures { IfSome result (λ len. step.now ≡ step_.Group wanted len) }
 {
@@ -80,7 +82,7 @@ fn len_of(step: &Step, wanted: Group) -> Option<usize>
     }
 }
 
-// The form of these steps.
+// The form of exactly these steps. `None`: none of the known forms.
 fn form(steps: &[Step]) -> Option<Whole>
     ensures { IfSome result (λ whole. steps.now ≡ whole_parts whole) }
 {
@@ -107,7 +109,8 @@ fn form(steps: &[Step]) -> Option<Whole>
     plain_form(date, *between, others)
 }
 
-// The form of a date, this byte, and the steps after the byte.
+// The form of a date, this byte, and these steps after the byte: a time, or a time and an offset. `None`: the steps
+// aren't such ones.
 fn plain_form(date: Dated, between: u8, steps: &[Step]) -> Option<Whole>
     ensures { IfSome result (λ whole. dated_parts date ++ step_.Literal between ∷ steps.now ≡ whole_parts whole) }
 {
@@ -129,7 +132,8 @@ fn plain_form(date: Dated, between: u8, steps: &[Step]) -> Option<Whole>
     }))
 }
 
-// The bytes before an offset and in it.
+// The byte before an offset, if there is one, and the byte between its hour and minute, if there is one. `None`: the
+// steps aren't those of an offset.
 fn offset_form(steps: &[Step]) -> Option<(Option<u8>, Option<u8>)>
     ensures { IfSome result (λ form. steps.now ≡ byte_parts form.0 ++ offset_parts form.1) }
 {
@@ -141,7 +145,8 @@ fn offset_form(steps: &[Step]) -> Option<(Option<u8>, Option<u8>)>
     Some((None, within))
 }
 
-// The byte between the parts of an offset.
+// The byte between the hour and minute of an offset, `Some(None)` if there is none. `None`: the steps aren't those of
+// an offset.
 fn parts_form(steps: &[Step]) -> Option<Option<u8>>
     ensures { IfSome result (λ between. steps.now ≡ offset_parts between) }
 {
@@ -154,7 +159,7 @@ fn parts_form(steps: &[Step]) -> Option<Option<u8>>
     }
 }
 
-// The form of a date.
+// The form of a date with exactly these steps. `None`: the steps aren't those of a date.
 fn dated_form(steps: &[Step]) -> Option<Dated>
     ensures { IfSome result (λ form. steps.now ≡ dated_parts form) }
 {
@@ -173,7 +178,7 @@ fn dated_form(steps: &[Step]) -> Option<Dated>
     None
 }
 
-// The byte in a time.
+// The byte between the parts of a time. `None`: the steps aren't exactly those of a time.
 fn time_form(steps: &[Step]) -> Option<u8>
     ensures { IfSome result (λ between. steps.now ≡ time_parts between) }
 {
@@ -185,7 +190,8 @@ fn time_form(steps: &[Step]) -> Option<u8>
     }
 }
 
-// A date of the calendar at the front of the input, and the rest.
+// A date of that form at the front of the input, and the rest. `None` if there is none, or if it is no date of the
+// calendar.
 #[inline(always)]
 fn date_of<'a>(form: &Dated, input: &'a [u8]) -> Option<(Date, &'a [u8])>
     ensures { IfSome result (λ f. (r : Record) → ReadsAll greatest_year (leaves (dated_parts form.now))
@@ -198,7 +204,8 @@ fn date_of<'a>(form: &Dated, input: &'a [u8]) -> Option<(Date, &'a [u8])>
     }
 }
 
-// A time of day at the front of the input, and the rest. `None` for a leap second.
+// A time of day, `HH MM SS` with this byte for each space, at the front of the input, and the rest. `None` if there is
+// none, or if its second is 60.
 #[inline(always)]
 fn time_of(between: u8, input: &[u8]) -> Option<(Time, &[u8])>
     ensures reads { IfSome result (λ f. (r : Record) → ReadsAll greatest_year (leaves (time_parts between))
@@ -212,7 +219,7 @@ fn time_of(between: u8, input: &[u8]) -> Option<(Time, &[u8])>
     }
 }
 
-// The minute of an offset, which is negative after a minus sign.
+// The minute, or its negation if the offset's sign was a minus.
 #[inline(always)]
 fn signed(is_negative: bool, minute: i8) -> i8
     requires { (n : ℕ) × (n ≤ 59) × (minute ≡ pos n) }
@@ -221,7 +228,7 @@ fn signed(is_negative: bool, minute: i8) -> i8
     if is_negative { -minute } else { minute }
 }
 
-// An offset at the front of the input, and the rest.
+// An offset at the front of the input, as `fast::offset` reads it, and the rest. `None` if there is none.
 #[inline(always)]
 fn offset_of(between: Option<u8>, input: &[u8]) -> Option<(UtcOffset, &[u8])>
     ensures { IfSome result (λ f. (numbers : OffsetNumbers) × IsOf numbers f.0
@@ -235,7 +242,8 @@ fn offset_of(between: Option<u8>, input: &[u8]) -> Option<(UtcOffset, &[u8])>
     }
 }
 
-/// The date of a whole text. `None`: not this form.
+/// The date of a whole text. `None` if the form isn't `Whole::Date`, or the text isn't such a date of the calendar with
+/// a year of four digits.
 #[inline(always)]
 pub(crate) fn date(whole: &Whole, input: &[u8]) -> Option<Date>
     ensures { IfSome result (λ v. ReadsWhole whole.now input.now (λ r. IsDated greatest_year r (Ok v))) }
@@ -253,7 +261,8 @@ pub(crate) fn date(whole: &Whole, input: &[u8]) -> Option<Date>
     Some(date)
 }
 
-/// The time of a whole text. `None`: not this form.
+/// The time of a whole text. `None` if the form isn't `Whole::Time` or `Whole::Half`, the text isn't such a time, its
+/// second is 60, or its fraction has more than nine digits.
 #[inline(always)]
 pub(crate) fn time(whole: &Whole, input: &[u8]) -> Option<Time>
     ensures { IfSome result (λ v. ReadsWhole whole.now input.now (λ r. IsTimed r (Ok v))) }
@@ -271,7 +280,8 @@ pub(crate) fn time(whole: &Whole, input: &[u8]) -> Option<Time>
     Some(time)
 }
 
-/// The date and time of a whole text. `None`: not this form.
+/// The date and time of a whole text. `None` if the form isn't `Whole::Plain`, the text isn't such a valid date and
+/// time with a year of four digits, or its second is 60.
 #[inline(always)]
 pub(crate) fn date_time(whole: &Whole, input: &[u8]) -> Option<PlainDateTime>
     ensures { IfSome result (λ v. ReadsWhole whole.now input.now (λ r. IsPlain greatest_year r (Ok v))) }
@@ -290,7 +300,8 @@ pub(crate) fn date_time(whole: &Whole, input: &[u8]) -> Option<PlainDateTime>
     Some(PlainDateTime::new(date, time))
 }
 
-/// The moment of a whole text. `None`: not this form.
+/// The date, time and offset of a whole text. `None` if the form isn't `Whole::Moment`, the text isn't such a valid
+/// date, time and offset with a year of four digits, or its second is 60.
 #[inline(always)]
 pub(crate) fn moment(whole: &Whole, input: &[u8]) -> Option<OffsetDateTime>
     ensures { IfSome result (λ v. ReadsWhole whole.now input.now (λ r. IsMoment greatest_year r (Ok v))) }
@@ -301,7 +312,7 @@ pub(crate) fn moment(whole: &Whole, input: &[u8]) -> Option<OffsetDateTime>
     if input.len() < DATE_LEN + 1 + TIME_LEN + OFFSET_LEN {
         return None;
     }
-    // The minute of the offset is parsed last, so its form is checked first.
+    // The minute of the offset is parsed last, so its digits are checked first.
     let [.., b'0'..=b'5', b'0'..=b'9'] = input else {
         return None;
     };

@@ -20,7 +20,7 @@ pub(super) use dates_and_times::{basic_date_and_time, extended_date_and_time};
 use std::num::NonZero;
 use time_values::Month;
 
-/// The digits of a calendar date in pairs, the bytes after the date, and its kind.
+/// The two-digit numbers of a calendar date, 0 to 99 each, the bytes after the date, and its kind.
 #[derive(Clone, Copy)]
 pub struct CalendarDigits<'a> {
     /// The first two digits of the year.
@@ -37,7 +37,8 @@ pub struct CalendarDigits<'a> {
     pub kind: ExtendedKind,
 }
 
-// Parses a calendar date with a year of four digits. `None` for any other form.
+// Parses a calendar date with a year of four digits, a month of 01 to 12 and a day of 01 to 99, with separators or
+// without. `None` for any other form.
 #[inline(always)]
 pub(in crate::iso8601) fn date(input: &[u8]) -> Option<Part<'_, DateNumbers>>
     ensures { IfSome result (λ p. ReturnsPartOrFault iso_date (date_text input.now) (Ok p)) }
@@ -54,7 +55,7 @@ pub(in crate::iso8601) fn date(input: &[u8]) -> Option<Part<'_, DateNumbers>>
     })
 }
 
-/// Parses the digits of a calendar date with separators. `None` for any other form.
+/// Parses a calendar date as `2021-01-02`, with a month and a day of any two digits. `None` for any other form.
 #[inline(always)]
 pub fn extended_date(input: &[u8]) -> Option<CalendarDigits<'_>>
     ensures digits { IfSome result (AreCalendarDigits input.now) }
@@ -87,7 +88,7 @@ pub fn extended_date(input: &[u8]) -> Option<CalendarDigits<'_>>
     })
 }
 
-/// Parses the digits of a calendar date without separators. `None` for any other form.
+/// Parses a calendar date as `20210102`, with a month and a day of any two digits. `None` for any other form.
 #[inline(always)]
 pub fn basic_date(input: &[u8]) -> Option<CalendarDigits<'_>>
     ensures digits { IfSome result (AreCalendarDigits input.now) }
@@ -118,7 +119,7 @@ pub fn basic_date(input: &[u8]) -> Option<CalendarDigits<'_>>
     })
 }
 
-/// The date of these digits, or `None` if no month has that number or the day is 0.
+/// The date of these digits, or `None` if the month isn't 1 to 12 or the day is 0. Other days, up to 99, are accepted.
 #[inline(always)]
 pub fn date_of(digits: CalendarDigits<'_>) -> Option<DateNumbers>
     ensures { (text : List ℕ) → AreCalendarDigits text digits.entry → IfSome result (λ d. date_text text
@@ -141,7 +142,8 @@ pub fn date_of(digits: CalendarDigits<'_>) -> Option<DateNumbers>
     }
 }
 
-// Parses `T`, a whole hour, a whole minute and a second, with separators or without. `None` for any other form.
+// Parses `T`, a whole hour, a whole minute and a second, with separators or without. `None` for any other form, and for
+// one that the kind doesn't allow.
 #[inline(always)]
 pub(in crate::iso8601) fn time<'a>(
     input: &'a [u8],
@@ -152,7 +154,8 @@ pub(in crate::iso8601) fn time<'a>(
     after_t(byte::<b'T'>(input)?, kind)
 }
 
-// Parses a whole hour, a whole minute and a second, with separators or without. `None` for any other form.
+// Parses a whole hour, a whole minute and a second, with separators or without. `None` for any other form, and for one
+// that the kind doesn't allow.
 #[inline(always)]
 fn after_t<'a>(input: &'a [u8], kind: ExtendedKind) -> Option<Part<'a, TimeNumbers>>
     ensures { IfSome result (λ p. ReturnsPart (spec.time_after kind input.now) (Some p)) }
@@ -167,7 +170,8 @@ fn after_t<'a>(input: &'a [u8], kind: ExtendedKind) -> Option<Part<'a, TimeNumbe
     }
 }
 
-// Parses a whole minute and a second after a whole hour. `None` for any other form.
+// Parses a whole minute and a second after a whole hour, as a time with that hour. `None` for an extended kind and for
+// any other form.
 #[inline(always)]
 fn basic_time<'a>(input: &'a [u8], kind: ExtendedKind, hour: u8) -> Option<Part<'a, TimeNumbers>>
     requires hour { hour ≤ 23 }
@@ -195,7 +199,8 @@ fn basic_time<'a>(input: &'a [u8], kind: ExtendedKind, hour: u8) -> Option<Part<
     })
 }
 
-// Parses a whole minute, a colon and a second after a whole hour and a colon. `None` for any other form.
+// Parses a whole minute, a colon and a second after a whole hour and a colon, as a time with that hour. `None` for a
+// basic kind and for any other form.
 #[inline(always)]
 fn extended_time<'a>(input: &'a [u8], kind: ExtendedKind, hour: u8) -> Option<Part<'a, TimeNumbers>>
     requires { hour ≤ 23 }
@@ -223,7 +228,8 @@ fn extended_time<'a>(input: &'a [u8], kind: ExtendedKind, hour: u8) -> Option<Pa
     })
 }
 
-// Parses a second of 0 to 60 and its nanoseconds.
+// Parses a second of 0 to 60 and its fraction, if any, as the second and the nanoseconds, rounded half up. `None` for
+// any other form, and if the fraction rounds to 1.
 #[inline(always)]
 pub(super) fn second(input: &[u8]) -> Option<ParsedItem<'_, (u8, u32)>>
     ensures { IfSome result (λ p. (n : Number) × (number input.now ≡ Some (p.0.now, n))
@@ -244,7 +250,8 @@ pub(super) fn second(input: &[u8]) -> Option<ParsedItem<'_, (u8, u32)>>
     rounded_second(input)
 }
 
-// Parses a second of 0 to 60 and a fraction, rounded to nanoseconds.
+// Parses a second of 0 to 60 and a fraction, as the second and the nanoseconds, rounded half up. `None` for any other
+// form, and if the fraction rounds to 1.
 #[inline(never)]
 fn rounded_second(input: &[u8]) -> Option<ParsedItem<'_, (u8, u32)>>
     ensures { IfSome result (λ p. (n : Number) × (number input.now ≡ Some (p.0.now, n))
@@ -259,7 +266,7 @@ fn rounded_second(input: &[u8]) -> Option<ParsedItem<'_, (u8, u32)>>
     Some(ParsedItem(found.0, (found.1.0, nanoseconds as u32)))
 }
 
-// Parses two digits with neither `.` nor `,` after them. `None` for any other form.
+// Parses two digits, 0 to 99, with neither `.` nor `,` after them. `None` for any other form.
 #[inline(always)]
 fn whole_number(input: &[u8]) -> Option<ParsedItem<'_, u8>>
     ensures { IfSome result (λ p. number input.now ≡ Some (p.0.now, plain p.1)) }
@@ -271,7 +278,8 @@ fn whole_number(input: &[u8]) -> Option<ParsedItem<'_, u8>>
     }
 }
 
-// Parses two digits and a fraction of nine digits, which are nanoseconds. `None` for any other form.
+// Parses two digits, 0 to 99, and a fraction of exactly nine digits, as the number and the nanoseconds. `None` for any
+// other form.
 #[inline(always)]
 fn nanoseconds(input: &[u8]) -> Option<ParsedItem<'_, (u8, u32)>>
     ensures { IfSome result (λ p. (digits : List ℕ) × (number input.now ≡ Some (p.0.now, fraction p.1.0 digits))

@@ -20,7 +20,7 @@ use crate::iso8601::{DateAndTime, DateNumbers, ExtendedKind, OffsetNumbers, Part
 use time_values::error::ParseFromDescription;
 use time_values::sign::signed;
 
-// Parses the date of a text, and the time after it, whose `T` is required.
+// Parses the date of a text, and the time after it, whose `T` is required. A time that is missing or invalid is `None`.
 #[inline(never)]
 pub(in crate::iso8601) fn date_and_time(
     input: &[u8],
@@ -63,7 +63,8 @@ pub(in crate::iso8601) fn date(input: &[u8]) -> Result<Part<'_, DateNumbers>, Pa
     }
 }
 
-// Parses the first of the three forms that matches after a year.
+// Parses the first of the three forms that matches after a year and, if `is_extended`, the `-` after it. The error is
+// that of the week's form after a `W`, and else that of the month's.
 #[inline(always)]
 #[tactic(auto, unfolding(crate::specs::IsoDates::forms))]
 fn after_year(
@@ -86,6 +87,8 @@ fn after_year(
     }
 }
 
+// Parses a month of 01 to 12 and a day of 01 to 99 after that year, with `-` between them if `is_extended`. The error
+// is that of the first piece that doesn't match: `month`, an invalid literal, or `day`.
 #[inline(always)]
 fn month_and_day(
     input: &[u8],
@@ -106,6 +109,8 @@ fn month_and_day(
     Ok(ParsedItem(day.0, DateNumbers::Calendar(year, month.1, day.1)))
 }
 
+// Parses a week of 01 to 99 and a weekday of 1 to 7 after that year and a `W`, with `-` between them if `is_extended`.
+// The error is that of the first piece that doesn't match: `week`, an invalid literal, or `weekday`.
 fn week_and_weekday(
     input: &[u8],
     year: i32,
@@ -125,7 +130,7 @@ fn week_and_weekday(
     Ok(ParsedItem(weekday.0, DateNumbers::Week(year, week.1, weekday.1)))
 }
 
-// Parses `-` in an extended text, and nothing in a basic one.
+// Parses `-` in an extended text, and nothing in a basic one. Returns the rest, or `None` if the `-` is missing.
 #[inline(always)]
 fn dash(input: &[u8], is_extended: bool) -> Option<&[u8]>
     ensures { Leaves (spec.dash is_extended input.now) result }
@@ -137,11 +142,12 @@ fn dash(input: &[u8], is_extended: bool) -> Option<&[u8]>
     }
 }
 
-/// Parses the offset of a text of that kind: `Z`, or a sign, an hour of two digits from 0 to 25, and a minute.
+/// Parses the offset of a text of that kind: capital `Z`, or a sign, an hour of two digits, 0 to 25, and a minute.
 ///
 /// If the text isn't basic and a colon follows the hour, two digits from 0 to 59 must follow the colon. Otherwise the
-/// minute is optional, and 0 if it is missing; if two digits follow the hour, they must be 0 to 59. A colon makes an
-/// unknown kind extended, and nothing else changes the kind.
+/// minute is optional, and 0 if it is missing; if two digits follow the hour, they must be 0 to 59. In a basic text a
+/// colon after the hour begins the rest. A parsed colon makes an unknown kind extended, and nothing else changes the
+/// kind.
 ///
 /// Returns `None` for any other text.
 #[inline(always)]
@@ -171,7 +177,8 @@ pub fn offset(input: &[u8], kind: ExtendedKind) -> Option<Part<'_, OffsetNumbers
     })
 }
 
-// Parses the minute of an offset, 0 if it is missing, and returns the kind after it.
+// Parses the minute of an offset, 0 to 59, and 0 if it is missing, and returns the kind after it. `None` if the text
+// isn't basic and a colon has no two digits of 0 to 59 after it, or if there are two digits above 59 without a colon.
 #[inline(always)]
 #[tactic(auto, unfolding(crate::specs::IsoGrammar::offset_minute))]
 fn offset_minute(input: &[u8], kind: ExtendedKind) -> Option<Part<'_, u8>>
@@ -202,7 +209,7 @@ fn offset_minute(input: &[u8], kind: ExtendedKind) -> Option<Part<'_, u8>>
 
 /// The fraction of a unit, truncated to a whole number.
 ///
-/// For n digits of value w, it is the floor of w * unit / 10^n.
+/// For n digits of value w, it is the floor of w * unit / 10^n. Without digits it is 0.
 ///
 /// `digits` are the bytes `0` to `9` after the point, any number of them, and `unit` is 1 to 3600000000000,
 /// the nanoseconds of an hour.
@@ -218,7 +225,8 @@ pub fn floor_fraction(digits: &[u8], unit: u64) -> u64
 
 /// The fraction of a unit, rounded to the nearest whole number, and a half up.
 ///
-/// It is the unit itself if the fraction is close to 1.
+/// For n digits of value w, it is w * unit / 10^n, rounded. Without digits it is 0. It is the unit itself if the
+/// fraction is close to 1.
 ///
 /// `digits` are the bytes `0` to `9` after the point, any number of them, and `unit` is 1 to 3600000000000,
 /// the nanoseconds of an hour.

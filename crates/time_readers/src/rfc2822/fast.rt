@@ -18,9 +18,11 @@ use crate::{ParsedItem, block, component};
 use std::simd::prelude::*;
 use time_values::sign::signed;
 
-// The least and the greatest value of each of the first sixteen bytes, as of ` Jan 2021 03:04:`.
+// The least value of each of the first sixteen bytes, as of ` Jan 2021 03:04:`. The month and the hour are checked
+// later.
 const LEAST: [u8; 16] = *b" A\x00\x00 0000 00:00:";
 
+// The greatest value of each of the first sixteen bytes.
 const GREATEST: [u8; 16] = *b" \xff\xff\xff 9999 29:59:";
 
 // Whether the byte isn't a blank or a carriage return, so that no blank and no fold begins with it.
@@ -95,9 +97,9 @@ pub(super) fn opt_cfws_colon_opt_cfws(input: &[u8]) -> Option<ParsedItem<'_, ()>
     }
 }
 
-/// Parses a weekday's name of a capital and two small letters, a comma and one space.
+/// Parses a weekday's name of a capital and two small letters, a comma and one space, before a byte above `(`.
 ///
-/// Returns the rest, or `None` for any other form, with the numbers unchanged.
+/// Stores the weekday. Returns the rest after the space, or `None` for any other form, with the numbers unchanged.
 #[inline(always)]
 pub fn weekday_name<'a>(input: &'a [u8], numbers: &mut Numbers) -> Option<&'a [u8]>
     ensures { MatchOption result
@@ -112,7 +114,7 @@ pub fn weekday_name<'a>(input: &'a [u8], numbers: &mut Numbers) -> Option<&'a [u
     Some(&input[5..])
 }
 
-// The numbers of the pairs of digits.
+// The numbers of the pairs of digits of these bytes: the two of the year, the hour and the minute.
 #[inline(always)]
 fn pairs(bytes: &[u8; 16]) -> [u8; 4]
     ensures { AllWithin LEAST GREATEST bytes.now → result ≡ map (pair_at bytes.now) (5 ∷ 7 ∷ 10 ∷ 13 ∷ []) }
@@ -125,8 +127,10 @@ fn pairs(bytes: &[u8; 16]) -> [u8; 4]
 
 /// Parses the places from the blanks after the day to those after the second, if all blanks are one space.
 ///
-/// These are nineteen bytes, the first sixteen tested at once. Returns the rest, or `None` for any other form, with the
-/// numbers unchanged. A second of 60 isn't of this form.
+/// These are nineteen bytes, the first sixteen tested at once: a month's name of a capital and two small letters, a
+/// year of four digits, 1900 or later, an hour, a minute and a second. A byte above `(` must follow them. Stores their
+/// numbers. Returns the rest, or `None` for any other form, with the numbers unchanged. A second of 60 isn't of this
+/// form. With `CHECK_RANGES` the hour is at most 23, and else at most 29.
 #[inline(always)]
 pub fn to_offset<'a, const CHECK_RANGES: bool>(
     text: &'a [u8],
@@ -166,9 +170,10 @@ pub fn to_offset<'a, const CHECK_RANGES: bool>(
     Some(&rest[3..])
 }
 
-/// Parses a sign and four digits at the end of the input.
+/// Parses a sign and four digits that are the whole input. With `CHECK_RANGES` the hour is at most 25, the minute 59.
 ///
-/// Returns the empty rest, or `None` for any other form, with the numbers unchanged.
+/// Stores the sign, and the hour and the minute with that sign. Returns the empty rest, or `None` for any other form,
+/// with the numbers unchanged.
 #[inline(always)]
 pub fn offset<'a, const CHECK_RANGES: bool>(
     input: &'a [u8],

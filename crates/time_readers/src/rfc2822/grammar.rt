@@ -17,7 +17,8 @@ use crate::rfc2822::{Numbers, Place, cfws, fws, opt_cfws, opt_cfws_colon_opt_cfw
 use crate::{ParsedItem, modifier};
 use time_values::sign::signed;
 
-// Parses blanks, and then nothing or a weekday's name, a comma and blanks.
+// Parses optional blanks, and then nothing, or the first three letters of a weekday's name in any case, a comma and
+// optional blanks. Stores the weekday, or `None`. Returns `None` for a name without a comma.
 #[inline(always)]
 pub(super) fn weekday_name<'a>(input: &'a [u8], numbers: &mut Numbers) -> Option<&'a [u8]>
     ensures { Reads (PlaceSyntax false place.WeekdayName numbers.old) input.now result numbers.new }
@@ -35,7 +36,7 @@ pub(super) fn weekday_name<'a>(input: &'a [u8], numbers: &mut Numbers) -> Option
     Some(opt_cfws(comma.0).0)
 }
 
-// Parses one or two digits: 1 to 31 with range checks.
+// Parses and stores a day of one or two digits: 1 to 31 with range checks.
 #[inline(always)]
 pub(super) fn day<'a, const CHECK_RANGES: bool>(
     input: &'a [u8],
@@ -51,7 +52,8 @@ pub(super) fn day<'a, const CHECK_RANGES: bool>(
     Some(found.0)
 }
 
-// Parses the places after the day, up to the offset.
+// Parses the places after the day and before the offset, and stores their numbers. Returns the rest, or the first place
+// that doesn't match.
 #[inline(always)]
 pub(super) fn to_offset<'a, const CHECK_RANGES: bool>(
     input: &'a [u8],
@@ -63,6 +65,7 @@ pub(super) fn to_offset<'a, const CHECK_RANGES: bool>(
     time::<CHECK_RANGES>(rest, numbers)
 }
 
+// Parses the places of the month and the year, with the blanks beside them, and stores their numbers.
 #[inline(always)]
 fn month_and_year<'a, const CHECK_RANGES: bool>(
     input: &'a [u8],
@@ -77,6 +80,7 @@ fn month_and_year<'a, const CHECK_RANGES: bool>(
     year_blanks(rest, numbers.year_is_full).ok_or(Place::YearBlanks)
 }
 
+// Parses the places of the time and the blanks after it, and stores their numbers.
 #[inline(always)]
 fn time<'a, const CHECK_RANGES: bool>(
     input: &'a [u8],
@@ -91,7 +95,8 @@ fn time<'a, const CHECK_RANGES: bool>(
     blanks_with_comments(rest).ok_or(Place::TimeBlanks)
 }
 
-// Parses the places of the offset.
+// Parses the places of the offset and the blanks after it, and stores its numbers. Returns the rest, or the first place
+// that doesn't match.
 #[inline]
 pub(super) fn offset<'a, const CHECK_RANGES: bool>(
     input: &'a [u8],
@@ -115,7 +120,7 @@ fn rest_of(answer: Option<ParsedItem<'_, ()>>) -> Option<&[u8]>
     }
 }
 
-// Parses blanks and comments.
+// Parses blanks and comments, one or more of them.
 #[inline(always)]
 fn blanks_with_comments(input: &[u8]) -> Option<&[u8]>
     ensures { (n : Numbers) → Reads (IsSilent spec.cfws n) input.now result n }
@@ -123,7 +128,7 @@ fn blanks_with_comments(input: &[u8]) -> Option<&[u8]>
     rest_of(cfws(input))
 }
 
-// Parses the first three letters of a month's name, in any case.
+// Parses the first three letters of a month's name, in any case, and stores the month.
 #[inline(always)]
 fn month_name<'a>(input: &'a [u8], numbers: &mut Numbers) -> Option<&'a [u8]>
     ensures { Reads (PlaceSyntax false place.MonthName numbers.old) input.now result numbers.new }
@@ -136,8 +141,8 @@ fn month_name<'a>(input: &'a [u8], numbers: &mut Numbers) -> Option<&'a [u8]>
     Some(found.0)
 }
 
-// Parses four digits of 1900 or later; or, without four digits, two: 00 to 49 as 2000 to 2049, and 50 to 99 as 1950 to
-// 1999.
+// Parses and stores a year: four digits of 1900 or later; or, without four digits, two: 00 to 49 as 2000 to 2049, and
+// 50 to 99 as 1950 to 1999. Stores also whether it has four digits.
 #[inline(always)]
 fn year<'a>(input: &'a [u8], numbers: &mut Numbers) -> Option<&'a [u8]>
     ensures { Reads (PlaceSyntax false place.Year numbers.old) input.now result numbers.new }
@@ -169,7 +174,7 @@ fn year_blanks(input: &[u8], year_is_full: bool) -> Option<&[u8]>
     }
 }
 
-// Parses two digits: 0 to 23 with range checks.
+// Parses and stores an hour of two digits: 0 to 23 with range checks, else 0 to 99.
 #[inline(always)]
 fn hour<'a, const CHECK_RANGES: bool>(input: &'a [u8], numbers: &mut Numbers) -> Option<&'a [u8]>
     ensures { Reads (PlaceSyntax CHECK_RANGES place.Hour numbers.old) input.now result numbers.new }
@@ -187,7 +192,7 @@ fn hour_colon(input: &[u8]) -> Option<&[u8]>
     rest_of(opt_cfws_colon_opt_cfws(input))
 }
 
-// Parses two digits: 0 to 59 with range checks.
+// Parses two digits and stores them as the minute: 0 to 59 with range checks, else 0 to 99.
 #[inline(always)]
 fn minute<'a, const CHECK_RANGES: bool>(input: &'a [u8], numbers: &mut Numbers) -> Option<&'a [u8]>
     ensures { Reads (PlaceSyntax CHECK_RANGES place.Minute numbers.old) input.now result numbers.new }
@@ -197,7 +202,8 @@ fn minute<'a, const CHECK_RANGES: bool>(input: &'a [u8], numbers: &mut Numbers) 
     Some(found.0)
 }
 
-// Parses nothing if there is no colon, or a colon with blanks and two digits: 0 to 60 with range checks.
+// Parses nothing if there is no colon, and stores `None`; or a colon with optional blanks and two digits, and stores
+// the second: 0 to 60 with range checks, else 0 to 99. Returns `None` for a colon without such digits.
 #[inline(always)]
 fn second<'a, const CHECK_RANGES: bool>(input: &'a [u8], numbers: &mut Numbers) -> Option<&'a [u8]>
     ensures { Reads (PlaceSyntax CHECK_RANGES place.Second numbers.old) input.now result numbers.new }
@@ -211,7 +217,8 @@ fn second<'a, const CHECK_RANGES: bool>(input: &'a [u8], numbers: &mut Numbers) 
     Some(found.0)
 }
 
-// Parses a sign and two digits, 0 to 25 with range checks; or a zone name. No zone name begins with a sign.
+// Parses a sign and two digits, 0 to 25 with range checks; or a zone name. Stores the sign, or `None` for a zone name,
+// and the hour. No zone name begins with a sign.
 #[inline(always)]
 fn offset_hour<'a, const CHECK_RANGES: bool>(
     input: &'a [u8],
@@ -231,7 +238,8 @@ fn offset_hour<'a, const CHECK_RANGES: bool>(
     Some(found.0)
 }
 
-// Parses two digits after a signed hour, 0 to 59 with range checks, and nothing after a zone name.
+// Parses two digits after a signed hour, 0 to 59 with range checks, and stores the minute with that sign. Parses
+// nothing after a zone name, and leaves the minute unchanged.
 #[inline(always)]
 fn offset_minute<'a, const CHECK_RANGES: bool>(
     input: &'a [u8],

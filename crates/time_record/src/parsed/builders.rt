@@ -1,4 +1,5 @@
-//! Builders: each returns a record with one more component, or `None` if the value is out of range.
+//! Builders: each returns the record with one component set, in place of an earlier value, or `None` if the value is
+//! out of range.
 ghost use Rattle.std.specs.Prelude.{◌≡◌, pos};
 ghost use Rattle.std.specs.Int.NonZero.{non_zero_u8_get, non_zero_u16_get};
 ghost use Rattle.time_values.specs.Calendar.{greatest_year};
@@ -18,8 +19,8 @@ impl Parsed {
         Some(self)
     }
 
-    /// Sets the calendar year without its last two digits, from -9999 to 9999. It is negative by its sign, and a 0 is
-    /// if `is_negative`. `None` if out of range.
+    /// Sets the calendar year without its last two digits, from -9999 to 9999, and whether it is negative: by the
+    /// value's sign, or for 0 by `is_negative`. `None` if out of range.
     #[inline]
     pub fn with_year_century(mut self, value: i16, is_negative: bool) -> Option<Parsed>
         ensures { result ≡ put greatest_year (year_century_is value is_negative) self }
@@ -46,8 +47,8 @@ impl Parsed {
         Some(self)
     }
 
-    /// Sets the year of the ISO 8601 week date without its last two digits, from -9999 to 9999. It is negative by its
-    /// sign, and a 0 is if `is_negative`. `None` if out of range.
+    /// Sets the year of the ISO 8601 week date without its last two digits, from -9999 to 9999, and whether it is
+    /// negative: by the value's sign, or for 0 by `is_negative`. `None` if out of range.
     #[inline]
     pub fn with_iso_year_century(mut self, value: i16, is_negative: bool) -> Option<Parsed>
         ensures { result ≡ put greatest_year (iso_year_century_is value is_negative) self }
@@ -74,7 +75,8 @@ impl Parsed {
         Some(self)
     }
 
-    /// Sets the week of the year, from 0 to 53, where week 1 begins on the first Sunday. `None` if out of range.
+    /// Sets the week of the year, from 0 to 53, where week 1 begins on the first Sunday and week 0 is the days before.
+    /// `None` if out of range.
     #[inline]
     pub fn with_sunday_week_number(mut self, value: u8) -> Option<Parsed>
         ensures { result ≡ put greatest_year (sunday_week_number_is value) self }
@@ -83,7 +85,8 @@ impl Parsed {
         Some(self)
     }
 
-    /// Sets the week of the year, from 0 to 53, where week 1 begins on the first Monday. `None` if out of range.
+    /// Sets the week of the year, from 0 to 53, where week 1 begins on the first Monday and week 0 is the days before.
+    /// `None` if out of range.
     #[inline]
     pub fn with_monday_week_number(mut self, value: u8) -> Option<Parsed>
         ensures { result ≡ put greatest_year (monday_week_number_is value) self }
@@ -146,7 +149,7 @@ impl Parsed {
         Some(self)
     }
 
-    /// Sets whether `hour_12` lies in the second half of the day; never returns `None`.
+    /// Sets whether `hour_12` lies in the second half of the day: `true` for PM. Never returns `None`.
     #[inline]
     pub fn with_hour_12_is_pm(mut self, value: bool) -> Option<Parsed>
         ensures { result ≡ put greatest_year (hour_12_is_pm_is value) self }
@@ -183,6 +186,10 @@ impl Parsed {
     }
 
     /// Sets the whole hours of the offset from UTC, from -25 to 25. `None` if out of range.
+    ///
+    /// Doesn't change the flag of a negative offset, which parsing an offset's hour with a minus sets. While it is set,
+    /// `offset_minute_signed` and `offset_second_signed` return the stored numbers negated, whatever the sign of this
+    /// value; `forget_offset_sign` clears it.
     #[inline]
     pub fn with_offset_hour(mut self, value: i8) -> Option<Parsed>
         ensures { result ≡ put greatest_year (offset_hour_is value) self }
@@ -191,7 +198,8 @@ impl Parsed {
         Some(self)
     }
 
-    /// Sets the minutes of the offset from UTC to a positive number, from 0 to 59. `None` if out of range.
+    /// Sets the minutes of the offset from UTC to a number from 0 to 59. `None` if out of range. While the flag of a
+    /// negative offset is set, `offset_minute_signed` returns the number negated.
     #[deprecated(note = "`with_offset_minute_signed` takes a sign")]
     #[inline]
     pub fn with_offset_minute(mut self, value: u8) -> Option<Parsed>
@@ -201,7 +209,8 @@ impl Parsed {
         Some(self)
     }
 
-    /// Sets the minutes of the offset from UTC, from -59 to 59. `None` if out of range.
+    /// Sets the minutes of the offset from UTC, from -59 to 59. `None` if out of range. While the flag of a negative
+    /// offset is set, `offset_minute_signed` returns the number negated.
     #[inline]
     pub fn with_offset_minute_signed(mut self, value: i8) -> Option<Parsed>
         ensures { result ≡ put greatest_year (offset_minute_is value) self }
@@ -210,7 +219,8 @@ impl Parsed {
         Some(self)
     }
 
-    /// Sets the seconds of the offset from UTC to a positive number, from 0 to 59. `None` if out of range.
+    /// Sets the seconds of the offset from UTC to a number from 0 to 59. `None` if out of range. While the flag of a
+    /// negative offset is set, `offset_second_signed` returns the number negated.
     #[deprecated(note = "`with_offset_second_signed` takes a sign")]
     #[inline]
     pub fn with_offset_second(mut self, value: u8) -> Option<Parsed>
@@ -220,7 +230,8 @@ impl Parsed {
         Some(self)
     }
 
-    /// Sets the seconds of the offset from UTC, from -59 to 59. `None` if out of range.
+    /// Sets the seconds of the offset from UTC, from -59 to 59. `None` if out of range. While the flag of a negative
+    /// offset is set, `offset_second_signed` returns the number negated.
     #[inline]
     pub fn with_offset_second_signed(mut self, value: i8) -> Option<Parsed>
         ensures { result ≡ put greatest_year (offset_second_is value) self }

@@ -2,7 +2,8 @@
 //!
 //! Bits 0 to 22 of the mask mark which of the 23 options are set, and bits 23 to 26 are the four flags. Cell i has the
 //! value of option i: 0 to 15 are bytes, 16 to 18 shorts, 19 to 21 words, and 22 is the timestamp. The cell of an
-//! option that isn't set contains 0.
+//! option that isn't set contains 0. A month is stored as 1 to 12, a weekday as 0 for Monday to 6 for Sunday, and a
+//! `bool` as 0 or 1.
 ghost use Rattle.std.specs.Prelude.{◌≡◌, true, false, ◌≤◌, ◌<◌, ◌^◌, ◌&&◌, ℕ, IfSome};
 ghost use Rattle.time_values.specs.Calendar.{greatest_year};
 ghost use Rattle.time_record.specs.Record.{InRange, unix_timestamp_nanos_is};
@@ -11,6 +12,7 @@ ghost use Rattle.time_record.specs.CellAnswers.{changed, holds, put_cell, put_fl
 
 use crate::Parsed;
 
+// The index of each option: of its bit in the mask and of its cell. 0 to 15 are in `bytes`.
 pub(super) const YEAR_LAST_TWO: usize = 0;
 
 pub(super) const ISO_YEAR_LAST_TWO: usize = 1;
@@ -43,20 +45,24 @@ pub(super) const OFFSET_MINUTE: usize = 14;
 
 pub(super) const OFFSET_SECOND: usize = 15;
 
+// 16 to 18 are in `shorts`.
 pub(super) const YEAR_CENTURY: usize = 16;
 
 pub(super) const ISO_YEAR_CENTURY: usize = 17;
 
 pub(super) const ORDINAL: usize = 18;
 
+// 19 to 21 are in `words`.
 pub(super) const YEAR: usize = 19;
 
 pub(super) const ISO_YEAR: usize = 20;
 
 pub(super) const SUBSECOND: usize = 21;
 
+// The bit of `stamp`.
 pub(super) const UNIX_TIMESTAMP_NANOS: usize = 22;
 
+// The bit of each flag, which has no cell.
 pub(super) const OFFSET_IS_NEGATIVE: usize = 23;
 
 pub(super) const YEAR_CENTURY_IS_NEGATIVE: usize = 24;
@@ -65,7 +71,7 @@ pub(super) const ISO_YEAR_CENTURY_IS_NEGATIVE: usize = 25;
 
 pub(super) const LEAP_SECOND_ALLOWED: usize = 26;
 
-// Whether a bit of the mask is set.
+// Whether a bit of the mask is set. Bit 0 is the lowest.
 #[inline]
 fn is_set(mask: u32, index: usize) -> bool
     requires { index < 32 }
@@ -114,7 +120,7 @@ fn with_flag(mask: u32, index: usize, on: bool) -> u32
 }
 
 impl Parsed {
-    // Whether the options of these three cells are set, by one test.
+    // Whether all three options (or flags) with these indices are set, by one test of the mask.
     #[inline]
     pub(super) fn has(&self, first: usize, second: usize, third: usize) -> bool
         requires first { first < 27 }
@@ -126,7 +132,7 @@ impl Parsed {
         self.mask & cells == cells
     }
 
-    // The value of a byte's cell, if its option is set.
+    // The value of a byte's cell by the option's index, or `None` if the option isn't set.
     #[inline]
     pub(super) fn byte(&self, index: usize) -> Option<i8>
         requires in_cells { index < 16 }
@@ -140,7 +146,7 @@ impl Parsed {
         }
     }
 
-    // Stores a value in a byte's cell.
+    // Stores a value in a byte's cell, and marks the option of this index as set.
     #[inline]
     pub(super) fn put_byte(&mut self, index: usize, value: i8)
         requires in_cells { index < 16 }
@@ -151,7 +157,7 @@ impl Parsed {
         self.bytes[index] = value;
     }
 
-    // The value of a short's cell, if its option is set.
+    // The value of a short's cell by the option's index, or `None` if the option isn't set.
     #[inline]
     pub(super) fn short(&self, index: usize) -> Option<i16>
         requires past { 16 ≤ index }
@@ -166,7 +172,7 @@ impl Parsed {
         }
     }
 
-    // Stores a value in a short's cell.
+    // Stores a value in a short's cell, and marks the option of this index as set.
     #[inline]
     pub(super) fn put_short(&mut self, index: usize, value: i16)
         requires past { 16 ≤ index }
@@ -178,7 +184,7 @@ impl Parsed {
         self.shorts[index - 16] = value;
     }
 
-    // The value of a word's cell, if its option is set.
+    // The value of a word's cell by the option's index, or `None` if the option isn't set.
     #[inline]
     pub(super) fn word(&self, index: usize) -> Option<i32>
         requires past { 19 ≤ index }
@@ -193,7 +199,7 @@ impl Parsed {
         }
     }
 
-    // Stores a value in a word's cell.
+    // Stores a value in a word's cell, and marks the option of this index as set.
     #[inline]
     pub(super) fn put_word(&mut self, index: usize, value: i32)
         requires past { 19 ≤ index }
@@ -205,7 +211,7 @@ impl Parsed {
         self.words[index - 19] = value;
     }
 
-    // The timestamp, if it is set.
+    // The timestamp in nanoseconds since 1970-01-01T00:00:00Z, or `None` if it isn't set.
     #[inline]
     pub(super) fn stamp(&self) -> Option<i128>
         ensures value { result ≡ self.now.unix_timestamp_nanos }
@@ -219,7 +225,7 @@ impl Parsed {
         }
     }
 
-    // Stores a timestamp.
+    // Stores a timestamp in nanoseconds since 1970-01-01T00:00:00Z, and marks it as set.
     #[inline]
     pub(super) fn put_stamp(&mut self, value: i128)
         requires { InRange greatest_year (unix_timestamp_nanos_is value) }
@@ -229,7 +235,7 @@ impl Parsed {
         self.stamp = value;
     }
 
-    // Whether a flag, or the option of a cell, is set.
+    // Whether the flag or the option with this index is set.
     #[inline]
     pub(super) fn flag(&self, index: usize) -> bool
         requires in_mask { index < 27 }
@@ -238,7 +244,7 @@ impl Parsed {
         is_set(self.mask, index)
     }
 
-    // Sets or clears a flag.
+    // Sets or clears the flag with this index.
     #[inline]
     pub(super) fn set_flag(&mut self, index: usize, on: bool)
         requires past { 23 ≤ index }

@@ -12,8 +12,9 @@ use crate::Parsed;
 use time_components::Component;
 use time_components::component::fast;
 
-/// Parses one of the commonest components, and stores its value. `Some(None)` is an error. `None`: the component or its
-/// text is an uncommon one, and nothing is parsed.
+/// Parses one of the commonest components, and stores its value. Returns `Some(Some(rest))`; `Some(None)` if the
+/// component doesn't match or is out of range; or `None` if the fast path doesn't cover the component or its text. In
+/// the last two cases the record is unchanged.
 #[inline(always)]
 pub(crate) fn component<'a>(
     parsed: &mut Parsed,
@@ -55,7 +56,9 @@ pub(crate) fn component<'a>(
     }
 }
 
-/// Parses one of the commonest components, if an `Ignore` has to end between characters. None of them is an `Ignore`.
+/// Parses one of the commonest components of a description where an `Ignore` has to end between characters. Returns
+/// `Some(Some(rest))`; `Some(None)` if the component doesn't match or is out of range; or `None` if the fast path
+/// doesn't cover the component (such as an `Ignore`) or its text. In the last two cases the record is unchanged.
 #[inline(always)]
 pub(crate) fn whole_component<'a>(
     parsed: &mut Parsed,
@@ -70,8 +73,8 @@ pub(crate) fn whole_component<'a>(
     }
 }
 
-/// Parses a literal of one byte. `Some(None)` is an error. `None`: the literal has no byte or several, and nothing is
-/// parsed.
+/// Parses a literal of one byte. Returns `Some(Some(rest))`; `Some(None)` if the input doesn't begin with that byte; or
+/// `None` if the literal has no byte or several.
 #[inline(always)]
 pub(crate) fn literal<'a>(input: &'a [u8], literal: &[u8]) -> Option<Option<&'a [u8]>>
     ensures { (r : Record) → MayAttempt greatest_year (tree.literal literal.now) input.now r result r }

@@ -1,4 +1,4 @@
-//! Getters: each returns a component, or `None` if it isn't known.
+//! Getters: each returns a component, or `None` if it isn't set.
 ghost use Rattle.std.specs.Prelude.{◌≡◌, ◌≤◌, ◌≤ℤ◌, pos, false, IfSome, unsigned_abs};
 ghost use Rattle.std.specs.Option.{option_map};
 ghost use Rattle.std.specs.Int.NonZero.{non_zero_u8_get, non_zero_u16_get};
@@ -18,7 +18,7 @@ use std::num::NonZero;
 use time_values::{Month, Weekday};
 
 impl Parsed {
-    /// The calendar year, from -999999 to 999999.
+    /// The calendar year, from -999999 to 999999. `None` if not set.
     #[inline]
     pub fn year(&self) -> Option<i32>
         ensures value { result ≡ self.now.year }
@@ -27,7 +27,7 @@ impl Parsed {
         self.word(YEAR)
     }
 
-    /// The calendar year without its last two digits, from -9999 to 9999.
+    /// The calendar year without its last two digits, from -9999 to 9999. `None` if not set.
     ///
     /// A 0 has no sign here: `year_century_is_negative` returns it.
     #[inline]
@@ -38,7 +38,7 @@ impl Parsed {
         self.short(YEAR_CENTURY)
     }
 
-    /// Whether the century is negative, -0 included; `None` if no century is known.
+    /// Whether the century is negative, -0 included; `None` if no century is set.
     #[inline]
     pub fn year_century_is_negative(&self) -> Option<bool>
         ensures { result ≡ option_map (λ _. self.now.year_century_is_negative)
@@ -48,7 +48,7 @@ impl Parsed {
         Some(self.flag(YEAR_CENTURY_IS_NEGATIVE))
     }
 
-    /// The last two digits of the calendar year, from 0 to 99.
+    /// The last two digits of the calendar year, from 0 to 99. `None` if not set.
     #[inline]
     pub fn year_last_two(&self) -> Option<u8>
         ensures value { result ≡ self.now.year_last_two }
@@ -57,7 +57,7 @@ impl Parsed {
         Some(self.byte(YEAR_LAST_TWO)? as u8)
     }
 
-    /// The year of the ISO 8601 week date, from -999999 to 999999.
+    /// The year of the ISO 8601 week date, from -999999 to 999999. `None` if not set.
     #[inline]
     pub fn iso_year(&self) -> Option<i32>
         ensures value { result ≡ self.now.iso_year }
@@ -66,7 +66,7 @@ impl Parsed {
         self.word(ISO_YEAR)
     }
 
-    /// The year of the ISO 8601 week date without its last two digits, from -9999 to 9999.
+    /// The year of the ISO 8601 week date without its last two digits, from -9999 to 9999. `None` if not set.
     ///
     /// A 0 has no sign here: `iso_year_century_is_negative` returns it.
     #[inline]
@@ -78,7 +78,7 @@ impl Parsed {
         self.short(ISO_YEAR_CENTURY)
     }
 
-    /// Whether the ISO century is negative, -0 included; `None` if no ISO century is known.
+    /// Whether the ISO century is negative, -0 included; `None` if no ISO century is set.
     #[inline]
     pub fn iso_year_century_is_negative(&self) -> Option<bool>
         ensures { result ≡ option_map (λ _. self.now.iso_year_century_is_negative)
@@ -88,7 +88,7 @@ impl Parsed {
         Some(self.flag(ISO_YEAR_CENTURY_IS_NEGATIVE))
     }
 
-    /// The last two digits of the year of the ISO 8601 week date, from 0 to 99.
+    /// The last two digits of the year of the ISO 8601 week date, from 0 to 99. `None` if not set.
     #[inline]
     pub fn iso_year_last_two(&self) -> Option<u8>
         ensures value { result ≡ self.now.iso_year_last_two }
@@ -97,7 +97,7 @@ impl Parsed {
         Some(self.byte(ISO_YEAR_LAST_TWO)? as u8)
     }
 
-    /// The month of the year.
+    /// The month of the year. `None` if not set.
     #[inline]
     pub fn month(&self) -> Option<Month>
         ensures { result ≡ self.now.month }
@@ -105,7 +105,8 @@ impl Parsed {
         Some(Month::at(self.byte(MONTH)? as u8))
     }
 
-    /// The week of the year, from 0 to 53, where week 1 begins on the first Sunday.
+    /// The week of the year, from 0 to 53, where week 1 begins on the first Sunday and week 0 is the days before.
+    /// `None` if not set.
     #[inline]
     pub fn sunday_week_number(&self) -> Option<u8>
         ensures value { result ≡ self.now.sunday_week_number }
@@ -114,7 +115,8 @@ impl Parsed {
         Some(self.byte(SUNDAY_WEEK_NUMBER)? as u8)
     }
 
-    /// The week of the year, from 0 to 53, where week 1 begins on the first Monday.
+    /// The week of the year, from 0 to 53, where week 1 begins on the first Monday and week 0 is the days before.
+    /// `None` if not set.
     #[inline]
     pub fn monday_week_number(&self) -> Option<u8>
         ensures value { result ≡ self.now.monday_week_number }
@@ -123,7 +125,7 @@ impl Parsed {
         Some(self.byte(MONDAY_WEEK_NUMBER)? as u8)
     }
 
-    /// The week of the ISO 8601 week date, from 1 to 53, where week 1 contains 4 January.
+    /// The week of the ISO 8601 week date, from 1 to 53, where week 1 contains 4 January. `None` if not set.
     #[inline]
     pub fn iso_week_number(&self) -> Option<NonZero<u8>>
         ensures value { option_map non_zero_u8_get result ≡ self.now.iso_week_number }
@@ -133,7 +135,7 @@ impl Parsed {
         NonZero::<u8>::new(self.byte(ISO_WEEK_NUMBER)? as u8)
     }
 
-    /// The day of the week.
+    /// The day of the week. `None` if not set.
     #[inline]
     pub fn weekday(&self) -> Option<Weekday>
         ensures { result ≡ self.now.weekday }
@@ -141,7 +143,7 @@ impl Parsed {
         Some(Weekday::from_days_from_monday(self.byte(WEEKDAY)? as u8))
     }
 
-    /// The day of the year, from 1 to 366.
+    /// The day of the year, from 1 to 366. `None` if not set.
     #[inline]
     pub fn ordinal(&self) -> Option<NonZero<u16>>
         ensures value { option_map non_zero_u16_get result ≡ self.now.ordinal }
@@ -151,7 +153,7 @@ impl Parsed {
         NonZero::<u16>::new(self.short(ORDINAL)? as u16)
     }
 
-    /// The day of the month, from 1 to 31.
+    /// The day of the month, from 1 to 31. `None` if not set.
     #[inline]
     pub fn day(&self) -> Option<NonZero<u8>>
         ensures value { option_map non_zero_u8_get result ≡ self.now.day }
@@ -160,7 +162,7 @@ impl Parsed {
         NonZero::<u8>::new(self.byte(DAY)? as u8)
     }
 
-    /// The hour of the day, from 0 to 23.
+    /// The hour of the day, from 0 to 23. `None` if not set.
     #[inline]
     pub fn hour_24(&self) -> Option<u8>
         ensures value { result ≡ self.now.hour_24 }
@@ -169,7 +171,7 @@ impl Parsed {
         Some(self.byte(HOUR_24)? as u8)
     }
 
-    /// The hour of the half day, from 1 to 12, where 12 comes before 1.
+    /// The hour of the half day, from 1 to 12, where 12 comes before 1. `None` if not set.
     #[inline]
     pub fn hour_12(&self) -> Option<NonZero<u8>>
         ensures value { option_map non_zero_u8_get result ≡ self.now.hour_12 }
@@ -179,7 +181,7 @@ impl Parsed {
         NonZero::<u8>::new(self.byte(HOUR_12)? as u8)
     }
 
-    /// Whether `hour_12` lies in the second half of the day.
+    /// Whether `hour_12` lies in the second half of the day: `true` for PM. `None` if not set.
     #[inline]
     pub fn hour_12_is_pm(&self) -> Option<bool>
         ensures { result ≡ self.now.hour_12_is_pm }
@@ -187,7 +189,7 @@ impl Parsed {
         Some(self.byte(HOUR_12_IS_PM)? == 1)
     }
 
-    /// The minute of the hour, from 0 to 59.
+    /// The minute of the hour, from 0 to 59. `None` if not set.
     #[inline]
     pub fn minute(&self) -> Option<u8>
         ensures value { result ≡ self.now.minute }
@@ -196,7 +198,7 @@ impl Parsed {
         Some(self.byte(MINUTE)? as u8)
     }
 
-    /// The second of the minute, from 0 to 60, where 60 is a leap second.
+    /// The second of the minute, from 0 to 60, where 60 is a leap second. `None` if not set.
     #[inline]
     pub fn second(&self) -> Option<u8>
         ensures value { result ≡ self.now.second }
@@ -205,7 +207,7 @@ impl Parsed {
         Some(self.byte(SECOND)? as u8)
     }
 
-    /// The nanoseconds of the second, from 0 to 999999999.
+    /// The nanoseconds of the second, from 0 to 999999999. `None` if not set.
     #[inline]
     pub fn subsecond(&self) -> Option<u32>
         ensures value { result ≡ self.now.subsecond }
@@ -214,7 +216,8 @@ impl Parsed {
         Some(self.word(SUBSECOND)? as u32)
     }
 
-    /// The whole hours of the offset from UTC, from -25 to 25.
+    /// The whole hours of the offset from UTC, from -25 to 25. `None` if not set. A parsed `-00` is 0
+    /// here, and its minus only negates the minutes and seconds.
     #[inline]
     pub fn offset_hour(&self) -> Option<i8>
         ensures value { result ≡ self.now.offset_hour }
@@ -223,7 +226,7 @@ impl Parsed {
         self.byte(OFFSET_HOUR)
     }
 
-    /// The absolute value of the minutes of the offset from UTC, from 0 to 59.
+    /// The absolute value of the minutes of the offset from UTC, from 0 to 59. `None` if not set.
     #[deprecated(note = "`offset_minute_signed` keeps the sign")]
     #[inline]
     pub fn offset_minute(&self) -> Option<u8>
@@ -237,7 +240,7 @@ impl Parsed {
     }
 
     /// The minutes of the offset from UTC, from -59 to 59: the stored number, negated if the offset's hour was parsed
-    /// with a minus.
+    /// with a minus and `forget_offset_sign` wasn't called since. `None` if not set.
     #[inline]
     pub fn offset_minute_signed(&self) -> Option<i8>
         ensures value { result ≡ option_map (signed_by self.now.offset_is_negative)
@@ -252,7 +255,7 @@ impl Parsed {
         })
     }
 
-    /// The absolute value of the seconds of the offset from UTC, from 0 to 59.
+    /// The absolute value of the seconds of the offset from UTC, from 0 to 59. `None` if not set.
     #[deprecated(note = "`offset_second_signed` keeps the sign")]
     #[inline]
     pub fn offset_second(&self) -> Option<u8>
@@ -266,7 +269,7 @@ impl Parsed {
     }
 
     /// The seconds of the offset from UTC, from -59 to 59: the stored number, negated if the offset's hour was parsed
-    /// with a minus.
+    /// with a minus and `forget_offset_sign` wasn't called since. `None` if not set.
     #[inline]
     pub fn offset_second_signed(&self) -> Option<i8>
         ensures value { result ≡ option_map (signed_by self.now.offset_is_negative)
@@ -282,7 +285,7 @@ impl Parsed {
     }
 
     /// The nanoseconds since 1970-01-01T00:00:00Z, from -31619087596800000000000 to
-    /// 31494784780799999999999.
+    /// 31494784780799999999999. `None` if not set.
     #[inline]
     pub fn unix_timestamp_nanos(&self) -> Option<i128>
         ensures value { result ≡ self.now.unix_timestamp_nanos }

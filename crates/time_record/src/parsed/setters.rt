@@ -110,8 +110,8 @@ impl Parsed {
         Some(())
     }
 
-    /// Sets the week of the year, from 0 to 53, where week 1 begins on the first Sunday. If out of range, returns
-    /// `None` and changes nothing.
+    /// Sets the week of the year, from 0 to 53, where week 1 begins on the first Sunday and week 0 is the days before.
+    /// If out of range, returns `None` and changes nothing.
     #[inline]
     pub fn set_sunday_week_number(&mut self, value: u8) -> Option<()>
         ensures { Sets (put greatest_year (sunday_week_number_is value) self.old)
@@ -124,8 +124,8 @@ impl Parsed {
         Some(())
     }
 
-    /// Sets the week of the year, from 0 to 53, where week 1 begins on the first Monday. If out of range, returns
-    /// `None` and changes nothing.
+    /// Sets the week of the year, from 0 to 53, where week 1 begins on the first Monday and week 0 is the days before.
+    /// If out of range, returns `None` and changes nothing.
     #[inline]
     pub fn set_monday_week_number(&mut self, value: u8) -> Option<()>
         ensures { Sets (put greatest_year (monday_week_number_is value) self.old)
@@ -213,7 +213,7 @@ impl Parsed {
         Some(())
     }
 
-    /// Sets whether `hour_12` lies in the second half of the day; never returns `None`.
+    /// Sets whether `hour_12` lies in the second half of the day: `true` for PM. Never returns `None`.
     #[inline]
     pub fn set_hour_12_is_pm(&mut self, value: bool) -> Option<()>
         ensures { Sets (put greatest_year (hour_12_is_pm_is value) self.old)
@@ -261,7 +261,11 @@ impl Parsed {
     }
 
     /// Sets the whole hours of the offset from UTC, from -25 to 25. If out of range, returns `None` and changes
-    /// nothing. The flag of a negative offset is unchanged.
+    /// nothing.
+    ///
+    /// Doesn't change the flag of a negative offset, which parsing an offset's hour with a minus sets. While it is set,
+    /// `offset_minute_signed` and `offset_second_signed` return the stored numbers negated, whatever the sign of this
+    /// value; `forget_offset_sign` clears it.
     #[inline]
     pub fn set_offset_hour(&mut self, value: i8) -> Option<()>
         ensures { Sets (put greatest_year (offset_hour_is value) self.old)
@@ -274,8 +278,8 @@ impl Parsed {
         Some(())
     }
 
-    /// Sets the minutes of the offset from UTC to a positive number, from 0 to 59. If out of range, returns `None` and
-    /// changes nothing.
+    /// Sets the minutes of the offset from UTC to a number from 0 to 59. If out of range, returns `None` and changes
+    /// nothing. While the flag of a negative offset is set, `offset_minute_signed` returns the number negated.
     #[deprecated(note = "`set_offset_minute_signed` takes a sign")]
     #[inline]
     pub fn set_offset_minute(&mut self, value: u8) -> Option<()>
@@ -289,6 +293,7 @@ impl Parsed {
     }
 
     /// Sets the minutes of the offset from UTC, from -59 to 59. If out of range, returns `None` and changes nothing.
+    /// While the flag of a negative offset is set, `offset_minute_signed` returns the number negated.
     #[inline]
     pub fn set_offset_minute_signed(&mut self, value: i8) -> Option<()>
         ensures { Sets (put greatest_year (offset_minute_is value) self.old)
@@ -301,8 +306,8 @@ impl Parsed {
         Some(())
     }
 
-    /// Sets the seconds of the offset from UTC to a positive number, from 0 to 59. If out of range, returns `None` and
-    /// changes nothing.
+    /// Sets the seconds of the offset from UTC to a number from 0 to 59. If out of range, returns `None` and changes
+    /// nothing. While the flag of a negative offset is set, `offset_second_signed` returns the number negated.
     #[deprecated(note = "`set_offset_second_signed` takes a sign")]
     #[inline]
     pub fn set_offset_second(&mut self, value: u8) -> Option<()>
@@ -316,6 +321,7 @@ impl Parsed {
     }
 
     /// Sets the seconds of the offset from UTC, from -59 to 59. If out of range, returns `None` and changes nothing.
+    /// While the flag of a negative offset is set, `offset_second_signed` returns the number negated.
     #[inline]
     pub fn set_offset_second_signed(&mut self, value: i8) -> Option<()>
         ensures { Sets (put greatest_year (offset_second_is value) self.old)

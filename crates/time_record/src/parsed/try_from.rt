@@ -16,7 +16,7 @@ use std::convert::TryFrom;
 use time_values::error::TryFromParsed;
 use time_values::{Date, OffsetDateTime, PlainDateTime};
 
-// The date of a record.
+// The date of a record, or its error, as `Date::try_from` returns them.
 #[inline(always)]
 #[tactic(auto, unfolding(crate::specs::Resolution::IsDated))]
 fn date_of(parsed: &Parsed) -> Result<Date, TryFromParsed>
@@ -28,7 +28,8 @@ fn date_of(parsed: &Parsed) -> Result<Date, TryFromParsed>
     }
 }
 
-/// The date and the time of the record, or the first error of the two, the date's first.
+/// The date and the time of the record, or the first error of the two, the date's first. A second of 60 is an error,
+/// even if leap seconds are allowed. A timestamp and an offset are ignored.
 impl TryFrom<Parsed> for PlainDateTime {
     type Error = TryFromParsed;
 
@@ -43,11 +44,11 @@ impl TryFrom<Parsed> for PlainDateTime {
     }
 }
 
-/// The moment of the timestamp, at offset 0 and with a known subsecond in place of its own. Or else that of the date,
-/// time and offset of the record, or the first error of these, in that order.
+/// The moment of the timestamp, at offset 0; the record's subsecond, if set, replaces its nanosecond of the second.
+/// Without a timestamp, the moment of the record's date, time and offset, or the first error of these, in that order.
 ///
-/// A leap second that is allowed counts as the last nanosecond before it. If that isn't a month's end in UTC, an error
-/// names `second` as conditional on other components.
+/// Without a timestamp, a leap second that is allowed counts as the last nanosecond before it. If that isn't a month's
+/// end in UTC, an error names `second` as conditional on other components.
 impl TryFrom<Parsed> for OffsetDateTime {
     type Error = TryFromParsed;
 

@@ -10,8 +10,9 @@ use crate::Parsed;
 use crate::parsed::fast;
 use time_components::{Inspect, Node, Step};
 
-/// Parses a leaf, and returns the rest that the walk would return. `Some(None)` is an error. `None`: the item is no
-/// leaf, or an uncommon one, and nothing is parsed.
+/// Parses a leaf: a literal or a component. Returns `Some(Some(rest))`, with the remaining input that `walk` returns;
+/// `Some(None)` if the leaf doesn't match; or `None` if the item is no leaf, or the fast path doesn't cover it. In the
+/// last two cases the record is unchanged.
 #[inline(always)]
 pub(super) fn leaf<'a, I: Inspect>(
     node: Node<'_, I>,
@@ -29,8 +30,9 @@ pub(super) fn leaf<'a, I: Inspect>(
     }
 }
 
-/// Parses a leaf of one step, and returns the rest that the walk would return. `Some(None)` is an error. `None`: the
-/// item is no leaf of one step, or an uncommon one, and nothing is parsed.
+/// Parses a leaf of one step, with the steps `behind` after it. Returns `Some(Some(rest))`, with the remaining input
+/// that `walk_item` returns; `Some(None)` if the leaf doesn't match; or `None` if the item is no leaf of one step, or
+/// the fast path doesn't cover it. In the last two cases the record is unchanged.
 #[inline(always)]
 pub(super) fn step<'a>(
     step: &Step,
@@ -49,7 +51,8 @@ pub(super) fn step<'a>(
     }
 }
 
-// Parses a literal of one byte. `Some(None)` is an error. `None`: the literal has several bytes, and nothing is parsed.
+// Parses a literal of one byte: `Some(Some(rest))`. `Some(None)`: the input doesn't begin with it. `None`: the literal
+// has several bytes, since the first step of `behind` is a further byte.
 #[inline(always)]
 fn only_byte<'a>(byte: u8, behind: &[Step], input: &'a [u8]) -> Option<Option<&'a [u8]>>
     ensures read { (r : Record) → MayAttempt greatest_year (literal (byte ∷ further behind.now)) input.now r result r }

@@ -1,4 +1,5 @@
-//! Walks over the steps of a description that was parsed from a text, a second root over the short cuts of leaves.
+//! Walks over the steps of a description, its items flattened into one list. Like `walk.rt`, this module may call the
+//! fast paths, those of leaves.
 ghost use Rattle.std.specs.Prelude.{◌≡◌, ◌≢◌, ◌-◌, ◌≤◌, ◌++◌, ◌∷◌, [], ℕ, List, Ok, IfSome, length, MatchOption};
 ghost use Rattle.time_values.specs.Calendar.{greatest_year};
 ghost use Rattle.time_values.specs.Refusal.{refusal_of_description};
@@ -15,8 +16,9 @@ use crate::{Parsed, Tries};
 use time_components::{Group, Step, steps_after};
 use time_values::error::ParseFromDescription;
 
-/// Parses the steps at the start of the input as a list, and counts it and the items inside it that are visited. If one
-/// choice is the whole list, this needs no loop, and no copy of the record.
+/// Parses the steps one after the other at the start of the input, and counts the list and the items inside it that are
+/// visited. Returns the remaining input, or an error with the record unchanged. If one group of alternatives is the
+/// whole list, the list needs no loop, and no copy of the record.
 #[inline(always)]
 pub fn walk_steps<'a>(
     steps: &[Step],
@@ -38,6 +40,7 @@ pub fn walk_steps<'a>(
 }
 
 /// Parses the steps at the start of the input as a list, and counts it and the items inside it that are visited.
+/// Returns the remaining input, or the error of the first item that doesn't match, with the record unchanged.
 #[cycle(steps)]
 pub fn walk_list<'a>(
     steps: &[Step],
@@ -78,8 +81,9 @@ pub fn walk_list<'a>(
 }
 
 // Parses items of one step one after the other, each at most once. Returns the steps from the first item on that isn't
-// parsed, the rest at that item, and its error if it is known not to match. No walk is called in this loop, so it needs
-// no room for a walk's result.
+// parsed (none if all are), the remaining input at that item, and its error if it is known not to match. The values of
+// the items before it are stored, also with an error. No walk is called in this loop, so it needs no room for a walk's
+// result.
 #[inline(always)]
 fn read_steps<'s, 'a>(
     steps: &'s [Step],
@@ -105,7 +109,7 @@ fn read_steps<'s, 'a>(
     (left, rest, None)
 }
 
-// The error of a leaf of one step that doesn't match.
+// The error of a leaf of one step that doesn't match: `fault` of a component, or else `InvalidLiteral`.
 #[inline(always)]
 fn step_fault(step: &Step) -> ParseFromDescription
     ensures { (behind : List Step) → refusal_of_description result ≡ leaf_refusal (tree_at steps_trees step.now behind) }
@@ -116,8 +120,9 @@ fn step_fault(step: &Step) -> ParseFromDescription
     }
 }
 
-// Parses the item of a step, with the steps after it that belong to it. With `Ok(..?)` a result is returned in parts,
-// instead of being stored in memory for the callers.
+// Parses the item of a step, with the steps of `behind` that belong to it, and counts the items visited. Returns the
+// remaining input, or an error with the record unchanged. With `Ok(..?)` a result is returned in parts, instead of
+// being stored in memory for the callers.
 #[cycle(steps)]
 #[inline(always)]
 fn walk_item<'a>(
@@ -146,7 +151,7 @@ fn walk_item<'a>(
     }
 }
 
-// Parses a group of these steps.
+// Parses a group of these steps: as a list, an optional list, or alternatives. Counts the group and the items visited.
 #[cycle(steps)]
 #[inline(always)]
 fn walk_group<'a>(
@@ -174,7 +179,8 @@ fn walk_group<'a>(
     }
 }
 
-// Parses optional steps, and returns the rest.
+// Parses optional steps, and returns the remaining input. If they don't match, that is the whole input, and the record
+// is unchanged. Counts the list of the steps and the items visited in it, without the optional group around it.
 #[cycle(steps)]
 #[inline(always)]
 #[tactic(auto, unfolding(crate::specs::Reading::Reads))]
@@ -193,7 +199,8 @@ fn walk_optional<'a>(
     }
 }
 
-// Parses the first item that matches. If none does, returns the first one's error.
+// Parses the first item of the steps that matches. If none does, returns the first one's error, with the record
+// unchanged. Without steps, returns the whole input. Counts the items visited, without the group around them.
 #[cycle(steps)]
 fn walk_first<'a>(
     steps: &[Step],
@@ -221,8 +228,9 @@ fn walk_first<'a>(
     Err(first_fault)
 }
 
-// The further byte of a literal at the start of the steps, if there is one, and the steps after it.
-// This is no second way of reading.
+// The further byte of a literal (`Step::More`) at the start of the steps, and the steps after it. `None` if the first
+// step is another, or there is none.
+// This is not a fast path.
 #[inline(always)]
 pub(super) fn further_byte(steps: &[Step]) -> Option<(u8, &[Step])>
     ensures { MatchOption result (steps_.further steps.now ≡ []) (λ x. IsFurther x.0 x.1.now steps.now) }
@@ -236,8 +244,9 @@ pub(super) fn further_byte(steps: &[Step]) -> Option<(u8, &[Step])>
     }
 }
 
-// Parses a literal of this byte and the further bytes at the start of the steps. Not inlined, so that the loop over leaves needs
-// fewer registers.
+// Parses a literal of this byte and the further bytes at the start of the steps. Returns the input after it, or
+// `InvalidLiteral` if the input doesn't begin with these bytes. Not inlined, so that the loop over leaves needs fewer
+// registers.
 #[inline(never)]
 fn read_literal<'a>(
     first: u8,
@@ -258,7 +267,8 @@ fn read_literal<'a>(
     }
 }
 
-// The rest of the input after the further bytes of a literal.
+// The input after the further bytes of a literal at the start of the steps. `None` if the input doesn't begin with
+// them.
 fn after_bytes<'a>(steps: &[Step], input: &'a [u8]) -> Option<&'a [u8]>
     ensures { MatchOption result ((x : List ℕ) → input.now ≢ steps_.further steps.now ++ x)
         (λ rest. input.now ≡ steps_.further steps.now ++ rest.now) }

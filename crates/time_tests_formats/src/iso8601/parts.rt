@@ -7,26 +7,28 @@ use time_readers::iso8601::{
 use time_values::error::ParseFromDescription;
 use time_values::{Month, Weekday};
 
-// The value at the start of a text and the bytes after it, or nothing.
+// The value at the start of a text and the bytes after it; `None` without a value.
 type Answer<T> = Option<(T, &'static [u8])>;
 
+// The item as its value and the bytes after it.
 fn answer<T: Copy>(item: Option<ParsedItem<'_, T>>) -> Option<(T, &[u8])> {
     let ParsedItem(rest, value) = item?;
     Some((value, rest))
 }
 
-// The result with a plain number.
+// The item as its number and the bytes after it.
 fn small(item: Option<ParsedItem<'_, NonZero<u8>>>) -> Option<(u8, &[u8])> {
     let ParsedItem(rest, value) = item?;
     Some((value.get(), rest))
 }
 
-// The result with a plain number of two bytes.
+// The item as its number and the bytes after it, for a number of two bytes.
 fn large(item: Option<ParsedItem<'_, NonZero<u16>>>) -> Option<(u16, &[u8])> {
     let ParsedItem(rest, value) = item?;
     Some((value.get(), rest))
 }
 
+// A text, and the year at its start.
 static YEARS: [(&[u8], Answer<i32>); 4] = [
     (b"20215", Some((2021, b"5"))),
     (b"-0123456", Some((-12_345, b"6"))),
@@ -34,12 +36,14 @@ static YEARS: [(&[u8], Answer<i32>); 4] = [
     (b"202", None),
 ];
 
+// A text, and the month at its start.
 static MONTHS: [(&[u8], Answer<Month>); 3] = [
     (b"123", Some((Month::December, b"3"))),
     (b"00", None),
     (b"13", None),
 ];
 
+// A text, and the weekday at its start, from 1 for Monday.
 static WEEKDAYS: [(&[u8], Answer<Weekday>); 4] = [
     (b"12", Some((Weekday::Monday, b"2"))),
     (b"7", Some((Weekday::Sunday, b""))),
@@ -60,10 +64,13 @@ fn iso_pieces_of_dates(rt: HostRuntime) {
     }
 }
 
+// A text, and the number of two digits at its start, which isn't 0. Its range as a week isn't checked.
 static WEEKS: [(&[u8], Answer<u8>); 3] = [(b"991", Some((99, b"1"))), (b"00", None), (b"1", None)];
 
+// A text, and the number of two digits at its start, which isn't 0. Its range as a day isn't checked.
 static DAYS: [(&[u8], Answer<u8>); 2] = [(b"32", Some((32, b""))), (b"00", None)];
 
+// A text, and the ordinal at its start.
 static ORDINALS: [(&[u8], Answer<u16>); 3] = [
     (b"3670", Some((367, b"0"))),
     (b"000", None),
@@ -83,6 +90,7 @@ fn iso_pieces_that_are_positive(rt: HostRuntime) {
     }
 }
 
+// A text, and the number of two digits at its start. Its range as an hour isn't checked.
 static HOURS: [(&[u8], Answer<u8>); 2] = [(b"990", Some((99, b"0"))), (b"9", None)];
 
 // Texts, and the number at the start of each: its whole part and the digits after its point.
@@ -173,6 +181,7 @@ fn iso_kinds(rt: HostRuntime) {
 mod iso_dates_and_times {
     use time_readers::iso8601::{DateNumbers, Part, TimeNumbers, date, date_and_time, time};
 
+    // Texts whose bytes are changed.
     const TEXTS: [&[u8]; 4] = [
         b"2021-01-02T03:04:05Z",
         b"20210102T030405Z",
@@ -180,6 +189,7 @@ mod iso_dates_and_times {
         b"20211231T235960.1234Z",
     ];
 
+    // Whether both have equal numbers, rests and kinds.
     fn are_equal_dates(a: Part<'_, DateNumbers>, b: Part<'_, DateNumbers>) -> bool {
         let is_equal = match (a.value, b.value) {
             (DateNumbers::Calendar(a, b, c), DateNumbers::Calendar(x, y, z)) => {
@@ -195,6 +205,7 @@ mod iso_dates_and_times {
         is_equal && a.rest == b.rest && a.kind == b.kind
     }
 
+    // Whether both have equal numbers, rests and kinds, or there is neither.
     fn are_equal_times(a: Option<Part<'_, TimeNumbers>>, b: Option<Part<'_, TimeNumbers>>) -> bool {
         match (a, b) {
             (Some(a), Some(b)) => {
@@ -222,7 +233,7 @@ mod iso_dates_and_times {
         }
     }
 
-    // Whether both ways do so with each byte at the place.
+    // Whether both ways have equal results with each byte at the index `place`.
     fn is_right_at(text: &[u8], place: usize) -> bool {
         let mut bytes = [0; 40];
         let Some(changed) = bytes.get_mut(..text.len()) else {
@@ -258,10 +269,10 @@ mod iso_time_kinds {
     // Hour, minute, second and nanosecond, the unread rest, and the kind after.
     type Found = (u8, u8, u8, u32, &'static [u8], ExtendedKind);
 
-    // A text, the kind before it, and what it parses as, or nothing where it is rejected.
+    // A text, the kind before it, and what it parses as; `None` if it is rejected.
     type Row = (&'static [u8], ExtendedKind, Option<Found>);
 
-    // Whether the text parses as that under the kind.
+    // Whether the time at the start of the text, without a mandatory `T`, is parsed as expected after that kind.
     fn reads(text: &[u8], kind: ExtendedKind, expected: Option<Found>) -> bool {
         match (time(text, kind, false), expected) {
             (Some(found), Some((hour, minute, second, subsecond, rest, after))) => {
@@ -380,7 +391,7 @@ mod iso_time_kinds {
         }
     }
 
-    // The hour after the mandatory letter.
+    // The hour of a time after its mandatory letter `T`; `None` if the text is rejected.
     fn hour_behind_letter(text: &[u8]) -> Option<u8> {
         let found = time(text, UNKNOWN, true)?;
         Some(found.value.hour)

@@ -53,6 +53,7 @@ static READ: [(&[u8], Numbers, &[u8]); 3] = [
     ),
 ];
 
+// Whether all numbers are equal.
 fn are_equal(a: &Numbers, b: &Numbers) -> bool {
     (a.year, a.month, a.day) == (b.year, b.month, b.day)
         && (a.hour, a.minute, a.second, a.subsecond) == (b.hour, b.minute, b.second, b.subsecond)
@@ -75,7 +76,7 @@ fn rfc3339_places(rt: HostRuntime) {
     }
 }
 
-// Texts, the first place at which each fails, and the first at which it fails without a check of ranges.
+// A text, the first place at which it fails, and the first at which it fails without a check of ranges.
 static FAILED: [(&[u8], Place, Option<Place>); 8] = [
     (b"", Place::Year, Some(Place::Year)),
     (b"2021-00-02T03:04:05Z", Place::Month, Some(Place::Month)),
@@ -107,6 +108,7 @@ fn rfc3339_places_that_fail(rt: HostRuntime) {
     }
 }
 
+// A place, and the error of a text that fails there.
 static FAULTS: [(Place, ParseFromDescription); 2] = [
     (Place::YearDash, ParseFromDescription::InvalidLiteral),
     (

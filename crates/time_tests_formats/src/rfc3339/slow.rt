@@ -20,6 +20,7 @@ enum Place {
     Number(usize, usize, u32, u32, u32, &'static str),
 }
 
+// The places up to the second, in their order.
 static FRONT: [Place; 11] = [
     Place::Number(0, 4, 0, 0, 9999, "year"),
     Place::Byte(4, b'-'),
@@ -37,7 +38,7 @@ static FRONT: [Place; 11] = [
 // The index at which the last of these places ends.
 const FRONT_END: usize = 19;
 
-// The number of the bytes, if each is a digit.
+// The number of the bytes from `begin` to before `end`; `None` if the text is shorter, or a byte isn't a digit.
 fn number(text: &[u8], begin: usize, end: usize) -> Option<u32> {
     let mut number = 0_u32;
     for byte in text.get(begin..end)? {
@@ -51,7 +52,8 @@ fn number(text: &[u8], begin: usize, end: usize) -> Option<u32> {
     Some(number)
 }
 
-// The error of the place in the text, with a check of its range or of its form alone.
+// The error of the place in the text, with a check of its range if `ranged`, and of its form alone otherwise; `None` if
+// the place matches.
 fn fault_at(text: &[u8], place: Place, ranged: bool) -> Option<ParseFromDescription> {
     let (is_match, fault) = match place {
         Place::Byte(at, byte) => (text.get(at) == Some(&byte), LITERAL),
@@ -75,7 +77,7 @@ fn fault_at(text: &[u8], place: Place, ranged: bool) -> Option<ParseFromDescript
     if is_match { None } else { Some(fault) }
 }
 
-// The error of the first place up to the second that fails.
+// The error of the first place up to the second that fails; `None` if none does.
 fn front_fault(text: &[u8], ranged: bool) -> Option<ParseFromDescription> {
     for place in &FRONT {
         let fault = fault_at(text, *place, ranged);
@@ -86,7 +88,8 @@ fn front_fault(text: &[u8], ranged: bool) -> Option<ParseFromDescription> {
     None
 }
 
-// The nanosecond of a fraction, to which nine digits contribute, and its length. It is optional.
+// The nanosecond of the fraction at the start of the text, to which nine digits contribute, and its length in bytes.
+// Both are 0 without a point. `None` if no digit follows the point.
 fn fraction(text: &[u8]) -> Option<(u32, usize)> {
     let Some((b'.', digits)) = text.split_first() else {
         return Some((0, 0));
@@ -109,7 +112,7 @@ fn fraction(text: &[u8]) -> Option<(u32, usize)> {
     Some((nanosecond, bytes))
 }
 
-// The number, negated after a minus.
+// The number, negated if `is_negative`.
 fn signed(number: u32, is_negative: bool) -> i8 {
     let number = i8::try_from(number).unwrap_or(0);
     if is_negative {
@@ -119,7 +122,8 @@ fn signed(number: u32, is_negative: bool) -> i8 {
     }
 }
 
-// The hours and minutes of an offset, and its length.
+// The hours and minutes of the offset at the start of the text, both with its sign, and its length in bytes; or the
+// error of the first place that fails. Minutes are at most 59 if `ranged`, and 99 otherwise.
 fn offset(text: &[u8], ranged: bool) -> Result<(i8, i8, usize), ParseFromDescription> {
     let is_negative = match text.first().copied() {
         Some(b'Z' | b'z') => return Ok((0, 0, 1)),
@@ -167,6 +171,7 @@ pub fn tail(text: &[u8], ranged: bool) -> Result<Tail, ParseFromDescription> {
     ))
 }
 
+// Each month, and its days in a common year.
 static MONTHS: [(Month, u8); 12] = [
     (Month::January, 31),
     (Month::February, 28),
@@ -182,7 +187,7 @@ static MONTHS: [(Month, u8); 12] = [
     (Month::December, 31),
 ];
 
-// The month with the number, and its length in days.
+// The month with the number, from 1, and its length in days in that year; `None` without such a month.
 fn month(year: u32, number: usize) -> Option<(Month, u8)> {
     let (month, days) = *MONTHS.get(number.checked_sub(1)?)?;
     let is_leap = year % 4 == 0 && (year % 100 != 0 || year % 400 == 0);
@@ -190,7 +195,8 @@ fn month(year: u32, number: usize) -> Option<(Month, u8)> {
     Some((month, days))
 }
 
-// Whether the minute is the last of a month in UTC.
+// Whether the minute, given in local time at the offset, is the last of a month in UTC. The local month has `days`
+// days.
 fn ends_a_month(day: u8, days: u8, hour: u8, minute: u8, (hours, minutes): (i8, i8)) -> bool {
     let here = i32::from(hour)
         .wrapping_mul(60)
@@ -207,7 +213,7 @@ fn ends_a_month(day: u8, days: u8, hour: u8, minute: u8, (hours, minutes): (i8, 
     }
 }
 
-// The number of two digits, or 0 where they aren't digits.
+// The number of the digits from `begin` to before `end`, or 0 where they aren't digits.
 fn pair(text: &[u8], begin: usize, end: usize) -> u8 {
     match number(text, begin, end) {
         Some(number) => u8::try_from(number).unwrap_or(0),
@@ -215,7 +221,7 @@ fn pair(text: &[u8], begin: usize, end: usize) -> u8 {
     }
 }
 
-// The error of the first number of a time of day that is out of its range.
+// The error of the first number of a time of day that is out of its range; `None` if none is.
 fn clock_fault(hour: u8, minute: u8, second: u8) -> Option<Parse> {
     if hour > 23 {
         Some(NO_HOUR)

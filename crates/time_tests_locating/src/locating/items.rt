@@ -10,9 +10,10 @@ use time_parsing::Items;
 
 type Item = BorrowedFormatItem<'static>;
 
+// `:` and a second.
 const SECOND_ITEMS: [Item; 2] = [item!(":"), Part(SECOND)];
 
-// By an hour, `:` and a minute, and optionally `:` and a second.
+// Rejected by an hour, `:` and a minute, and optionally `:` and a second.
 static CLOCK_ROWS: [Row<'static>; 16] = [
     (b"23:59:61", 6, Component("second")),
     (b"23:59:6", 6, Component("second")),
@@ -32,11 +33,13 @@ static CLOCK_ROWS: [Row<'static>; 16] = [
     (b"", 0, Component("hour")),
 ];
 
+// An hour, `:` and a minute.
 const CLOCK: [Item; 3] = [Part(HOUR), item!(":"), Part(MINUTE)];
 
+// A day and `.`.
 const DAY_ITEMS: [Item; 2] = [Part(DAY), item!(".")];
 
-// By the first of `noon`; an hour, `:` and a minute; and a day and `.`.
+// Rejected by the first of `noon`; an hour, `:` and a minute; and a day and `.`.
 static CHOICE_ROWS: [Row<'static>; 15] = [
     (b"12:60", 3, Component("minute")),
     (b"12:5", 3, Component("minute")),
@@ -57,7 +60,7 @@ static CHOICE_ROWS: [Row<'static>; 15] = [
     (b"", 0, Literal(b"noon")),
 ];
 
-// By the first of an hour, `:` and a minute; and an hour alone.
+// Rejected by the first of an hour, `:` and a minute; and an hour alone.
 static SHORTER_ROWS: [Row<'static>; 4] = [
     // The hour alone is parsed, and `:61` remains; but the minute fails further on.
     (b"12:61", 3, Component("minute")),
@@ -66,7 +69,7 @@ static SHORTER_ROWS: [Row<'static>; 4] = [
     (b"24", 0, Component("hour")),
 ];
 
-/// By the first of `noon`, `nine` and `ni`. Of the failures at one byte the first has precedence.
+/// Rejected by the first of `noon`, `nine` and `ni`. Of the failures at one byte the first has precedence.
 pub static WORD_ROWS: [Row<'static>; 6] = [
     (b"nose", 2, Literal(b"on")),
     (b"nin", 3, Literal(b"e")),
@@ -77,9 +80,10 @@ pub static WORD_ROWS: [Row<'static>; 6] = [
     (b"ni!", 2, End),
 ];
 
+// `(`, a day and `)`.
 const IN_BRACKETS: [Item; 3] = [item!("("), Part(DAY), item!(")")];
 
-// By an optional `+`, and an optional group of `(`, a day and `)`.
+// Rejected by an optional `+`, and an optional group of `(`, a day and `)`.
 static OPTIONS_ROWS: [Row<'static>; 7] = [
     (b"x", 0, End),
     (b"-", 0, End),
@@ -93,11 +97,13 @@ static OPTIONS_ROWS: [Row<'static>; 7] = [
 // An hour, and then the end of the text.
 const ENDS: [Item; 2] = [Part(HOUR), Part(END)];
 
+// Rejected by `ENDS`.
 static ENDS_ROWS: [Row<'static>; 1] = [(b"23x", 2, End)];
 
-// Bytes that aren't text are expected as they are.
+// A literal of bytes that aren't UTF-8, and a day.
 const BYTES: [Item; 2] = [BorrowedFormatItem::Literal(&[0xff, 0x00]), Part(DAY)];
 
+// Rejected by `BYTES`. What is expected is the remaining bytes of the literal, as they are.
 static BYTES_ROWS: [Row<'static>; 4] = [
     (&[0xff, 0x01], 1, Literal(&[0x00])),
     (&[0xff], 1, Literal(&[0x00])),
@@ -118,7 +124,7 @@ const MOMENT: [Item; 9] = [
     Part(MINUTE),
 ];
 
-// A text that is truncated at each byte fails at the start of the truncated item.
+// Rejected by `MOMENT`: `2021-01-02 03:04` truncated at each byte fails at the start of the truncated item.
 static MOMENT_ROWS: [Row<'static>; 16] = [
     (b"", 0, Component("year")),
     (b"2", 0, Component("year")),
@@ -138,10 +144,10 @@ static MOMENT_ROWS: [Row<'static>; 16] = [
     (b"2021-01-02 03:0", 14, Component("minute")),
 ];
 
-// By items that parse no byte.
+// Rejected by no items, which parse no byte.
 static NO_ROWS: [Row<'static>; 1] = [(b"x", 0, End)];
 
-// Asserts that the items as a format reject the text of each row at its location.
+// Asserts that the items as a format, without defaults, reject the text of each row at its location.
 fn assert_items(rt: &impl Abort, items: &[BorrowedFormatItem<'_>], rows: &[Row<'_>]) {
     for row in rows {
         assert!(rt;
@@ -152,14 +158,15 @@ fn assert_items(rt: &impl Abort, items: &[BorrowedFormatItem<'_>], rows: &[Row<'
     }
 }
 
-// Asserts that the items as a format parse each of the texts whole.
+// Asserts that the items as a format parse each of the texts whole, so that it has no location.
 fn assert_whole(rt: &impl Abort, items: &[BorrowedFormatItem<'_>], texts: &[&[u8]]) {
     for text in texts {
         assert!(rt; Items(items).locate(text, None).is_none(), "{text:?}");
     }
 }
 
-// Asserts both, also for one compound item of the items.
+// Asserts that the items reject the text of each row at its location, and parse the texts of `whole` whole: as a
+// format, and as one compound item.
 fn assert_list(
     rt: &impl Abort,
     items: &[BorrowedFormatItem<'_>],
@@ -228,7 +235,8 @@ mod components {
     use time_record::Parsed;
     use time_values::error::Parse;
 
-    /// A text, the name of a component, and the index at which the component starts.
+    /// A text, the name of a component, and the index at which the component starts; `None` if the format parses no
+    /// prefix of the text, or a prefix without that component.
     pub type Mark<'a> = (&'a [u8], &'a str, Option<usize>);
 
     static RFC3339: [Mark<'static>; 25] = [
@@ -343,8 +351,10 @@ mod components {
         (b"x", "year", None),
     ];
 
+    // A date and an optional time.
     const DATE_TEXT: &[u8] = b"[year]-[month]-[day][optional [ [hour]:[minute]]]";
 
+    // A blank, an hour, `:` and a minute.
     const CLOCK: [BorrowedFormatItem<'static>; 4] = [
         item!(" "),
         Part(HOUR),
@@ -367,6 +377,7 @@ mod components {
         (b"2021-02", "year", None),
     ];
 
+    // The first of an hour and a minute, an ordinal and a year, and a week number, an ISO year and a weekday.
     const CHOICE_TEXT: &[u8] =
         b"[first [[hour]:[minute]] [[ordinal].[year]] [[week_number].[year base:iso_week]-[weekday repr:monday]]]";
 
@@ -442,8 +453,8 @@ mod components {
         }
     }
 
-    // A text, and the index at which it fails if it doesn't make a date: the location of its error, or the start of the
-    // component that the calendar rejects.
+    // A text, and the result of parsing it as a date: on failure, the index of its error, or the start of the component
+    // that the calendar rejects; `None` if there is neither.
     type Fault<'a> = (&'a [u8], Result<(), Option<usize>>);
 
     static RFC3339_DATES: [Fault<'static>; 2] = [
@@ -461,6 +472,7 @@ mod components {
         (b"03:04", Err(None)),
     ];
 
+    // A year, the number of a week that starts on Sunday, and a short weekday.
     const WEEK_TEXT: &[u8] = b"[year]-[week_number repr:sunday]-[weekday repr:short]";
 
     // 1 January 2022 is a Saturday. With weeks from Sunday, week 0 of 2022 has that day alone, and no Friday.
@@ -469,6 +481,7 @@ mod components {
         (b"2022-00-Sat", Ok(())),
     ];
 
+    // Asserts for each row that parsing its text as a date, without defaults, has the row's result.
     fn assert_dates<F: Locate>(rt: &impl Abort, format: &F, rows: &[Fault<'_>]) {
         for (text, expected) in rows {
             let found = match format.parse_date(text, None) {
@@ -487,7 +500,8 @@ mod components {
         assert_dates(&rt, &description_of(&rt, WEEK_TEXT), &WEEK_DATES);
     }
 
-    // The index at which a rejected text fails.
+    // The index at which a text fails that was rejected with the error `refusal`; `None` without an error, or if no
+    // index is found.
     fn index_of<F: Locate>(format: &F, text: &[u8], refusal: Option<Parse>) -> Option<usize> {
         locate_error(format, text, None, refusal?)
     }
@@ -511,6 +525,7 @@ mod described {
     use time_descriptions::parse_strftime;
     use time_locating::Expected::{Component, End, Literal};
 
+    // Rejected by `[year]-[month]-[day]`.
     const DATE: &[Row<'static>] = &[
         (b"2021-13-02", 5, Component("month")),
         (b"2021-00-02", 5, Component("month")),
@@ -530,6 +545,7 @@ mod described {
         (b"", 0, Component("year")),
     ];
 
+    // Rejected by `at [hour] o'clock[optional [ and [minute]]]`.
     const TIME: &[Row<'static>] = &[
         (b"on 12 o'clock", 0, Literal(b"a")),
         (b"at 24 o'clock", 3, Component("hour")),
@@ -549,6 +565,7 @@ mod described {
         (b"", 0, Literal(b"a")),
     ];
 
+    // Rejected by `[first [noon] [[hour]:[minute]] [[day].]]`.
     const CHOICE: &[Row<'static>] = &[
         (b"12:60", 3, Component("minute")),
         (b"12", 2, Literal(b":")),
@@ -560,7 +577,7 @@ mod described {
         (b"32", 0, Literal(b"n")),
     ];
 
-    // By a year, `-W` and a week as ISO 8601 counts them.
+    // Rejected by a year, `-W` and a week as ISO 8601 counts them.
     const WEEK: &[Row<'static>] = &[
         (b"2021-w23", 5, Literal(b"W")),
         (b"2021-", 5, Literal(b"W")),
@@ -569,7 +586,7 @@ mod described {
         (b"2021-W54", 6, Component("week number")),
     ];
 
-    // By the first of `noon` and `nine`. Of the failures at one byte the first has precedence.
+    // Rejected by the first of `noon` and `nine`. Of the failures at one byte the first has precedence.
     const WORDS: &[Row<'static>] = &[
         (b"night", 2, Literal(b"n")),
         (b"no", 2, Literal(b"o")),
@@ -627,13 +644,16 @@ mod owned {
     };
     use time_locating::Expected::{Component, End, Literal};
 
+    // By a dash and a day. The second text is rejected.
     static DASH_AND_DAY: [Mark<'static>; 2] = [(b"-30", "day", Some(1)), (b"-32", "day", None)];
 
+    // By a day alone.
     static ONE_DAY: [Mark<'static>; 2] = [(b"30", "day", Some(0)), (b"30", "hour", None)];
 
+    // Rejected by an hour and an optional `h`.
     static HOUR_AND_LETTER: [Row<'static>; 2] = [(b"23m", 2, End), (b"24h", 0, Component("hour"))];
 
-    // By `-W` and a day.
+    // Rejected by `-W` and a day.
     static LETTER_AND_DAY: [Row<'static>; 4] = [
         (b"-w23", 1, Literal(b"W")),
         (b"-", 1, Literal(b"W")),
@@ -647,6 +667,7 @@ mod owned {
         (b"ab", 1, End),
     ];
 
+    // A borrowed item skips a single byte: of the two of U+00E9 the second remains.
     static SKIPPED_BYTE: [Row<'static>; 1] = [(b"\xc3\xa9", 1, End)];
 
     // A dash and a day.

@@ -13,6 +13,7 @@ use time_tests_records::same::same_record;
 
 type Item = BorrowedFormatItem<'static>;
 
+// A year, a month and a day, with a dash between each two.
 const DATE: [Item; 5] = [
     Component(YEAR),
     item!("-"),
@@ -21,6 +22,7 @@ const DATE: [Item; 5] = [
     Component(DAY),
 ];
 
+// A day, a month and a year, with a dot between each two.
 const DOTTED: [Item; 5] = [
     Component(DAY),
     item!("."),
@@ -31,9 +33,11 @@ const DOTTED: [Item; 5] = [
 
 const PLUS: [Item; 1] = [item!("+")];
 
+// A dot, and a fraction of one or more digits.
 const FRACTION: [Item; 2] = [item!("."), Component(SUBSECOND)];
 
-// Whether both parse the text equally: the values of the whole text, and the rest and record of a prefix, or the error.
+// Whether the items, as one compound item, and the prepared description parse the text equally: the values of the whole
+// text, and the rest and record of a prefix, or the error.
 fn has_equal_results<'a>(
     items: &'a [BorrowedFormatItem<'a>],
     prepared: &Prepared<64>,
@@ -49,7 +53,8 @@ fn has_equal_results<'a>(
         && values_of(&format, text) == values_of(prepared, text)
 }
 
-// Whether the items are prepared as these steps, and parse each text equally.
+// Whether the items are prepared as these steps, and both parse each text equally. `false` if preparing them for 64
+// steps fails.
 fn are_prepared<'a>(items: &'a [BorrowedFormatItem<'a>], steps: &[Step], texts: &[&[u8]]) -> bool {
     let Ok(prepared) = Prepared::<64>::from_items(items) else {
         return false;
@@ -60,7 +65,8 @@ fn are_prepared<'a>(items: &'a [BorrowedFormatItem<'a>], steps: &[Step], texts: 
             .all(|text| has_equal_results(items, &prepared, text))
 }
 
-// Asserts that the items have the steps of the description, and parse each of the texts equally.
+// Asserts that the items are prepared as the steps of the description `text`, and that the items and the prepared steps
+// parse each of the `texts` equally.
 fn assert_described<'a>(
     rt: &impl Abort,
     items: &'a [BorrowedFormatItem<'a>],
@@ -74,7 +80,8 @@ fn assert_described<'a>(
     assert!(rt; are_prepared(items, steps, texts), "{text:?}");
 }
 
-// Asserts that the items, for which there is no description as text, have these steps, and parse each text equally.
+// Asserts that the items, for which there is no description as text, are prepared as these steps, and that both parse
+// each text equally.
 fn assert_steps<'a>(
     rt: &impl Abort,
     items: &'a [BorrowedFormatItem<'a>],
@@ -95,12 +102,12 @@ fn dates(rt: HostRuntime) {
     );
 }
 
-// `:09`, with an optional fraction.
+// `:` and a second, with an optional fraction.
 fn second_items<'a>(fraction: &'a BorrowedFormatItem<'a>) -> [BorrowedFormatItem<'a>; 3] {
     [item!(":"), Component(SECOND), Optional(fraction)]
 }
 
-// `05:06`, with an optional second.
+// An hour, `:` and a minute, with an optional second.
 fn clock_items<'a>(seconds: &'a BorrowedFormatItem<'a>) -> [BorrowedFormatItem<'a>; 4] {
     [
         Component(HOUR),
@@ -129,12 +136,12 @@ fn groups(rt: HostRuntime) {
     );
 }
 
-// One of these, and nothing else.
+// The first of these that parses, and nothing else.
 fn choice_items<'a>(items: &'a [BorrowedFormatItem<'a>]) -> [BorrowedFormatItem<'a>; 1] {
     [First(items)]
 }
 
-// One of these, and a comma.
+// The first of these that parses, and a comma with a blank.
 fn before_comma<'a>(items: &'a [BorrowedFormatItem<'a>]) -> [BorrowedFormatItem<'a>; 2] {
     [First(items), Literal(b", ")]
 }
@@ -240,7 +247,7 @@ fn sign_items<'a>(plus: &'a BorrowedFormatItem<'a>) -> [BorrowedFormatItem<'a>; 
     [Optional(plus), item!("-")]
 }
 
-// One of these, and an hour.
+// The first of these that parses, and an hour.
 fn choice_before_hour<'a>(items: &'a [BorrowedFormatItem<'a>]) -> [BorrowedFormatItem<'a>; 2] {
     [First(items), Component(HOUR)]
 }
@@ -264,7 +271,7 @@ fn optional_in_a_choice(rt: HostRuntime) {
     );
 }
 
-// Asserts the error of preparing the items for four steps, if there is one.
+// Asserts that preparing the items for at most four steps fails for that reason, or succeeds if it is `None`.
 fn assert_reason(rt: &impl Abort, items: &[BorrowedFormatItem<'_>], reason: Option<Unprepared>) {
     assert!(rt;
         Prepared::<4>::from_items(items).err() == reason,
@@ -327,6 +334,7 @@ fn room(rt: HostRuntime) {
     assert!(rt; Prepared::<5>::from_items(&DATE).is_ok());
 }
 
+// A reason, and how it is displayed.
 static TEXTS: [(Unprepared, &str); 3] = [
     (Unprepared::EmptyLiteral, "a literal is empty"),
     (

@@ -15,18 +15,19 @@ use jiff_tz::tzif::Transition;
 use jiff_tz::{TimeZone, Tzif, posix};
 use time_values::{OffsetDateTime, PlainDateTime};
 
-// The first and the last second of the range of zones, since 1970-01-01T00:00:00Z.
+// The first second of the range of zones, -9999-01-02T01:59:59Z, in seconds since 1970-01-01T00:00:00Z.
 const FIRST_SECOND: i64 = -377_705_023_201;
 
+// The last second of the range of zones, 9999-12-30T22:00:00Z, in seconds since 1970-01-01T00:00:00Z.
 const LAST_SECOND: i64 = 253_402_207_200;
 
-// Half a year of the calendar: in most zones clocks go on and back once a year.
+// Half a mean year of the calendar, in seconds: in most zones clocks go on and back once a year.
 const HALF_YEAR: i64 = 15_778_476;
 
-// The largest number of seconds of an offset, ahead or behind.
+// The greatest number of seconds that an offset is ahead of UTC or behind it: 25:59:59.
 const FURTHEST: i64 = 93_599;
 
-// The offset of the row before index `place`, if all of the seconds lie between that row and the next.
+// The offset that row `place - 1` sets, if it isn't after `begin` and row `place` is after `end`. `None` otherwise.
 #[inline(always)]
 fn offset_before(rows: &[Transition], place: usize, begin: i64, end: i64) -> Option<Offset>
     ensures { IfSome result (IsRowOffset rows.now begin end) }
@@ -41,8 +42,8 @@ fn offset_before(rows: &[Transition], place: usize, begin: i64, end: i64) -> Opt
     Some(last.after.offset)
 }
 
-// The offset of the row before the seconds, if they lie between two rows. The search first tries two rows: the one at
-// the index that two rows a year would give, and the one after it.
+// The offset of the row before `begin` to `end`, if they lie between two rows; `last` is the last row's second. The
+// search first tries the row at the index that two rows a year would give, and the one after it.
 #[inline(always)]
 fn offset_between(rows: &[Transition], last: i64, begin: i64, end: i64) -> Option<Offset>
     requires near { (neg_ℤ (pos 377_705_023_201) ≤ℤ end) × (end <ℤ last) × (last ≤ℤ pos 253_402_207_200) }
@@ -70,7 +71,8 @@ fn rule_offset(rule: &posix::TimeZone) -> Option<Offset>
     }
 }
 
-// The offset of a table after all of its rows, if no rule with two offsets follows.
+// The offset of a table after all of its rows. `None` if a rule with daylight saving time follows. Without rows and a
+// rule it is the table's first offset.
 #[tactic(auto, using(crate::proofs::ZoneLemmas::behind_rows, crate::proofs::ZoneLemmas::if_some))]
 fn offset_behind(table: &Tzif) -> Option<Offset>
     ensures { IfSome result (λ o. (n : ℤ) → count_at table.now (floor_second n) ≡ vec_len table.now.transitions
@@ -85,8 +87,8 @@ fn offset_behind(table: &Tzif) -> Option<Offset>
     }
 }
 
-// The offset of a table in all of the seconds, which are in the range of zones. Inlined, so that one second costs no
-// more work.
+// The offset of a table in all Unix seconds from `begin` to `end`. `end` must be in the range of zones. `None` means
+// only that no short cut applies. Inlined, so that one second costs no more work.
 #[inline(always)]
 fn offset_by_rows(table: &Tzif, begin: i64, end: i64) -> Option<Offset>
     requires { (neg_ℤ (pos 377_705_023_201) ≤ℤ end) × (end ≤ℤ pos 253_402_207_200) }
@@ -106,8 +108,8 @@ fn offset_by_rows(table: &Tzif, begin: i64, end: i64) -> Option<Offset>
     offset_behind(table)
 }
 
-/// The offset of the zone in all seconds from `begin` to `end`, if they lie between two rows of a table, or if its rule
-/// has a single offset.
+/// The offset of the zone in all Unix seconds from `begin` to `end`, if they lie between two rows of its table or after
+/// all rows with no rule of two offsets, or the zone is a rule with one. `None` means only that no short cut applies.
 #[inline(always)]
 pub(super) fn offset_within(zone: &TimeZone<'_>, begin: i64, end: i64) -> Option<Offset>
     requires { begin ≤ℤ end }
@@ -124,7 +126,8 @@ pub(super) fn offset_within(zone: &TimeZone<'_>, begin: i64, end: i64) -> Option
     }
 }
 
-/// The moment of the local date and time in the zone, if the zone has one offset as far around it as offsets reach.
+/// The only moment of the local date and time in the zone, if `offset_within` finds one offset from 25:59:59 before it
+/// to 25:59:59 after it. `None` means only that no short cut applies.
 #[inline(always)]
 pub(super) fn only_moment(clock: PlainDateTime, zone: &TimeZone<'_>) -> Option<OffsetDateTime>
     ensures { IfSome result (IsOnlyMoment zone.now clock) }

@@ -13,7 +13,7 @@ use std::alloc::{AllocError, Global};
 use time_values::UtcOffset;
 use time_values::digits::pair;
 
-/// The rest after the byte, if the text begins with it.
+/// The rest after the byte, if the text begins with it. `None` otherwise.
 pub(super) fn after(text: &[u8], byte: u8) -> Option<&[u8]>
     ensures some { IfSome result (λ rest. text.now ≡ byte ∷ rest.now) }
     ensures none { IfNone result ((rest : List ℕ) → text.now ≢ byte ∷ rest) }
@@ -24,21 +24,21 @@ pub(super) fn after(text: &[u8], byte: u8) -> Option<&[u8]>
     }
 }
 
-// Whether a part of a zone's name may begin with the byte.
+// Whether a part of a zone's name may begin with the byte: an ASCII letter, `.` or `_`.
 fn is_zone_initial(byte: u8) -> bool
     ensures { result ≡ suffix.is_zone_initial byte }
 {
     byte.is_ascii_alphabetic() || matches!(byte, b'.' | b'_')
 }
 
-/// Whether a part of a zone's name may continue with the byte.
+/// Whether a part of a zone's name may continue with the byte: an ASCII letter or digit, `.`, `_`, `-` or `+`.
 pub(super) fn is_zone_char(byte: u8) -> bool
     ensures { result ≡ suffix.is_zone_char byte }
 {
     is_zone_initial(byte) || byte.is_ascii_digit() || matches!(byte, b'-' | b'+')
 }
 
-// Whether the text consists of bytes that a part of a zone's name may have, in their order.
+// Whether the text isn't empty and its bytes are those of a part of a zone's name, at the start and after it.
 fn is_zone_word(text: &[u8]) -> bool
     ensures { IsTrue result ↔ IsWord suffix.is_zone_initial suffix.is_zone_char text.now }
 {
@@ -50,35 +50,35 @@ fn is_zone_word(text: &[u8]) -> bool
     }
 }
 
-// Whether the text is a part of a zone's name.
+// Whether the text is a part of a zone's name, which is neither `.` nor `..`.
 fn is_zone_part(text: &[u8]) -> bool
     ensures { IsTrue result ↔ IsTimeZonePart text.now }
 {
     !matches!(text, b"." | b"..") && is_zone_word(text)
 }
 
-/// Whether the text is a zone's name.
+/// Whether the text is a zone's name by the grammar: one or more parts with slashes between them.
 pub(super) fn is_zone_name(name: &[u8]) -> bool
     ensures { IsTrue result ↔ IsTimeZoneName name.now }
 {
     name.split(|byte| *byte == b'/').all(is_zone_part)
 }
 
-// Whether a key may begin with the byte.
+// Whether a key may begin with the byte: a lowercase ASCII letter or `_`.
 fn is_key_initial(byte: u8) -> bool
     ensures { result ≡ suffix.is_key_initial byte }
 {
     byte.is_ascii_lowercase() || byte == b'_'
 }
 
-// Whether a key may continue with the byte.
+// Whether a key may continue with the byte: a lowercase ASCII letter, an ASCII digit, `_` or `-`.
 fn is_key_char(byte: u8) -> bool
     ensures { result ≡ suffix.is_key_char byte }
 {
     is_key_initial(byte) || byte.is_ascii_digit() || byte == b'-'
 }
 
-// Whether the text is a key.
+// Whether the text is a key: a byte that may begin one, and any number of bytes that may continue it.
 fn is_key(text: &[u8]) -> bool
     ensures { IsTrue result ↔ IsSuffixKey text.now }
 {
@@ -90,21 +90,21 @@ fn is_key(text: &[u8]) -> bool
     }
 }
 
-// Whether the text is one value.
+// Whether the text is one value: one or more ASCII letters and digits.
 fn is_value(text: &[u8]) -> bool
     ensures { IsTrue result ↔ IsSuffixValue text.now }
 {
     !text.is_empty() && text.iter().all(|byte| byte.is_ascii_alphanumeric())
 }
 
-// Whether the text is a list of values.
+// Whether the text is one or more values with dashes between them.
 fn are_values(text: &[u8]) -> bool
     ensures { IsTrue result ↔ AreSuffixValues text.now }
 {
     text.split(|byte| *byte == b'-').all(is_value)
 }
 
-// The number of two digits.
+// The number of two ASCII digits. `None` if either byte is no digit.
 fn two_digits(tens: u8, ones: u8) -> Option<u8>
     ensures some { IfSome result (λ n. (n < 100) × (suffix.two_digits n ≡ tens ∷ ones ∷ [])) }
     ensures none { IfNone result ((n : ℕ) → n < 100 → suffix.two_digits n ≢ tens ∷ ones ∷ []) }
@@ -115,7 +115,7 @@ fn two_digits(tens: u8, ones: u8) -> Option<u8>
     Some((tens - b'0') * 10 + (ones - b'0'))
 }
 
-// The seconds of the hours and minutes in the text.
+// The seconds of the text `hh:mm`, from 00:00 to 23:59. `None` for any other text.
 fn seconds_of(text: &[u8]) -> Option<u32>
     ensures some { IfSome result (IsHourMinute text.now) }
     ensures bound { IfSome result (λ n. n < 86_400) }
@@ -132,7 +132,7 @@ fn seconds_of(text: &[u8]) -> Option<u32>
     Some(u32::from(hour) * 3600 + u32::from(minute) * 60)
 }
 
-// The offset of that number of seconds, less than a day.
+// The offset of that number of seconds, less than a day ahead of UTC or behind it.
 fn offset_of_seconds(seconds: i32) -> UtcOffset
     requires { IsBetween (neg_ℤ (pos 86_399)) (pos 86_399) seconds }
     ensures { offset_seconds result ≡ seconds }
@@ -143,7 +143,7 @@ fn offset_of_seconds(seconds: i32) -> UtcOffset
     }
 }
 
-/// The offset that the text specifies.
+/// The offset that the text specifies as `+hh:mm` or `-hh:mm`, up to 23:59. `None` for any other text.
 pub(super) fn offset_of(text: &[u8]) -> Option<UtcOffset>
     ensures some { IfSome result (IsNumOffset text.now) }
     ensures none { IfNone result ((o : Offset) → IsNumOffset text.now o → ⊥) }
@@ -165,14 +165,14 @@ fn key_len(text: &[u8]) -> usize
     text.iter().take_while(|byte| is_key_char(**byte)).count()
 }
 
-// Whether the texts are a key and values.
+// Whether the first text is a key, and the second one or more values with dashes between them.
 fn is_keyed(key: &[u8], values: &[u8]) -> bool
     ensures { IsTrue result ↔ (IsSuffixKey key.now × AreSuffixValues values.now) }
 {
     is_key(key) && are_values(values)
 }
 
-/// The key of the tag, if the text is one.
+/// The key, if the text is a key, `=` and values. `None` for any other text.
 pub(super) fn key_of(text: &[u8]) -> Option<&[u8]>
     ensures some { IfSome result (λ key. (values : List ℕ) × IsKeyed text.now key.now values) }
     ensures none { IfNone result ((key values : List ℕ) → IsKeyed text.now key values → ⊥) }
@@ -185,7 +185,7 @@ pub(super) fn key_of(text: &[u8]) -> Option<&[u8]>
     Some(key)
 }
 
-// The hours and minutes of that number of seconds, below a day.
+// The text `hh:mm` of that number of seconds. `None` if it isn't whole minutes, or is a day or more.
 #[tactic(auto, unfolding(time_values::specs::DisplayTexts::fixed))]
 fn time_of(seconds: u32) -> Option<[u8; 5]>
     ensures some { IfSome result (λ text. IsHourMinute text seconds) }
@@ -199,7 +199,7 @@ fn time_of(seconds: u32) -> Option<[u8; 5]>
     Some([hour_tens, hour_ones, b':', minute_tens, minute_ones])
 }
 
-// The offset as a suffix has it: hours and minutes after a sign. `None` if it has seconds or a day or more.
+// The offset as a suffix has it: `+hh:mm`, also for 0, or `-hh:mm`. `None` if it has seconds or a day or more.
 fn offset_text(offset: UtcOffset) -> Option<[u8; 6]>
     ensures some { IfSome result (λ text. IsNumOffset text offset) }
     ensures none { IfNone result ((text : List ℕ) → IsNumOffset text offset → ⊥) }
@@ -210,7 +210,7 @@ fn offset_text(offset: UtcOffset) -> Option<[u8; 6]>
     Some([sign, h1, h2, colon, m1, m2])
 }
 
-// The text in brackets.
+// The text between `[` and `]`, without a flag. Fails only if memory runs out.
 fn bracketed(alloc: Global, text: &[u8]) -> Result<Vec<u8>, AllocError>
     ensures { IfOk result (λ suffix. suffix.items ≡ bracketed false text.now) }
 {
@@ -222,7 +222,8 @@ fn bracketed(alloc: Global, text: &[u8]) -> Result<Vec<u8>, AllocError>
 }
 
 /// The suffix that specifies the zone, which isn't critical: `[Europe/Berlin]` or `[+05:30]`. `None` if RFC 9557,
-/// section 4.1, has no text for it: the name isn't one by its grammar, or the offset has seconds or a day or more.
+/// section 4.1, has no text for it: the name isn't one by its grammar, or the offset has seconds or a day or more. An
+/// error only if memory runs out.
 pub fn write_suffix(alloc: Global, zone: ZoneText<'_>) -> Result<Option<Vec<u8>>, AllocError>
     ensures some { IfOk result (λ written. IfSome written (λ suffix.
         (text : List ℕ) × IsZoneText text (zone_of zone.entry) × (suffix.items ≡ bracketed false text))) }

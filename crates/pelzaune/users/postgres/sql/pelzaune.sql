@@ -29,6 +29,7 @@ SELECT pelzaune_time(repeat('0', 1048577));
 -- formatting at an offset and in a time zone
 SELECT pelzaune_text('1985-04-12 23:20:50.52+00', 'rfc3339', '-08:30');
 SELECT pelzaune_text('1985-04-12 23:20:50.52+00', 'rfc2822', 'Europe/Berlin');
+SELECT pelzaune_text('1985-04-12 23:20:50.52+00', '%T.%3f %:z', '-08:30');
 SELECT pelzaune_text('1985-04-12 23:20:50.52+00', 'rfc2822', 'Europe/Atlantis');
 
 DROP EXTENSION pelzaune;

@@ -84,6 +84,7 @@ ANSWERS = [
     ("text('1985-04-12 23:20:50.52+00', 'rfc3339', 'Asia/Kathmandu')", "1985-04-13T04:50:50.52+05:30"),
     ("text('1986-04-12 23:20:50.52+00', 'rfc3339', 'asia/kathmandu')", "1986-04-13T05:05:50.52+05:45"),
     ("text('1985-04-12 23:20:50.52+00', '%d.%m.%Y %H:%M %z', 'Europe/Berlin')", "13.04.1985 01:20 +0200"),
+    ("text('1985-04-12 23:20:50.52+00', '%T.%3f %:z', '-08:30')", "14:50:50.520 -08:30"),
     ("text('1985-04-12 23:20:50.52+00', 'rfc3339', 'UTC')", "1985-04-12T23:20:50.52Z"),
     # Berlin's local mean time was 53:28 ahead of UTC
     ("text('1880-01-01 00:00:00+00', '[hour]:[minute]:[second] [offset_hour sign:mandatory]:[offset_minute]:[offset_second]', 'Europe/Berlin')",

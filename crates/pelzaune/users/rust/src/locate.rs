@@ -6,7 +6,7 @@ use std::fmt;
 /// Where a rejected text fails. It displays as the library's text of what was expected there.
 #[derive(Clone, Copy, PartialEq, Eq, Hash)]
 pub struct Place {
-    /// The index in the text of the part that was expected, or the text's length where the text is too short.
+    /// The index in the text of the part that was expected, or the text's length if it ends there.
     pub index: usize,
     /// The first byte of the literal that was expected there, or `None` where none was.
     pub byte: Option<u8>,

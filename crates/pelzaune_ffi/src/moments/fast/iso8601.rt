@@ -1,6 +1,6 @@
 //! Fast paths for the commonest texts of ISO 8601: a calendar date, a time without a fraction, and an optional offset.
 //!
-//! Each returns what the library's parser does, or `None`: not this form.
+//! Each returns what the library's parser does, or `None` if it doesn't apply.
 ghost use Rattle.std.specs.Prelude.{◌≡◌, List, ℕ, IfSome, IsTrue, Ok, Some, None, true};
 ghost use Rattle.time_values.specs.Calendar.{greatest_year};
 ghost use Rattle.time_readers.specs.IsoPieces.{point};
@@ -19,7 +19,7 @@ use time_readers::iso8601::fast::{basic_date, date_of, extended_date};
 use time_readers::iso8601::{DateNumbers, ExtendedKind, TimeNumbers};
 use time_values::{OffsetDateTime, PlainDateTime};
 
-// The date and the time at the start of a text, the bytes after them, and whether they have separators.
+// The date and the time at the start of a text, the bytes after them, and whether the date and time have separators.
 #[derive(Clone, Copy)]
 struct Front<'a> {
     date: DateNumbers,
@@ -28,7 +28,7 @@ struct Front<'a> {
     kind: ExtendedKind,
 }
 
-// Whether the text ends here or an offset starts here, so that no fraction follows.
+// Whether there are no bytes or the first is `+`, `-` or `Z`, so that they don't start with a fraction.
 #[inline(always)]
 fn has_no_fraction(bytes: &[u8]) -> bool
     ensures { IsTrue result → point bytes.now ≡ None }
@@ -40,7 +40,8 @@ fn has_no_fraction(bytes: &[u8]) -> bool
     }
 }
 
-// `T` and a time up to the second, with separators. `None`: not this form.
+// The numbers of a time as `T03:04:05` at the start of a text, and the bytes after it. `None`: another form, an hour
+// above 23, or bytes after it that don't start with `+`, `-` or `Z`.
 #[inline(always)]
 fn extended_time(text: &[u8]) -> Option<(TimeNumbers, &[u8])>
     ensures { IfSome result (λ p. time_text true Extended text.now
@@ -74,7 +75,8 @@ fn extended_time(text: &[u8]) -> Option<(TimeNumbers, &[u8])>
     Some((time, after))
 }
 
-// `T` and a time up to the second, without separators. `None`: not this form.
+// The numbers of a time as `T030405` at the start of a text, and the bytes after it. `None`: another form, an hour
+// above 23, or bytes after it that don't start with `+`, `-` or `Z`.
 #[inline(always)]
 fn basic_time(text: &[u8]) -> Option<(TimeNumbers, &[u8])>
     ensures { IfSome result (λ p. time_text true Basic text.now
@@ -106,7 +108,8 @@ fn basic_time(text: &[u8]) -> Option<(TimeNumbers, &[u8])>
     Some((time, rest))
 }
 
-// A date and a time with separators. `None`: not this form. A fraction is ruled out before any parsing.
+// The date and time as `2021-01-02T03:04:05` at the start of a text. `None`: the fast path doesn't apply, as to a time
+// with a fraction, which is ruled out before parsing.
 #[inline(always)]
 fn extended(text: &[u8]) -> Option<Front<'_>>
     ensures { IfSome result (IsFront text.now) }
@@ -125,7 +128,8 @@ fn extended(text: &[u8]) -> Option<Front<'_>>
     })
 }
 
-// A date and a time without separators. `None`: not this form. A fraction is ruled out before any parsing.
+// The date and time as `20210102T030405` at the start of a text. `None`: the fast path doesn't apply, as to a time with
+// a fraction, which is ruled out before parsing.
 #[inline(always)]
 fn basic(text: &[u8]) -> Option<Front<'_>>
     ensures { IfSome result (IsFront text.now) }
@@ -144,7 +148,8 @@ fn basic(text: &[u8]) -> Option<Front<'_>>
     })
 }
 
-// The moment of a text that starts so, and continues with an offset only. `None`: not this form.
+// The moment of a text that is just this date and time and an offset. `None`: anything else or nothing follows the
+// time, the offset is out of range, or the calendar has no such date.
 #[inline(always)]
 fn moment_of(front: Front<'_>) -> Option<OffsetDateTime>
     ensures { (text : List ℕ) → IsFront text front.entry → IfSome result (λ v. of_moment over_record (Reads greatest_year)
@@ -155,7 +160,8 @@ fn moment_of(front: Front<'_>) -> Option<OffsetDateTime>
     Some(OffsetDateTime::new_in_offset(plain.date(), plain.time(), offset))
 }
 
-// The date and time of a text that starts so, and ends there. `None`: not this form.
+// The date and time of a text that is just this date and time. `None`: a byte follows them, or the calendar has no such
+// date.
 #[inline(always)]
 fn local_of(front: Front<'_>) -> Option<PlainDateTime>
     ensures { (text : List ℕ) → IsFront text front.entry → IfSome result (λ p. IsOutcome (IsPlain greatest_year)
@@ -168,13 +174,13 @@ fn local_of(front: Front<'_>) -> Option<PlainDateTime>
     Some(plain)
 }
 
-// Whether the fifth byte is a separator.
+// Whether the fifth byte is `-`, as in a date with separators. `false` for a shorter text.
 #[inline(always)]
 fn has_separators(text: &[u8]) -> bool {
     matches!(text, [_, _, _, _, b'-', ..])
 }
 
-// A date and a time, with or without separators. `None`: not this form.
+// The date and time at the start of a text, with or without separators. `None`: the fast path doesn't apply.
 #[inline(always)]
 fn front_of(text: &[u8]) -> Option<Front<'_>>
     ensures { IfSome result (IsFront text.now) }
@@ -186,7 +192,7 @@ fn front_of(text: &[u8]) -> Option<Front<'_>>
     }
 }
 
-// The moment of a whole text. `None`: not this form.
+// The moment of a whole text of ISO 8601. `None`: the fast path doesn't apply, as to a leap second or a rejected text.
 #[inline(always)]
 pub(in crate::moments) fn moment(text: &[u8]) -> Option<OffsetDateTime>
     ensures { IfSome result (λ v. of_moment over_record (Reads greatest_year) (Refuses greatest_year) text.now (Ok v)) }
@@ -194,7 +200,8 @@ pub(in crate::moments) fn moment(text: &[u8]) -> Option<OffsetDateTime>
     moment_of(front_of(text)?)
 }
 
-// The date and time of a whole text without an offset. `None`: not this form.
+// The date and time of a whole text of ISO 8601 without an offset. `None`: the fast path doesn't apply, as to a
+// rejected text.
 #[inline(always)]
 pub(in crate::moments) fn local(text: &[u8]) -> Option<PlainDateTime>
     ensures { IfSome result (λ p. IsOutcome (IsPlain greatest_year) (Reads greatest_year) (Refuses greatest_year)

@@ -1,6 +1,6 @@
 //! Fast path for the commonest mail dates, which reads many bytes at once.
 //!
-//! Each function returns what the library's parser does, or `None`: not this form.
+//! Each function returns what the library's parser does, or `None` if it doesn't apply.
 ghost use Rattle.std.specs.Prelude.{IfSome, Ok, false};
 ghost use Rattle.time_values.specs.Calendar.{greatest_year};
 ghost use Rattle.time_readers.specs.Direct.{RefusesRfc2822};
@@ -17,7 +17,8 @@ use time_readers::rfc2822::Numbers;
 use time_readers::rfc2822::fast::{offset, to_offset, weekday_name};
 use time_values::OffsetDateTime;
 
-// The weekday's name, a capital and two small letters, and the day. `None`: not this form.
+// Parses a weekday's name of a capital and two small letters, a comma, a space, and a day of one or two digits into
+// `numbers`, and returns the rest. `None`: another form; the weekday may be stored then.
 #[inline(always)]
 fn to_day<'a>(text: &'a [u8], numbers: &mut Numbers) -> Option<&'a [u8]>
     ensures { IfSome result (λ rest. MatchesPlaces (PlaceSyntax false) day_places numbers.old text.now rest.now numbers.new) }
@@ -28,7 +29,8 @@ fn to_day<'a>(text: &'a [u8], numbers: &mut Numbers) -> Option<&'a [u8]>
     Some(day.0)
 }
 
-// The moment of a whole text. `None`: not this form.
+// The moment of a whole mail date of RFC 2822. `None`: the fast path doesn't apply, as to a leap second or a rejected
+// text.
 #[inline(always)]
 pub(in crate::moments) fn moment(text: &[u8]) -> Option<OffsetDateTime>
     ensures { IfSome result (λ v. of_moment (direct (RefusesRfc2822 greatest_year)) (Reads greatest_year)

@@ -8,30 +8,40 @@ ghost use Rattle.pelzaune_ffi.specs.Described as spec;
 use crate::steps::StoredStep;
 use time_preparing::whole::{Dated, InMoment, Whole};
 
-// The kinds of the steps in a form.
+// A literal's first byte. This and the constants below are kinds of stored steps: their numbers in `StoredStep::kind`.
 const LITERAL: u8 = 0;
 
+// `Component::Day`.
 const DAY: u8 = 5;
 
+// `Component::MonthShort`.
 const MONTH_SHORT: u8 = 6;
 
+// `Component::MonthNumerical`.
 const MONTH_NUMERICAL: u8 = 8;
 
+// `Component::CalendarYearFullExtendedRange`.
 const YEAR: u8 = 17;
 
+// `Component::CalendarYearFullStandardRange`.
 const STANDARD_YEAR: u8 = 18;
 
+// `Component::Hour24`.
 const HOUR: u8 = 28;
 
+// `Component::Minute`.
 const MINUTE: u8 = 29;
 
+// `Component::Second`.
 const SECOND: u8 = 31;
 
+// `Component::OffsetHour`.
 const OFFSET_HOUR: u8 = 33;
 
+// `Component::OffsetMinute`.
 const OFFSET_MINUTE: u8 = 34;
 
-/// The form of a description of this many steps that is a date, a byte and a time.
+/// The form of steps that are a date, a byte and a time. `None`: not recognized as one.
 #[inline(always)]
 pub(super) fn date_time(steps: &[StoredStep]) -> Option<Whole>
     ensures { IfSome result (λ whole. map spec.step_of steps.now ≡ whole_parts whole) }
@@ -44,7 +54,8 @@ pub(super) fn date_time(steps: &[StoredStep]) -> Option<Whole>
     Some(Whole::Plain(date, between, in_time))
 }
 
-/// The form of a description of this many steps that is a date, a byte, a time and an offset.
+/// The form of steps that are a date, a byte, a time, perhaps one more byte, and an offset. `None`: not recognized as
+/// one.
 #[inline(always)]
 pub(super) fn moment(steps: &[StoredStep]) -> Option<Whole>
     ensures { IfSome result (λ whole. map spec.step_of steps.now ≡ whole_parts whole) }
@@ -65,7 +76,8 @@ pub(super) fn moment(steps: &[StoredStep]) -> Option<Whole>
     }))
 }
 
-// The form of a date and the byte after it, and the steps after them.
+// The form of the first five steps, which are a date, the byte of the sixth, and the steps after them. `None`: other
+// steps, or no known form of a date.
 #[inline(always)]
 fn front(steps: &[StoredStep]) -> Option<(Dated, u8, &[StoredStep])>
     requires { 6 ≤ length steps.now }
@@ -82,7 +94,8 @@ fn front(steps: &[StoredStep]) -> Option<(Dated, u8, &[StoredStep])>
     Some((date, between, behind))
 }
 
-/// The form of a date.
+/// The form of steps that are a date, with equal bytes between its three parts: a day, a month's short name and a year,
+/// or a year, a month's number and a day. `None`: not recognized as one.
 #[inline(always)]
 pub(super) fn dated(steps: &[StoredStep]) -> Option<Dated>
     ensures { IfSome result (λ form. map spec.step_of steps.now ≡ dated_parts form) }
@@ -109,7 +122,8 @@ pub(super) fn dated(steps: &[StoredStep]) -> Option<Dated>
     None
 }
 
-/// The byte between the parts of a time.
+/// The byte between the parts of steps that are an hour of the 24-hour clock, a minute and a second. `None`: not
+/// recognized as such steps with equal bytes.
 #[inline(always)]
 pub(super) fn timed(steps: &[StoredStep]) -> Option<u8>
     ensures { IfSome result (λ between. map spec.step_of steps.now ≡ time_parts between) }
@@ -124,7 +138,8 @@ pub(super) fn timed(steps: &[StoredStep]) -> Option<u8>
     Some(between)
 }
 
-// The byte before an offset, and the byte in it.
+// The byte before an offset, and the one between its hour and minute, each `None` if there is none. `None` as a whole:
+// the steps are no such offset.
 #[inline(always)]
 fn offset(steps: &[StoredStep]) -> Option<(Option<u8>, Option<u8>)>
     ensures { IfSome result (λ form. map spec.step_of steps.now ≡ byte_parts form.0 ++ offset_parts form.1) }
@@ -140,7 +155,8 @@ fn offset(steps: &[StoredStep]) -> Option<(Option<u8>, Option<u8>)>
     Some((None, within))
 }
 
-// The byte between the parts of an offset with a sign.
+// The byte between the hour and the minute of an offset, or `Some(None)` if there is none. `None`: the steps are no
+// such offset.
 #[inline(always)]
 fn signed(steps: &[StoredStep]) -> Option<Option<u8>>
     ensures { IfSome result (λ between. map spec.step_of steps.now ≡ offset_parts between) }
@@ -155,7 +171,7 @@ fn signed(steps: &[StoredStep]) -> Option<Option<u8>>
     }
 }
 
-// Whether the steps are the hour of an offset with a mandatory sign, and its minute.
+// Whether the steps are the hour of an offset with a mandatory sign, and its minute, both padded with zeros.
 #[inline(always)]
 fn is_offset(hour: &StoredStep, minute: &StoredStep) -> bool
     ensures { IsTrue result → spec.step_of hour.now ∷ spec.step_of minute.now ∷ [] ≡ offset_parts None }
@@ -163,7 +179,7 @@ fn is_offset(hour: &StoredStep, minute: &StoredStep) -> bool
     is_flagged(hour, OFFSET_HOUR, 1) && is_padded(minute, OFFSET_MINUTE)
 }
 
-// The byte that both steps have as a literal.
+// The byte of two steps that are literals of that byte. `None`: another step, or two different bytes.
 #[inline(always)]
 fn one_byte(first: &StoredStep, second: &StoredStep) -> Option<u8>
     ensures first { IfSome result (λ byte. spec.step_of first.now ≡ step_.Literal byte) }
@@ -177,7 +193,7 @@ fn one_byte(first: &StoredStep, second: &StoredStep) -> Option<u8>
     Some(byte)
 }
 
-// The byte of a literal step.
+// The byte of a literal step. `None`: another step.
 #[inline(always)]
 fn byte_of(step: &StoredStep) -> Option<u8>
     ensures { IfSome result (λ byte. spec.step_of step.now ≡ step_.Literal byte) }
@@ -188,7 +204,7 @@ fn byte_of(step: &StoredStep) -> Option<u8>
     Some(step.choice)
 }
 
-// Whether a step has this kind, padding with zeros, and this flag.
+// Whether a step has this kind, the choice 0 (padding with zeros, for a kind with a padding) and this flag.
 #[inline(always)]
 fn is_flagged(step: &StoredStep, kind: u8, flag: u8) -> bool
     ensures { IsTrue result → (step.now.kind ≡ kind) × (step.now.choice ≡ 0) × (step.now.flag ≡ flag) }
@@ -196,7 +212,7 @@ fn is_flagged(step: &StoredStep, kind: u8, flag: u8) -> bool
     is_padded(step, kind) && step.flag == flag
 }
 
-// Whether a step has this kind and padding with zeros. One load reads both numbers.
+// Whether a step has this kind and the choice 0, which is padding with zeros. One load reads both numbers.
 #[inline(always)]
 fn is_padded(step: &StoredStep, kind: u8) -> bool
     ensures { IsTrue result → (step.now.kind ≡ kind) × (step.now.choice ≡ 0) }

@@ -5,16 +5,16 @@ use Rattle.restamp_in_place.proofs.ReplaceLemmas.{IsMade-kept, IsMade-removed, I
 use Rattle.restamp_in_place.proofs.StepLemmas.{runs-any, runs-ok, runs-weaker}
 use Rattle.restamp_in_place.proofs.replacing.finish.Goals as goal
 
-pub returns-in_ok-put-in-Ok-Changed-clause-ends : goal.returns-in_ok-put-in-Ok-Changed-clause-ends
-returns-in_ok-put-in-Ok-Changed-clause-ends g c aim plan written =
+pub returns-in_ok-install_or_remove-in-Ok-Changed-clause-ends : goal.returns-in_ok-install_or_remove-in-Ok-Changed-clause-ends
+returns-in_ok-install_or_remove-in-Ok-Changed-clause-ends g c aim plan written =
     runs-weaker _ _ (Kept aim) _ _ _ (IsMade-kept aim) (λ _ is. is)
-    (c.in_ok-put-in-Ok-Changed.ensures aim plan (IfOk-at_ok _ c.in-Ok-Changed.is written (search rules)))
+    (c.in_ok-install_or_remove-in-Ok-Changed.ensures aim plan (IfOk-at_ok _ c.in-Ok-Changed.is written (search rules)))
 
-pub returns-in_err-put-in-Ok-Changed-clause-ends : goal.returns-in_err-put-in-Ok-Changed-clause-ends
-returns-in_err-put-in-Ok-Changed-clause-ends g c aim plan written =
-    let handed : c.from_residual.result ≡ Err c.in_err-put-in-Ok-Changed.field-0.0 = search rules in
+pub returns-in_err-install_or_remove-in-Ok-Changed-clause-ends : goal.returns-in_err-install_or_remove-in-Ok-Changed-clause-ends
+returns-in_err-install_or_remove-in-Ok-Changed-clause-ends g c aim plan written =
+    let handed : c.from_residual.result ≡ Err c.in_err-install_or_remove-in-Ok-Changed.field-0.0 = search rules in
     rw handed (runs-weaker _ _ (Kept aim) _ _ _ (IsMade-kept aim) (λ _ is. is)
-    (c.in_err-put-in-Ok-Changed.ensures aim plan (IfOk-at_ok _ c.in-Ok-Changed.is written (grind arith))))
+    (c.in_err-install_or_remove-in-Ok-Changed.ensures aim plan (IfOk-at_ok _ c.in-Ok-Changed.is written (grind arith))))
 
 pub returns-in_ok-map_err-in-Ok-Same-clause-ends : goal.returns-in_ok-map_err-in-Ok-Same-clause-ends
 returns-in_ok-map_err-in-Ok-Same-clause-ends g c aim plan written =

@@ -16,7 +16,7 @@ use time_components::component::parse_period;
 use time_components::{Component, Group, Padding, Period, Step};
 use time_values::Time;
 
-// The steps of the form.
+// The steps of the form: an hour, a minute, an optional second and fraction, and AM or PM.
 fn steps_of(form: &InHalf) -> [Step; 11]
     ensures { result ≡ half_parts form.now }
 {
@@ -35,7 +35,7 @@ fn steps_of(form: &InHalf) -> [Step; 11]
     ]
 }
 
-/// The form of these steps. `None`: not this form.
+/// The form of exactly these steps. `None`: they aren't those of such a time of the 12-hour clock.
 pub(super) fn form(steps: &[Step]) -> Option<InHalf>
     ensures { IfSome result (λ form. steps.now ≡ half_parts form) }
 {
@@ -69,7 +69,8 @@ pub(super) fn form(steps: &[Step]) -> Option<InHalf>
     }
 }
 
-// The numbers of the form at the front of the input, and the rest.
+// The numbers of a time of the form at the front of the input, and the rest. `None` if there is none, if a number is
+// out of range, or if the fraction has more than nine digits. The second may be 60.
 #[inline(always)]
 fn numbers<'a>(form: &InHalf, input: &'a [u8]) -> Option<(HalfNumbers, &'a [u8])>
     ensures { IfSome result (λ f. (r : Record) → ReadsAll greatest_year (half_trees form.now)
@@ -91,7 +92,7 @@ fn numbers<'a>(form: &InHalf, input: &'a [u8]) -> Option<(HalfNumbers, &'a [u8])
     Some((numbers, half.0))
 }
 
-// The hour of the day.
+// The hour of the day, 0 to 23, from an hour of the 12-hour clock, 1 to 12, and AM or PM. 12 AM is 0, and 12 PM is 12.
 #[inline(always)]
 fn hour_of(hour: u8, half: Period) -> u8
     ensures { Some result ≡ hour_of_half (Some hour) (Some (is_pm half)) }
@@ -102,7 +103,7 @@ fn hour_of(hour: u8, half: Period) -> u8
     }
 }
 
-// The second and its nanosecond, which are 0 if they are missing.
+// The second and its nanosecond, each 0 if it is missing.
 #[inline(always)]
 fn second_and_nanosecond(second: Option<(u8, Option<u32>)>) -> (u8, u32)
     ensures { result ≡ clock_second second }
@@ -113,7 +114,7 @@ fn second_and_nanosecond(second: Option<(u8, Option<u32>)>) -> (u8, u32)
     }
 }
 
-// The time of these numbers. `None` for a leap second.
+// The time of these numbers. `None` if its second is 60.
 #[inline(always)]
 #[tactic(auto, using(crate::proofs::Wholes::is_half))]
 fn time_of(numbers: &HalfNumbers) -> Option<Time>
@@ -127,7 +128,7 @@ fn time_of(numbers: &HalfNumbers) -> Option<Time>
     }
 }
 
-// The time of a whole text of the form. It isn't inlined, so that other times don't pay for it.
+// The time of a whole text of the form, or `None` as in `time`. It isn't inlined, so that other times don't pay for it.
 #[inline(never)]
 fn whole(form: &InHalf, input: &[u8]) -> Option<Time>
     ensures { IfSome result (λ v. ReadsWhole (whole_.Half form.now) input.now (λ r. IsTimed r (Ok v))) }
@@ -140,7 +141,8 @@ fn whole(form: &InHalf, input: &[u8]) -> Option<Time>
     Some(time)
 }
 
-/// The time of a whole text of the form. `None`: not this form.
+/// The time of a whole text of the form. `None` if the form isn't `Whole::Half`, the text isn't such a time, its second
+/// is 60, or its fraction has more than nine digits.
 #[inline(always)]
 pub(super) fn time(form: &Whole, input: &[u8]) -> Option<Time>
     ensures { IfSome result (λ v. ReadsWhole form.now input.now (λ r. IsTimed r (Ok v))) }

@@ -1,4 +1,4 @@
-//! Whole texts of a date and time without a year, which is that of a given record.
+//! Whole texts of a date without a year, and a time. The year is that of a given record.
 ghost use Rattle.std.specs.Prelude.{◌≡◌, FitsSigned, IfSome, Ok, Some, None};
 ghost use Rattle.std.specs.Int.{w32};
 ghost use Rattle.std.specs.Int.NonZero.{non_zero_u8_get};
@@ -21,10 +21,10 @@ use time_components::{Component, Step};
 use time_record::Parsed;
 use time_values::{Date, Month, PlainDateTime};
 
-// How many bytes a text has. Checking that first saves each parser a check for the end.
+// How many bytes a text of the form has. Checking that first saves each parser a check for the end.
 const LEN: usize = 15;
 
-// The steps of the form.
+// The steps of the form: a month's short name, a day and a time.
 fn steps_of(form: &InYear) -> [Step; 9]
     ensures { result ≡ in_year_parts form.now }
 {
@@ -41,7 +41,7 @@ fn steps_of(form: &InYear) -> [Step; 9]
     ]
 }
 
-/// The form of these steps. `None`: not this form.
+/// The form of exactly these steps. `None`: they aren't those of a month's short name, a day and a time.
 pub(super) fn form(steps: &[Step]) -> Option<InYear>
     ensures { IfSome result (λ form. steps.now ≡ in_year_parts form) }
 {
@@ -69,7 +69,8 @@ pub(super) fn form(steps: &[Step]) -> Option<InYear>
     }
 }
 
-// The year of a record, if a month and a day with it make the date, and no fraction is known.
+// The year of a record. `None` if it has no year, or if it has an ordinal, which would determine the date, or a
+// fraction of a second.
 #[inline(always)]
 fn year_of(known: &Parsed) -> Option<i32>
     ensures year { IfSome result (λ year. known.now.year ≡ Some year) }
@@ -84,7 +85,8 @@ fn year_of(known: &Parsed) -> Option<i32>
     Some(year)
 }
 
-// The short name of a month and a day with this byte between them, and the rest.
+// A month by its short name, and a day, 1 to 31, with this byte between them, at the front of the input, and the rest.
+// `None` if there are none.
 #[inline(always)]
 fn month_and_day(between: u8, input: &[u8]) -> Option<((Month, NonZero<u8>), &[u8])>
     ensures { IfSome result (λ f. (r : Record) → ReadsAll greatest_year (leaves (month_day_parts between))
@@ -98,7 +100,8 @@ fn month_and_day(between: u8, input: &[u8]) -> Option<((Month, NonZero<u8>), &[u
     Some(((month.1, day.1), day.0))
 }
 
-// A date of that year at the front of the input, and the rest.
+// A date of that year, whose month and day, with this byte between them, are at the front of the input, and the rest.
+// `None` if there is none, or if it is no date of the calendar.
 #[inline(always)]
 fn date_of(year: i32, between: u8, input: &[u8]) -> Option<(Date, &[u8])>
     ensures reads { IfSome result (λ f. (r : Record) → ReadsAll greatest_year (leaves (month_day_parts between))
@@ -112,8 +115,8 @@ fn date_of(year: i32, between: u8, input: &[u8]) -> Option<(Date, &[u8])>
     }
 }
 
-// The date and time of a whole text of the form, in the year of the record. It isn't inlined, so that other forms don't
-// pay for it.
+// The date and time of a whole text of the form, in the year of the record, or `None` as in `date_time`. It isn't
+// inlined, so that other forms don't pay for it.
 #[inline(never)]
 fn whole(form: &InYear, input: &[u8], known: &Parsed) -> Option<PlainDateTime>
     ensures { IfSome result (λ v. ReadsOver (whole_.InYear form.now) input.now known.now
@@ -131,7 +134,9 @@ fn whole(form: &InYear, input: &[u8], known: &Parsed) -> Option<PlainDateTime>
     Some(PlainDateTime::new(date, time))
 }
 
-/// The date and time of a whole text of the form, in the year of the record. `None`: not this form.
+/// The date and time of a whole text of the form, in the year of the record. `None` if the form isn't `Whole::InYear`,
+/// the text isn't such a valid date and time, its second is 60, or the record has no year, or has an ordinal or a
+/// fraction of a second.
 #[inline(always)]
 pub(crate) fn date_time(form: &Whole, input: &[u8], known: &Parsed) -> Option<PlainDateTime>
     ensures { IfSome result (λ v. ReadsOver form.now input.now known.now (λ r. IsPlain greatest_year r (Ok v))) }

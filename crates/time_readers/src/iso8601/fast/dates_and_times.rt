@@ -10,17 +10,21 @@ use crate::iso8601::grammar::pieces::byte;
 use crate::iso8601::{DateAndTime, ExtendedKind, Part, TimeNumbers};
 use std::simd::prelude::*;
 
-// The least and the greatest value of each of the first sixteen bytes, with separators and without. Without them the
-// last of these bytes is after the second.
+// The least value of each of the first sixteen bytes, with separators. These ranges also admit numbers that are checked
+// later: months of 00 and 13 to 19, days of 00 and hours of 24 to 29.
 const LEAST: [u8; 16] = *b"0000-00-00T00:00";
 
+// The greatest value of each of the first sixteen bytes, with separators.
 const GREATEST: [u8; 16] = *b"9999-19-39T29:59";
 
+// The least value of each of the first sixteen bytes, without separators. The last of them is after the second.
 const BASIC_LEAST: [u8; 16] = *b"00000000T000000\x00";
 
+// The greatest value of each of the first sixteen bytes, without separators.
 const BASIC_GREATEST: [u8; 16] = *b"99991939T295959\xff";
 
-// The digits of a date and of the hour and minute after it in pairs, and the bytes that must begin with a second.
+// The two-digit numbers of a date, of the hour after it, 0 to 29, and of the minute, 0 to 59. `after` must begin with a
+// second.
 #[derive(Clone, Copy)]
 struct FirstSixteen<'a> {
     date: CalendarDigits<'a>,
@@ -29,7 +33,8 @@ struct FirstSixteen<'a> {
     after: &'a [u8],
 }
 
-// Parses a calendar date and a time up to the second, with separators. `None` for any other form.
+// Parses a calendar date, and a time with a second and its fraction, if any, with separators. `None` for any other
+// form.
 #[inline(always)]
 pub(in crate::iso8601) fn extended_date_and_time(input: &[u8]) -> Option<DateAndTime<'_>>
     ensures { IfSome result (λ p. ReturnsDateAndTime input.now (Ok p)) }
@@ -37,7 +42,8 @@ pub(in crate::iso8601) fn extended_date_and_time(input: &[u8]) -> Option<DateAnd
     date_and_time_of(extended_first_sixteen(input)?)
 }
 
-// Parses a calendar date and a time up to the second, without separators, if a byte follows. `None` for any other form.
+// Parses a calendar date, and a time with a second and its fraction, if any, without separators. `None` for any other
+// form, and for a text under sixteen bytes, which ends after a whole second or before.
 #[inline(always)]
 pub(in crate::iso8601) fn basic_date_and_time(input: &[u8]) -> Option<DateAndTime<'_>>
     ensures { IfSome result (λ p. ReturnsDateAndTime input.now (Ok p)) }
@@ -98,7 +104,8 @@ fn basic_first_sixteen(input: &[u8]) -> Option<FirstSixteen<'_>>
     })
 }
 
-// The numbers of the pairs of digits.
+// The numbers of the pairs of digits of these bytes, with separators: the two of the year, the month, the day, the
+// hour, and the minute three times.
 #[inline(always)]
 fn extended_pairs(bytes: &[u8; 16]) -> [u8; 8]
     ensures { AllWithin LEAST GREATEST bytes.now
@@ -110,6 +117,8 @@ fn extended_pairs(bytes: &[u8; 16]) -> [u8; 8]
     (tens * u8x8::splat(10) + ones).to_array()
 }
 
+// The numbers of the pairs of digits of these bytes, without separators: the two of the year, the month, the day, the
+// hour, and the minute three times.
 #[inline(always)]
 fn basic_pairs(bytes: &[u8; 16]) -> [u8; 8]
     ensures { AllWithin BASIC_LEAST BASIC_GREATEST bytes.now
@@ -121,7 +130,8 @@ fn basic_pairs(bytes: &[u8; 16]) -> [u8; 8]
     (tens * u8x8::splat(10) + ones).to_array()
 }
 
-// The date and the time of these digits, with the second parsed after them. `None` for any other form.
+// The date and the time of these digits, with the second and its fraction, if any, parsed after them. `None` for a
+// month that isn't 1 to 12, a day of 0, an hour above 23, and for bytes that `second` doesn't parse.
 #[inline(always)]
 fn date_and_time_of(first: FirstSixteen<'_>) -> Option<DateAndTime<'_>>
     ensures { (text : List ℕ) → IsFirstSixteen text first.entry → IfSome result (λ p. ReturnsDateAndTime text (Ok p)) }

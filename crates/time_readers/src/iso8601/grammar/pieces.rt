@@ -11,7 +11,7 @@ use crate::{ParsedItem, Sign};
 use std::num::NonZero;
 use time_values::{Month, Weekday};
 
-/// Parses a year: a sign and six digits, or four digits.
+/// Parses a year, -999999 to 999999: `+` or `-` and six digits, or four digits. Later digits are left in the rest.
 #[inline(always)]
 #[tactic(auto, unfolding(crate::specs::IsoPieces::year))]
 pub fn year(input: &[u8]) -> Option<ParsedItem<'_, i32>>
@@ -26,8 +26,8 @@ pub fn year(input: &[u8]) -> Option<ParsedItem<'_, i32>>
     }
 }
 
-// Parses the six digits of a year after its sign. Not inlined, since few years have one, and callers that grow too large
-// aren't inlined themselves.
+// Parses the six digits of a year after its sign. Not inlined, since few years have one, and callers that grow too
+// large aren't inlined themselves.
 #[inline(never)]
 fn year_after_sign(input: &[u8], sign: Sign) -> Option<ParsedItem<'_, i32>>
     ensures { (bytes : List ℕ) → Returns (spec.year_after bytes (Some (input.now, sign))) result }
@@ -36,7 +36,7 @@ fn year_after_sign(input: &[u8], sign: Sign) -> Option<ParsedItem<'_, i32>>
     Some(ParsedItem(number.0, with_sign(sign, number.1)))
 }
 
-// A number with its sign.
+// The number, negated if the sign is negative.
 #[inline]
 fn with_sign(sign: Sign, number: u32) -> i32
     requires { number < 1_000_000 }
@@ -62,7 +62,7 @@ pub fn month(input: &[u8]) -> Option<ParsedItem<'_, Month>>
     }
 }
 
-/// Parses a week of the year: two digits, but not `00`.
+/// Parses a week of the year: two digits, 01 to 99.
 #[inline(always)]
 #[tactic(auto, unfolding(crate::specs::IsoPieces::positive))]
 pub fn week(input: &[u8]) -> Option<ParsedItem<'_, NonZero<u8>>>
@@ -72,7 +72,7 @@ pub fn week(input: &[u8]) -> Option<ParsedItem<'_, NonZero<u8>>>
     Some(ParsedItem(number.0, NonZero::<u8>::new(number.1)?))
 }
 
-/// Parses a day of the month: two digits, but not `00`.
+/// Parses a day of the month: two digits, 01 to 99.
 #[inline(always)]
 pub fn day(input: &[u8]) -> Option<ParsedItem<'_, NonZero<u8>>>
     ensures { ReturnsAs non_zero_u8_get (spec.positive 2 input.now) result }
@@ -90,7 +90,7 @@ pub fn dayk(input: &[u8]) -> Option<ParsedItem<'_, Weekday>>
     Some(ParsedItem(number.0, numbered_weekday(number.1)?))
 }
 
-// The weekday of a number, from 1 for Monday.
+// The weekday of a number, 1 for Monday to 7 for Sunday. `None` for any other number.
 fn numbered_weekday(number: u8) -> Option<Weekday>
     ensures { result ≡ spec.numbered spec.weekdays number }
 {
@@ -106,7 +106,7 @@ fn numbered_weekday(number: u8) -> Option<Weekday>
     }
 }
 
-/// Parses a day of the year: three digits, but not `000`.
+/// Parses a day of the year: three digits, 001 to 999.
 #[inline(always)]
 #[tactic(auto, unfolding(crate::specs::IsoPieces::positive))]
 pub fn dayo(input: &[u8]) -> Option<ParsedItem<'_, NonZero<u16>>>
@@ -116,7 +116,7 @@ pub fn dayo(input: &[u8]) -> Option<ParsedItem<'_, NonZero<u16>>>
     Some(ParsedItem(number.0, NonZero::<u16>::new(number.1 as u16)?))
 }
 
-/// Parses an hour: two digits of any value.
+/// Parses an hour: two digits of any value, 0 to 99.
 #[inline(always)]
 pub fn hour(input: &[u8]) -> Option<ParsedItem<'_, u8>>
     ensures { Returns (spec.digits 2 input.now) result }
@@ -124,7 +124,7 @@ pub fn hour(input: &[u8]) -> Option<ParsedItem<'_, u8>>
     two_digits(input)
 }
 
-/// Parses a minute: two digits of any value.
+/// Parses a minute: two digits of any value, 0 to 99.
 #[inline(always)]
 pub fn min(input: &[u8]) -> Option<ParsedItem<'_, u8>>
     ensures { Returns (spec.digits 2 input.now) result }
@@ -132,9 +132,11 @@ pub fn min(input: &[u8]) -> Option<ParsedItem<'_, u8>>
     hour(input)
 }
 
-/// Parses two digits of any value, and the digits of a fraction if `.` or `,` follows.
+/// Parses two digits of any value, 0 to 99, and the digits of a fraction if `.` or `,` follows.
 ///
-/// The fraction is all digits after `.` or `,`. Returns `None` if there isn't one.
+/// The value is the number of the two digits, and the fraction: `None` without `.` or `,`, and else all digits after
+/// it, one or more, as ASCII bytes. Returns `None` if the input doesn't begin with two digits, or if no digit follows
+/// `.` or `,`.
 #[inline(always)]
 pub fn float(input: &[u8]) -> Option<ParsedItem<'_, (u8, Option<&[u8]>)>>
     ensures is { ReturnsAs (λ n. number_of n.0 n.1) (spec.number input.now) result }
@@ -175,7 +177,7 @@ pub(in crate::iso8601) fn point(input: &[u8]) -> Option<&[u8]>
     }
 }
 
-// Parses a sign.
+// Parses `+` or `-`, as a sign.
 #[inline(always)]
 pub(super) fn sign(input: &[u8]) -> Option<ParsedItem<'_, Sign>>
     ensures { Returns (spec.sign input.now) result }
@@ -183,7 +185,7 @@ pub(super) fn sign(input: &[u8]) -> Option<ParsedItem<'_, Sign>>
     combinator::sign(input)
 }
 
-// Parses exactly `N` digits.
+// Parses the first `N` digits as their number. Returns `None` if the input begins with fewer.
 #[inline(always)]
 fn exactly<const N: u8>(input: &[u8]) -> Option<ParsedItem<'_, u32>>
     requires least { 1 ≤ N }
@@ -194,7 +196,7 @@ fn exactly<const N: u8>(input: &[u8]) -> Option<ParsedItem<'_, u32>>
     exactly_n_digits::<N>(input)
 }
 
-// Parses two digits.
+// Parses the first two digits as their number, 0 to 99. Returns `None` if the input begins with fewer.
 #[inline(always)]
 pub(in crate::iso8601) fn two_digits(input: &[u8]) -> Option<ParsedItem<'_, u8>>
     ensures { Returns (spec.digits 2 input.now) result }
@@ -202,7 +204,7 @@ pub(in crate::iso8601) fn two_digits(input: &[u8]) -> Option<ParsedItem<'_, u8>>
     combinator::two_digits(input)
 }
 
-// Parses one digit.
+// Parses one digit as its number, 0 to 9.
 #[inline(always)]
 fn one_digit(input: &[u8]) -> Option<ParsedItem<'_, u8>>
     ensures { Returns (spec.digits 1 input.now) result }
@@ -210,6 +212,7 @@ fn one_digit(input: &[u8]) -> Option<ParsedItem<'_, u8>>
     run_of_one(input)
 }
 
+// Parses one digit as its number, 0 to 9, with a contract over digit runs.
 #[inline(always)]
 #[tactic(auto, using(crate::proofs::IsoPieces::run_one))]
 fn run_of_one(input: &[u8]) -> Option<ParsedItem<'_, u8>>
@@ -221,7 +224,7 @@ fn run_of_one(input: &[u8]) -> Option<ParsedItem<'_, u8>>
     }
 }
 
-// Parses two digits of a number up to `GREATEST`.
+// Parses the first two digits as their number, 0 to `GREATEST`. Returns `None` for a greater number or fewer digits.
 #[inline(always)]
 #[tactic(auto, unfolding(crate::specs::IsoPieces::up_to))]
 pub(super) fn up_to<const GREATEST: u8>(input: &[u8]) -> Option<ParsedItem<'_, u8>>

@@ -11,7 +11,7 @@ use crate::iso8601::grammar::pieces::{byte, float};
 use crate::iso8601::grammar::{floor_fraction, round_fraction};
 use crate::iso8601::{ExtendedKind, Part, TimeNumbers};
 
-// Parses the time of a text of that kind.
+// Parses the time of a text of that kind, with its `T`, which is optional unless `needs_t`.
 #[inline(never)]
 pub(in crate::iso8601) fn time<'a>(
     input: &'a [u8],
@@ -27,7 +27,7 @@ pub(in crate::iso8601) fn time<'a>(
     }
 }
 
-// Parses a time after its `T`.
+// Parses a time after its `T`, or without one: from the hour on.
 #[inline(always)]
 fn after_t<'a>(input: &'a [u8], kind: ExtendedKind) -> Option<Part<'a, TimeNumbers>>
     ensures { ReturnsPart (spec.time_after kind input.now) result }
@@ -47,7 +47,7 @@ fn after_t<'a>(input: &'a [u8], kind: ExtendedKind) -> Option<Part<'a, TimeNumbe
     }
 }
 
-// Parses the rest of a time after a whole hour.
+// Parses the rest of a time after a whole hour. `None` for a colon in a basic text.
 #[inline(always)]
 fn after_hour<'a>(input: &'a [u8], kind: ExtendedKind, hour: u8) -> Option<Part<'a, TimeNumbers>>
     requires { hour ≤ 23 }
@@ -66,7 +66,8 @@ fn after_hour<'a>(input: &'a [u8], kind: ExtendedKind, hour: u8) -> Option<Part<
     }
 }
 
-// Parses the rest of a time after a whole hour without a colon: nothing, or a minute and an optional second.
+// Parses the rest of a time after a whole hour without a colon: nothing, or a minute and an optional second. In an
+// extended text a colon precedes the second.
 #[inline(always)]
 fn minute_without_colon<'a>(
     input: &'a [u8],
@@ -105,7 +106,8 @@ fn minute_without_colon<'a>(
     }
 }
 
-// Parses the rest of a time after a whole hour and a colon.
+// Parses the rest of a time after a whole hour and a colon: a minute; and unless that has a fraction, a second after
+// another colon, if there is one.
 #[inline(always)]
 fn minute_after_colon<'a>(
     input: &'a [u8],
@@ -132,7 +134,8 @@ fn minute_after_colon<'a>(
     }
 }
 
-// Parses a second after an hour and a minute without separators, if there is one.
+// Parses a second after the hour and the minute of `numbers`, without separators, if there is one. `None` for a second
+// above 60 and for a fraction that rounds to 1.
 #[inline(always)]
 fn basic_second(input: &[u8], numbers: TimeNumbers) -> Option<Part<'_, TimeNumbers>>
     ensures { ReturnsPart (pieces.basic_second numbers input.now (number input.now)) result }
@@ -147,7 +150,8 @@ fn basic_second(input: &[u8], numbers: TimeNumbers) -> Option<Part<'_, TimeNumbe
     }
 }
 
-// Parses a colon and a second after an hour and a minute, if there is a colon.
+// Parses a colon and a second after the hour and the minute of `numbers`, if there is a colon. `None` if no second of 0
+// to 60 follows the colon, or if its fraction rounds to 1.
 #[inline(always)]
 fn extended_second(input: &[u8], numbers: TimeNumbers) -> Option<Part<'_, TimeNumbers>>
     ensures { ReturnsPart (pieces.extended_second numbers input.now (byte 58 input.now)) result }
@@ -162,7 +166,8 @@ fn extended_second(input: &[u8], numbers: TimeNumbers) -> Option<Part<'_, TimeNu
     }
 }
 
-// The time with that second, or `None` if the second is above 60 or its fraction rounds to 1.
+// The time of `numbers` with that second and its fraction, rounded half up to nanoseconds, and that kind. `None` if the
+// second is above 60 or its fraction rounds to 1.
 #[inline(always)]
 fn with_second<'a>(
     second: ParsedItem<'a, (u8, Option<&'a [u8]>)>,
@@ -198,7 +203,7 @@ fn with_second<'a>(
     })
 }
 
-// The time of a whole hour and a whole minute.
+// The time of a whole hour and a whole minute, with a second and a nanosecond of 0.
 #[inline(always)]
 fn hour_and_minute(hour: u8, minute: u8) -> TimeNumbers
     ensures { result ≡ pieces.hour_and_minute hour minute }
@@ -211,7 +216,7 @@ fn hour_and_minute(hour: u8, minute: u8) -> TimeNumbers
     }
 }
 
-// The time of an hour and the digits of its fraction.
+// The time of an hour and the digits of its fraction, truncated to whole nanoseconds.
 fn past_hour(hour: u8, digits: &[u8]) -> TimeNumbers
     requires { AllDigits digits.now }
     ensures { result ≡ spec.past_hour (floor_of digits.now 3_600_000_000_000) (pieces.hour_and_minute hour 0) }
@@ -225,7 +230,7 @@ fn past_hour(hour: u8, digits: &[u8]) -> TimeNumbers
     }
 }
 
-// The time of a whole hour, a minute and the digits of its fraction.
+// The time of a whole hour, a minute and the digits of the minute's fraction, truncated to whole nanoseconds.
 fn past_minute(hour: u8, minute: u8, digits: &[u8]) -> TimeNumbers
     requires { AllDigits digits.now }
     ensures { result ≡ spec.past_minute (floor_of digits.now 60_000_000_000) (pieces.hour_and_minute hour minute) }

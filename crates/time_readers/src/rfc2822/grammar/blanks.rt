@@ -14,7 +14,8 @@ use crate::{ParsedItem, rfc2822};
 // How deep comments may be nested, counting the outermost.
 const MOST_COMMENTS: u8 = 31;
 
-// Parses blanks, folded over lines or not.
+// Parses blanks, folded over lines or not: one fold; or blanks, and then any number of folds. Returns `None` if a CR LF
+// after blanks has no blank after it.
 pub(crate) fn fws(input: &[u8]) -> Option<ParsedItem<'_, ()>>
     ensures { option_map (λ p. p.0.now) result ≡ spec.fws input.now }
 {
@@ -51,7 +52,7 @@ fn blanks(input: &[u8]) -> Option<&[u8]>
     Some(rest)
 }
 
-// Parses the end of a line.
+// Parses the end of a line: CR LF.
 #[inline]
 fn crlf(input: &[u8]) -> Option<&[u8]>
     ensures { option_copied result ≡ spec.crlf input.now }
@@ -70,7 +71,8 @@ fn line_fold(input: &[u8]) -> Option<&[u8]>
     blanks(crlf(input)?)
 }
 
-// Parses one part of a comment's text: a byte, or a byte after a backslash.
+// Parses one part of a comment's text: an ASCII byte other than NUL, a tab, LF, CR, a space, a parenthesis and a
+// backslash; or a backslash and an ASCII byte other than NUL, LF and CR.
 #[inline]
 fn text(input: &[u8]) -> Option<&[u8]>
     ensures { option_copied result ≡ (one_of spec.is_text or spec.quoted_pair) input.now }
@@ -96,7 +98,8 @@ fn one<const C: u8>(input: &[u8]) -> Option<&[u8]>
     }
 }
 
-// Parses a comment, with the comments in it.
+// Parses a comment, with the comments in it. Returns `None` if they are nested more than 31 deep, counting the
+// outermost, or if the input ends or has bytes of another form before the outermost comment is closed.
 fn comment(input: &[u8]) -> Option<&[u8]>
     ensures { option_copied result ≡ spec.comment 31 input.now }
 {
@@ -163,7 +166,8 @@ pub(crate) fn opt_cfws_colon_opt_cfws(input: &[u8]) -> Option<ParsedItem<'_, ()>
     Some(rfc2822::opt_cfws(rest))
 }
 
-// Parses a zone name.
+// Parses a zone name in any case, as its hours from UTC: three letters of the table if the input has three bytes or
+// more, and else `UT` or one letter.
 pub(crate) fn zone_literal(input: &[u8]) -> Option<ParsedItem<'_, i8>>
     ensures { option_map (λ p. (p.1, p.0.now)) result ≡ zone_literal input.now }
 {
@@ -174,7 +178,8 @@ pub(crate) fn zone_literal(input: &[u8]) -> Option<ParsedItem<'_, i8>>
     short_zone(input)
 }
 
-// Parses `UT`, or else one letter other than J.
+// Parses `UT` if it is the whole input, or else one letter other than J. Both are 0 hours from UTC. The case is
+// ignored.
 #[inline]
 fn short_zone(input: &[u8]) -> Option<ParsedItem<'_, i8>>
     ensures { option_map (λ p. (p.1, p.0.now)) result ≡ short_zone input.now }
@@ -188,7 +193,7 @@ fn short_zone(input: &[u8]) -> Option<ParsedItem<'_, i8>>
     }
 }
 
-// The hours of a name of three letters.
+// The hours from UTC of a name of three letters in any case, -8 to 0. `None` for any other name.
 #[inline]
 #[tactic(auto, unfolding(crate::specs::MailBlanks::hours_of))]
 fn hours_of(name: [u8; 3]) -> Option<i8>
@@ -197,7 +202,7 @@ fn hours_of(name: [u8; 3]) -> Option<i8>
     hours_beside(name.map(|c| c.to_ascii_lowercase()))
 }
 
-// The hours of a name of three small letters.
+// The hours from UTC of a name of three small letters, -8 to 0. `None` for any other name.
 #[inline]
 fn hours_beside(name: [u8; 3]) -> Option<i8>
     ensures { result ≡ beside name zone_hours }
@@ -213,7 +218,7 @@ fn hours_beside(name: [u8; 3]) -> Option<i8>
     }
 }
 
-// Whether the byte is a letter other than J.
+// Whether the byte is an ASCII letter other than J, in either case.
 #[inline]
 fn is_military(byte: u8) -> bool
     ensures { result ≡ is_military (to_ascii_lowercase byte) }

@@ -17,10 +17,11 @@ use time_values::{Date, Month, Weekday};
 
 /// The date of the first of these whose components are all known: year and ordinal; year, month and day; ISO year, ISO
 /// week and weekday; year, Sunday week and weekday; year, Monday week and weekday. A missing year is computed from its
-/// century and last two digits.
+/// century and last two digits. All other components are ignored, even if they contradict the date.
 ///
-/// If no date has these numbers, an error names `ordinal`, `day`, `week` or `weekday` as conditional on other
-/// components. `InsufficientInformation` if none of the five is known.
+/// If no date has these numbers, an error names `ordinal`, `day`, or for an ISO week `week` (the ISO year has no such
+/// week) or `weekday` (the day is outside the range of dates), as conditional on other components; for a Sunday or
+/// Monday week it names `ordinal`. `InsufficientInformation` if none of the five is complete.
 impl TryFrom<Parsed> for Date {
     type Error = TryFromParsed;
 
@@ -32,7 +33,8 @@ impl TryFrom<Parsed> for Date {
     }
 }
 
-// The date of a record by the first of its rows.
+// The date of a record, by the first of the five sets of components that is complete, with the errors of
+// `Date::try_from`.
 #[inline(never)]
 #[tactic(auto, unfolding(crate::specs::Resolution::IsDated))]
 pub(super) fn date_of_rows(parsed: &Parsed) -> Result<Date, TryFromParsed>
@@ -62,7 +64,7 @@ pub(super) fn date_of_rows(parsed: &Parsed) -> Result<Date, TryFromParsed>
     Err(TryFromParsed::InsufficientInformation)
 }
 
-// The year, or, if it is missing, the year of the century and the last two digits.
+// The year, or, if it is missing, the year of the century and the last two digits. `None` if these aren't both set.
 #[inline]
 fn calendar_year(parsed: &Parsed) -> Option<i32>
     ensures value { result ≡ full_year parsed.now }
@@ -76,7 +78,8 @@ fn calendar_year(parsed: &Parsed) -> Option<i32>
     Some(joined_year(century, is_negative, parsed.year_last_two()?))
 }
 
-// The ISO 8601 week-based year, or, if it is missing, the year of its century and last two digits.
+// The ISO 8601 week-based year, or, if it is missing, the year of its century and last two digits. `None` if these
+// aren't both set.
 #[inline]
 fn iso_year(parsed: &Parsed) -> Option<i32>
     ensures value { result ≡ full_iso_year parsed.now }
@@ -90,7 +93,8 @@ fn iso_year(parsed: &Parsed) -> Option<i32>
     Some(joined_year(century, is_negative, parsed.iso_year_last_two()?))
 }
 
-// The year of a century and two last digits, which count away from 0.
+// The year of a century and two last digits: -19 and 50 is -1950. The flag is the century's sign, also for a 0: -0 and
+// 50 is -50.
 #[inline]
 fn joined_year(century: i16, is_negative: bool, last_two: u8) -> i32
     requires century { unsigned_abs century ≤ greatest_year / 100 }
@@ -107,7 +111,7 @@ fn joined_year(century: i16, is_negative: bool, last_two: u8) -> i32
     }
 }
 
-// The date of a year and a day of the year.
+// The date of a year and a day of the year, or an error that names `ordinal` if the year has no such day.
 #[inline]
 fn ordinal_date(year: i32, ordinal: NonZero<u16>) -> Result<Date, TryFromParsed>
     requires { IsTrue (is_year greatest_year year) }
@@ -117,7 +121,7 @@ fn ordinal_date(year: i32, ordinal: NonZero<u16>) -> Result<Date, TryFromParsed>
     Ok(Date::from_ordinal_date(year, ordinal.get())?)
 }
 
-// The date of a year, a month and a day.
+// The date of a year, a month and a day, or an error that names `day` if the month has no such day.
 #[inline]
 pub(super) fn calendar_date(
     year: i32,
@@ -131,7 +135,8 @@ pub(super) fn calendar_date(
     Ok(Date::from_calendar_date(year, month, day.get())?)
 }
 
-// The date of an ISO 8601 year, week and weekday.
+// The date of an ISO 8601 year, week and weekday. An error names `week` if the year has no such week, or `weekday` if
+// the day is outside the range of dates.
 #[inline]
 fn iso_week_date(year: i32, week: NonZero<u8>, weekday: Weekday) -> Result<Date, TryFromParsed>
     requires { IsTrue (is_year greatest_year year) }
@@ -141,7 +146,8 @@ fn iso_week_date(year: i32, week: NonZero<u8>, weekday: Weekday) -> Result<Date,
     Ok(Date::from_iso_week_date(year, week.get(), weekday)?)
 }
 
-// The date of a year, week and weekday, where week 1 begins on the year's first day of the weekday `start`.
+// The date of a year, week and weekday, where week 1 begins on the year's first day of the weekday `start`, and week 0
+// is the days before. An error names `ordinal` if the year has no such day.
 #[inline]
 fn week_date(year: i32, week: u8, weekday: Weekday, start: Weekday) -> Result<Date, TryFromParsed>
     requires { IsTrue (is_year greatest_year year) }
@@ -163,7 +169,7 @@ fn week_date(year: i32, week: u8, weekday: Weekday, start: Weekday) -> Result<Da
     Ok(Date::from_ordinal_date(year, shifted - 7)?)
 }
 
-// The number of days from one weekday to another.
+// The number of days, 0 to 6, from the weekday `start` to the next `weekday`.
 #[inline]
 fn days_since(weekday: Weekday, start: Weekday) -> u16
     ensures { result ≡ (days_from_monday weekday + 7 - days_from_monday start) % 7 }

@@ -1,8 +1,8 @@
 //! Converts a record with the usual components: a year, month and day without an ordinal; an hour of the day, a minute,
 //! and a second that is no leap second.
 //!
-//! Each function returns the value that the conversion by precedence returns, or `None`: the record has another form,
-//! or an error. Then the conversion by precedence decides, so no error is passed on here.
+//! Each function returns the value that the general conversion returns, or `None` if the record has other components or
+//! the conversion fails. The caller then uses the general conversion, which also returns the error.
 ghost use Rattle.std.specs.Prelude.{◌≡◌, Some, Ok, IfSome, IsTrue};
 ghost use Rattle.std.specs.Int.NonZero.{non_zero_u8_get};
 ghost use Rattle.time_values.specs.Dates.{is_year};
@@ -16,7 +16,7 @@ use crate::parsed::try_from::time::{is_leap_second, offset_of};
 use std::num::NonZero;
 use time_values::{Date, Month, OffsetDateTime, PlainDateTime, Time, UtcOffset};
 
-// The date of a year, month and day. `None`: another form, or no date has these numbers.
+// The date of a year, month and day. `None`: one isn't set, an ordinal is, or no date has these numbers.
 #[inline(always)]
 #[tactic(auto, unfolding(crate::specs::Resolution::IsDated))]
 fn date(parsed: &Parsed) -> Option<Date>
@@ -30,7 +30,7 @@ fn date(parsed: &Parsed) -> Option<Date>
 }
 
 /// The year, month and day, if they determine the date of a record: one test of the mask shows that all three are set,
-/// and no ordinal precedes them. `None`: another form.
+/// and no ordinal is. Otherwise `None`.
 #[inline(always)]
 pub(super) fn year_month_day(parsed: &Parsed) -> Option<(i32, Month, NonZero<u8>)>
     ensures row { IfSome result (λ p. first_row parsed.now
@@ -43,8 +43,8 @@ pub(super) fn year_month_day(parsed: &Parsed) -> Option<(i32, Month, NonZero<u8>
     Some((parsed.year()?, parsed.month()?, parsed.day()?))
 }
 
-// The time of an hour of the day, a minute and a second. `None`: another form, or no time has these numbers, as if the
-// second is 60.
+// The time of an hour of the day, a minute, a second, and the subsecond or 0. `None`: one of the first three isn't set,
+// or the second is 60.
 #[inline(always)]
 #[tactic(auto, unfolding(crate::specs::Resolution::IsTimed))]
 fn time(parsed: &Parsed) -> Option<Time>
@@ -61,7 +61,8 @@ fn time(parsed: &Parsed) -> Option<Time>
     }
 }
 
-// The hour of the day, the minute and the second, if one test of the mask shows that all three are set.
+// The hour of the day, the minute and the second, if one test of the mask shows that all three are set. Otherwise
+// `None`.
 #[inline(always)]
 fn hour_minute_second(parsed: &Parsed) -> Option<(u8, u8, u8)>
     ensures hour { IfSome result (λ t. parsed.now.hour_24 ≡ Some t.0) }
@@ -74,7 +75,8 @@ fn hour_minute_second(parsed: &Parsed) -> Option<(u8, u8, u8)>
     Some((parsed.hour_24()?, parsed.minute()?, parsed.second()?))
 }
 
-/// The date and the time. `None`: another form, or one of them has an error.
+/// The date of a year, month and day, and the time of an hour, minute, second, and subsecond or 0. `None`: `date` or
+/// `time` returns `None`, and the general conversion decides.
 #[inline(always)]
 #[tactic(auto, unfolding(crate::specs::Resolution::IsPlain))]
 pub(super) fn date_and_time(parsed: &Parsed) -> Option<PlainDateTime>
@@ -85,7 +87,8 @@ pub(super) fn date_and_time(parsed: &Parsed) -> Option<PlainDateTime>
     Some(PlainDateTime::new(date, time))
 }
 
-/// The moment of a date, a time and an offset. `None`: another form, one of them has an error, or there is a timestamp.
+/// The moment of a date, a time and an offset. `None`: a timestamp is set, or one of the three is `None`, and the
+/// general conversion decides.
 #[inline(always)]
 #[tactic(auto, unfolding(crate::specs::Resolution::IsMoment))]
 pub(super) fn moment(parsed: &Parsed) -> Option<OffsetDateTime>
@@ -97,7 +100,7 @@ pub(super) fn moment(parsed: &Parsed) -> Option<OffsetDateTime>
     moment_of_parts(parsed)
 }
 
-// The moment of a date, a time and an offset of a record that has no timestamp.
+// The moment of a date, a time and an offset, without regard to a timestamp. `None` if one of the three is `None`.
 #[inline(always)]
 #[tactic(auto, unfolding(crate::specs::Resolution::IsMomentOfParts))]
 fn moment_of_parts(parsed: &Parsed) -> Option<OffsetDateTime>
@@ -112,7 +115,7 @@ fn moment_of_parts(parsed: &Parsed) -> Option<OffsetDateTime>
     Some(OffsetDateTime::new_in_offset(date, time, offset))
 }
 
-// The offset. `None`: the record has no offset hour, or an error.
+// The offset of a record. `None`: the conversion fails, since no offset hour is set.
 #[inline(always)]
 fn offset(parsed: &Parsed) -> Option<UtcOffset>
     ensures { IfSome result (λ o. IsOffset parsed.now (Ok o)) }

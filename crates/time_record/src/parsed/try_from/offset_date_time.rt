@@ -16,7 +16,7 @@ use crate::parsed::try_from::time::{
 use time_values::OffsetDateTime;
 use time_values::error::TryFromParsed;
 
-// The moment of a record. This is no second way of reading, but moves code: it inlines the errors of the usual
+// The moment of a record. This is not a fast path, but moves code: it inlines the errors of the usual
 // components, so that a record whose components the compiler knows needs no memory.
 #[inline(always)]
 #[tactic(auto, unfolding(crate::specs::Resolution::IsMoment))]
@@ -30,7 +30,7 @@ pub(super) fn moment_or_refusal(parsed: &Parsed) -> Result<OffsetDateTime, TryFr
     moment_of_parts(parsed)
 }
 
-// The moment of a record with any components.
+// The moment of a record with any components, or its error, as `OffsetDateTime::try_from` returns them. Not inlined.
 #[inline(never)]
 #[tactic(auto, unfolding(crate::specs::Resolution::IsMoment))]
 fn moment_of(parsed: &Parsed) -> Result<OffsetDateTime, TryFromParsed>
@@ -42,7 +42,8 @@ fn moment_of(parsed: &Parsed) -> Result<OffsetDateTime, TryFromParsed>
     }
 }
 
-// The moment of a timestamp, with the given nanosecond of its second, if there is one.
+// The moment at that number of nanoseconds since 1970-01-01T00:00:00Z, at offset 0. A given subsecond replaces its
+// nanosecond of the second.
 #[inline]
 fn moment_at(nanos: i128, subsecond: Option<u32>) -> Result<OffsetDateTime, TryFromParsed>
     requires nanos { IsTrue (is_instant greatest_year nanos) }
@@ -58,7 +59,8 @@ fn moment_at(nanos: i128, subsecond: Option<u32>) -> Result<OffsetDateTime, TryF
     }
 }
 
-// The moment of a date, a time and an offset.
+// The moment of a record's date, time and offset, or the first error of these, in that order. A leap second that is
+// allowed counts as the last nanosecond before it; if that isn't a month's end in UTC, the error is `misplaced`.
 #[inline(always)]
 #[tactic(auto, unfolding(crate::specs::Resolution::IsMomentOfParts))]
 fn moment_of_parts(parsed: &Parsed) -> Result<OffsetDateTime, TryFromParsed>
@@ -75,8 +77,8 @@ fn moment_of_parts(parsed: &Parsed) -> Result<OffsetDateTime, TryFromParsed>
     Ok(moment)
 }
 
-// Checks that a leap second occurs only at the end of a month in UTC. The moment is a copy here, so that it stays in
-// registers if no leap second is known.
+// Whether the record has no allowed leap second, or the moment is the last nanosecond of a month in UTC. The moment is
+// a copy here, so that it stays in registers if no leap second is known.
 #[inline(always)]
 fn is_leap_second_valid(parsed: &Parsed, moment: OffsetDateTime) -> bool
     ensures stands { IsTrue result → IsTrue (is_leap_second parsed.now)

@@ -10,11 +10,12 @@ use std::num::NonZero;
 use time_values::error::{ComponentRange, TryFromParsed};
 use time_values::{Time, UtcOffset};
 
-/// The time of the hour of the day, or else of the hour of the half day and which half it is, and of the known ones of
-/// minute, second and subsecond; the others are 0.
+/// The time of the hour, minute, second and subsecond; an unknown one of the last three is 0. The hour is that of the
+/// day, or else that of the half day with its half. A timestamp and an offset are ignored.
 ///
-/// `InsufficientInformation` if no hour is known, or a second without a minute, or a subsecond without a second. For a
-/// second of 60 an error names `second`.
+/// `InsufficientInformation` if no hour is known (an hour of the half day needs its half), or a second without a
+/// minute, or a subsecond without a second.
+/// Otherwise an error names `second` for a second of 60, even if leap seconds are allowed.
 impl TryFrom<Parsed> for Time {
     type Error = TryFromParsed;
 
@@ -26,7 +27,7 @@ impl TryFrom<Parsed> for Time {
     }
 }
 
-// The time of a record.
+// The time of a record, or its error, as `Time::try_from` returns them.
 #[inline(always)]
 pub(super) fn time_of(parsed: &Parsed) -> Result<Time, TryFromParsed>
     ensures { IsTimed parsed.now (erased_conversion result) }
@@ -34,7 +35,7 @@ pub(super) fn time_of(parsed: &Parsed) -> Result<Time, TryFromParsed>
     time_with(parsed, parsed.second(), parsed.subsecond())
 }
 
-// The time of a record, with that second and subsecond instead of its own.
+// The time of a record with that second and subsecond instead of its own, with the errors of `Time::try_from`.
 #[inline(always)]
 #[tactic(auto, unfolding(crate::specs::Resolution::IsTimed))]
 pub(super) fn time_with(
@@ -59,7 +60,8 @@ pub(super) fn time_with(
     }
 }
 
-// The hour of the day, 0 to 23, from itself or from the half of the day.
+// The hour of the day, 0 to 23: as set, or else computed from the hour of the half day and its half. `None` if these
+// two aren't both set either.
 #[inline(always)]
 fn hour_of_day(parsed: &Parsed) -> Option<u8>
     ensures { result ≡ hour_of parsed.now }
@@ -75,10 +77,10 @@ fn hour_of_day(parsed: &Parsed) -> Option<u8>
     })
 }
 
-/// The offset of the hour and of the known ones of minute and second, with the values of their signed getters; a second
-/// without a minute counts as 0.
+/// The offset of the hour, minute and second, by their signed getters; smaller parts get the sign of the first that is
+/// not 0. An unknown minute or second is 0, and a second without a minute counts as 0.
 ///
-/// `InsufficientInformation` if no hour is known.
+/// `InsufficientInformation` if no hour is known. There is no other error.
 impl TryFrom<Parsed> for UtcOffset {
     type Error = TryFromParsed;
 
@@ -90,7 +92,7 @@ impl TryFrom<Parsed> for UtcOffset {
     }
 }
 
-// The offset of a record.
+// The offset of a record, or `InsufficientInformation` if no offset hour is set.
 #[inline(always)]
 #[tactic(auto, unfolding(crate::specs::Resolution::IsOffset))]
 pub(super) fn offset_of(parsed: &Parsed) -> Result<UtcOffset, TryFromParsed>
@@ -102,7 +104,7 @@ pub(super) fn offset_of(parsed: &Parsed) -> Result<UtcOffset, TryFromParsed>
     }
 }
 
-// The offset of a record that has that hour.
+// The offset of a record that has that hour; never an error.
 #[inline(always)]
 #[tactic(auto, unfolding(crate::specs::Resolution::IsOffset))]
 fn offset_of_hour(hour: i8, parsed: &Parsed) -> Result<UtcOffset, TryFromParsed>
@@ -113,7 +115,7 @@ fn offset_of_hour(hour: i8, parsed: &Parsed) -> Result<UtcOffset, TryFromParsed>
     Ok(UtcOffset::from_hms(hour, minute, second_below(parsed))?)
 }
 
-// The seconds of the offset, which count only if its minutes are known.
+// The seconds of the offset, or 0 if they or its minutes aren't set.
 #[inline(always)]
 fn second_below(parsed: &Parsed) -> i8
     ensures { result ≡ offset_seconds_of parsed.now }
@@ -145,7 +147,7 @@ pub(super) fn replace_leap_second(parsed: &Parsed) -> (Option<u8>, Option<u32>)
     }
 }
 
-// The error of a leap second that isn't at a month's end in UTC.
+// The error of a leap second that isn't at a month's end in UTC: it names `second` as conditional on other components.
 pub(super) fn misplaced() -> TryFromParsed
     ensures { refusal_of_parsed result ≡ range (codes "second") true }
 {

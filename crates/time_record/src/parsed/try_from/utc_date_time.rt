@@ -15,12 +15,13 @@ use std::convert::TryFrom;
 use time_values::error::{ComponentRange, TryFromParsed};
 use time_values::{OffsetDateTime, PlainDateTime, Timestamp, UtcDateTime, UtcOffset};
 
-/// The moment of the timestamp, with a known subsecond in place of its own. Or else that of the date, time and offset
-/// of the record, or the first error of these, in that order. Without an offset's hour the offset is 0.
+/// The moment of the timestamp; the record's subsecond, if set, replaces its nanosecond of the second. Without a
+/// timestamp, the moment of the record's date, time and offset, or the first error of these, in that order. Without an
+/// offset's hour the offset is 0.
 ///
-/// If the moment has no date in UTC, an error names `year` as conditional on other components. A leap second that is
-/// allowed counts as the last nanosecond before it. If that isn't a month's end in UTC, an error names `second` as
-/// conditional on other components.
+/// If the moment has no date in UTC, an error names `year` as conditional on other components. Without a timestamp, a
+/// leap second that is allowed counts as the last nanosecond before it. If that isn't a month's end in UTC, an error
+/// names `second` as conditional on other components.
 impl TryFrom<Parsed> for UtcDateTime {
     type Error = TryFromParsed;
 
@@ -36,7 +37,8 @@ impl TryFrom<Parsed> for UtcDateTime {
     }
 }
 
-// The moment of a timestamp, with the given nanosecond of its second, if there is one.
+// The moment at that number of nanoseconds since 1970-01-01T00:00:00Z. A given subsecond replaces its nanosecond of the
+// second.
 #[inline]
 fn moment_at(nanos: i128, subsecond: Option<u32>) -> Result<UtcDateTime, TryFromParsed>
     requires nanos { IsTrue (is_instant greatest_year nanos) }
@@ -51,7 +53,9 @@ fn moment_at(nanos: i128, subsecond: Option<u32>) -> Result<UtcDateTime, TryFrom
     }
 }
 
-// The moment of a date, a time and an offset.
+// The moment in UTC of a record's date, time and offset, or the first error of these, in that order. Without an
+// offset's hour the offset is 0. An error names `year` if the moment has no date in UTC. A leap second that is allowed
+// counts as the last nanosecond before it; if that isn't a month's end in UTC, the error is `misplaced`.
 #[inline]
 #[tactic(auto, unfolding(crate::specs::Resolution::IsUtcMomentOfParts))]
 pub(super) fn moment_of_parts(parsed: &Parsed) -> Result<UtcDateTime, TryFromParsed>
@@ -80,7 +84,7 @@ fn offset_or_utc(parsed: &Parsed) -> Result<UtcOffset, TryFromParsed>
     }
 }
 
-// Converts the moment to UTC.
+// Converts the moment to UTC. If it has no date in UTC, an error names `year` as conditional on other components.
 #[inline]
 fn in_utc(moment: OffsetDateTime) -> Result<UtcDateTime, TryFromParsed>
     ensures { IsInUtc greatest_year (instant greatest_year moment.date moment.time moment.offset)
@@ -95,7 +99,7 @@ fn in_utc(moment: OffsetDateTime) -> Result<UtcDateTime, TryFromParsed>
     }
 }
 
-// The date and the time of a record.
+// The date and the time of a record, or the first error of the two, the date's first.
 #[inline(always)]
 #[tactic(auto, unfolding(crate::specs::Resolution::IsPlain))]
 pub(super) fn date_and_time(parsed: &Parsed) -> Result<PlainDateTime, TryFromParsed>
@@ -106,10 +110,8 @@ pub(super) fn date_and_time(parsed: &Parsed) -> Result<PlainDateTime, TryFromPar
     Ok(PlainDateTime::new(date, time))
 }
 
-/// The instant of the timestamp, whatever the subsecond, or else that of the date, time and offset of the record as a
-/// `UtcDateTime`.
-///
-/// `InsufficientInformation` if the record has neither, for whatever reason.
+/// The instant of the timestamp, which ignores the subsecond. Without a timestamp, the instant of the `UtcDateTime` of
+/// the record; each of its errors is replaced by `InsufficientInformation`.
 impl TryFrom<Parsed> for Timestamp {
     type Error = TryFromParsed;
 

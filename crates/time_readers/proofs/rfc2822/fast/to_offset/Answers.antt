@@ -161,7 +161,8 @@ to_offset_lists : (check_ranges : Bool) (n : Numbers) (text first rest : List �
     → hour ≡ pair_at first 10 → IsWithin check_ranges 0 23 hour
     → minute ≡ pair_at first 13
     → second ≡ pair_at rest 0 → second ≤ 60
-    → MatchesPlaces (PlaceSyntax check_ranges) to_offset_places n text (take (length rest - 3) (drop 3 rest)) (to_offset_numbers n month year hour minute second)
+    → MatchesPlaces (PlaceSyntax check_ranges) to_offset_places n text (take (length rest - 3) (drop 3 rest))
+    (to_offset_numbers n month year hour minute second)
 to_offset_lists check_ranges n text first rest month year hour minute second cut l short w
     sec0 sec1 space printed named yeq late heq hour_in neq seq shigh =
     let f = pick_l_whole 0 first 16 l in
@@ -170,7 +171,9 @@ to_offset_lists check_ranges n text first rest month year hour minute second cut
     (subst (AllWithin LEAST GREATEST) (sym f) w) sec0 sec1 space printed named yeq late heq hour_in neq seq shigh in
     subst (λ t. MatchesPlaces (PlaceSyntax check_ranges) to_offset_places n text t (to_offset_numbers n month year hour minute second))
     (three_left rest short ∙ sym (take-drop rest 3 (omega (arith, short))))
-    (subst (λ t. MatchesPlaces (PlaceSyntax check_ranges) to_offset_places n t (get_or rest 3 0 ∷ drop 4 rest) (to_offset_numbers n month year hour minute second))
+    (subst
+    (λ t. MatchesPlaces (PlaceSyntax check_ranges) to_offset_places n t (get_or rest 3 0 ∷ drop 4 rest)
+    (to_offset_numbers n month year hour minute second))
     ((λ i. f i ++ r i) ∙ sym cut) stands)
 
 pub returns-in_err-first-clause-stands : goal.returns-in_err-first-clause-stands

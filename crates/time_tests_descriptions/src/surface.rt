@@ -1,5 +1,5 @@
-//! The parsers of components, and their modifiers.
-use super::{are_plain, are_whole, is_whole};
+//! Every public call of components, and their modifiers, by its name and type, so that removing one fails to compile.
+use std::fmt::Debug;
 use std::num::NonZero;
 use time_components::component::{
     parse_calendar_year_century_extended_range, parse_calendar_year_century_standard_range,
@@ -19,6 +19,36 @@ use time_components::{
 };
 use time_record::Parsed;
 use time_values::{Month, Weekday};
+
+// A type that is copied, compared and printed for debugging.
+trait Plain: Copy + Debug + Eq {}
+
+impl<T: Copy + Debug + Eq> Plain for T {}
+
+// Types that are plain.
+fn are_plain<A: Plain, B: Plain, C: Plain, D: Plain, E: Plain, F: Plain, G: Plain, H: Plain>() {}
+
+// Whether the value is parsed, and no bytes remain.
+fn is_whole<T: PartialEq + Copy>(found: Option<ParsedItem<'_, T>>, value: T) -> bool {
+    match found {
+        Some(ParsedItem(rest, found)) => rest.is_empty() && found == value,
+        None => false,
+    }
+}
+
+// Whether each parses the value, and no bytes remain.
+fn are_whole<T: PartialEq + Copy>(all: &[Option<ParsedItem<'_, T>>], value: T) -> bool {
+    for found in all {
+        let is_whole = match found {
+            Some(found) => found.0.is_empty() && found.1 == value,
+            None => false,
+        };
+        if !is_whole {
+            return false;
+        }
+    }
+    true
+}
 
 const PADDING: Padding = Padding::Zero;
 

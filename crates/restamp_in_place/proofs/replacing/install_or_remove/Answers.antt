@@ -1,6 +1,6 @@
 use Rattle.restamp_in_place.specs.Phases.{TempRemovable, Put}
 use Rattle.restamp_in_place.proofs.StepLemmas.{tried, runs-any, runs-then, did_remove, did_finish}
-use Rattle.restamp_in_place.proofs.replacing.put.Goals as goal
+use Rattle.restamp_in_place.proofs.replacing.install_or_remove.Goals as goal
 
 pub returns-in-Err : goal.returns-in-Err
 returns-in-Err g c aim plan written =

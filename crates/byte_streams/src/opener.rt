@@ -31,8 +31,8 @@ impl<'a, R> Opener<'a, R> {
 }
 
 impl<R: Files> Opener<'_, R> {
-    /// Opens a file by name. The counts of the returned file are 0. Returns an error, and counts a failure, if the file
-    /// can't be opened, or if the name isn't UTF-8 (`InvalidInput`).
+    /// Opens a file by name, for reading. The counts of the returned file are 0. Returns an error, and counts a
+    /// failure, if the file can't be opened, or if the name isn't UTF-8 (`InvalidInput`).
     pub fn open(&mut self, name: &[u8]) -> io::Result<Counted<R::File>>
         ensures begun { IfOk result (λ file. file.faults ≡ 0) }
         ensures cause { HasCause result self.old.faults self.new.faults }

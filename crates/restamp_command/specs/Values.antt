@@ -14,9 +14,6 @@ use Rattle.time_values.specs.declared.offset_date_time.OffsetDateTime.{OffsetDat
 use Rattle.time_values.specs.declared.utc_date_time.UtcDateTime.{UtcDateTime}
 use Rattle.time_values.specs.declared.utc_offset.UtcOffset.{UtcOffset}
 use Rattle.time_values.specs.Refusal.{Refusal}
-use Rattle.time_zones.specs.Zones.{IsAnswer}
-use Rattle.time_zones.specs.declared.clocks.NotOne.{NotOne}
-use Rattle.time_zones.specs.declared.clocks.NotOne.TheVariants as not_one
 use Rattle.time_formatting.specs.declared.parts.FractionDigits.{FractionDigits}
 use Rattle.time_formatting.specs.declared.parts.FractionDigits.TheVariants.{Auto, Exactly}
 use Rattle.time_digits.specs.declared.Padding.TheVariants as padding
@@ -27,8 +24,8 @@ use Rattle.time_record.specs.Record.{empty}
 use Rattle.time_record.specs.Resolution.{IsOffset}
 use Rattle.time_parsing.specs.Outcome.{IsOutcome}
 use Rattle.restamp_formats.specs.declared.reading.Defaults.{Defaults}
-use Rattle.restamp_formats.specs.Zoned.{IsConverted, clock_of}
-use Rattle.restamp_formats.specs.Reason.{nonexistent, outside_zone_range, Reason}
+use Rattle.restamp_formats.specs.Zoned.{IsConverted, IsMomentWhen}
+use Rattle.restamp_formats.specs.Reason.{outside_zone_range, Reason}
 use Rattle.restamp_formats.specs.declared.clock.Clock.TheVariants as on
 use Rattle.restamp_formats.specs.declared.local.Clocks.{Clocks}
 use Rattle.restamp_formats.specs.Reading.{ParsesAs, IsReadInTurn}
@@ -113,19 +110,12 @@ IsMomentAt n (Err why) = (why ≡ out_of_range) × ¬ IsInstant greatest_year n
 abbrev pub IsDayOffset : Option UtcOffset → UtcOffset → Type 0
 IsDayOffset given offset = MatchOption given (IsUtc offset) (λ o. offset ≡ o)
 
--- the earliest of the moments that a zone has for a local date and time; an error if there is none, or if it is outside
--- the range of time zones
-abbrev pub first_of : Result OffsetDateTime NotOne → Result OffsetDateTime TimeArgError
-first_of (Ok v) = Ok v
-first_of (Err (not_one.Fold earlier later)) = Ok earlier
-first_of (Err not_one.Gap) = Err (unread nonexistent)
-first_of (Err not_one.OutsideZoneRange) = Err (unread outside_zone_range)
-
 -- The earliest moment that has, in the zone, the local date and time that a moment has at its own offset; an error if
 -- there is none, or if it is outside the range of time zones.
 abbrev pub IsEarliestWithLocal : Clocks → OffsetDateTime → Result OffsetDateTime TimeArgError → Type 0
 IsEarliestWithLocal clocks v result =
-    (answer : Result OffsetDateTime NotOne) × IsAnswer clocks.zone (clock_of v) answer × (result ≡ first_of answer)
+    (moment : Result OffsetDateTime Reason) × IsMomentWhen (record clocks { fold = Earlier }) v moment
+    × MatchResult moment (λ m. result ≡ Ok m) (λ why. result ≡ Err (unread why))
 
 -- The start of the zone's day at a moment, or of the day that many days before: the earliest moment whose local time is
 -- its midnight; an error if there is none, or if a moment is out of range.

@@ -6,15 +6,12 @@ ghost use Rattle.time_values.specs.Instants.{nanos_per_day};
 ghost use Rattle.time_values.specs.Moments.{utc_instant};
 ghost use Rattle.time_values.specs.MovedClocks.{IsNear};
 ghost use Rattle.time_values.specs.Offsets.{offset_seconds};
-ghost use Rattle.restamp_formats.specs.Zoned.{IsConverted};
 ghost use Rattle.restamp_formats.specs.Reason.{seen};
-ghost use Rattle.restamp_formats.specs.declared.clock.Clock.TheVariants as on;
 ghost use Rattle.restamp_command.specs.Values as words;
 
 use crate::fault::TimeArgError;
-use restamp_formats::{Clocks, Defaults, Reading, Reason, read, read_in_turn};
-use time_values::{OffsetDateTime, PlainDateTime, UtcDateTime, UtcOffset};
-use time_zones::{NotOne, assume_zone, checked_to_zone};
+use restamp_formats::{Clock, Clocks, Defaults, Fold, Reading, Reason, read, read_in_turn};
+use time_values::{OffsetDateTime, UtcDateTime, UtcOffset};
 
 const NANOS_PER_SECOND: i128 = 1_000_000_000;
 
@@ -182,32 +179,6 @@ fn moment_at(nanos: i128) -> Result<OffsetDateTime, TimeArgError>
     }
 }
 
-// The earliest moment that has, in the zone, the local date and time that `moment` has at its own offset. The error is
-// `Unread`: `Nonexistent` if there is none, `OutsideZoneRange` if that date and time is outside the range of zones.
-fn earliest_with_local(
-    moment: OffsetDateTime,
-    clocks: &Clocks<'_>,
-) -> Result<OffsetDateTime, TimeArgError>
-    ensures { words.IsEarliestWithLocal clocks.now moment (words.erased_moment result) }
-{
-    match assume_zone(
-        PlainDateTime::new(moment.date(), moment.time()),
-        &clocks.zone,
-    ) {
-        Ok(found) => Ok(found),
-        Err(NotOne::Fold { earlier, .. }) => Ok(earlier),
-        Err(NotOne::Gap) => Err(TimeArgError::Unread(Reason::Nonexistent)),
-        Err(NotOne::OutsideZoneRange) => Err(TimeArgError::Unread(Reason::OutsideZoneRange)),
-    }
-}
-
-// The moment at the offset that the zone has then; `None` if it is outside the range of time zones.
-fn converted_in(moment: OffsetDateTime, clocks: &Clocks<'_>) -> Option<OffsetDateTime>
-    ensures { IsConverted (on.Zone clocks.now.zone) moment result }
-{
-    checked_to_zone(moment, &clocks.zone)
-}
-
 // The start of the day in the zone, `back` days before the clock's day there: the earliest moment whose local time is
 // midnight. An error if there is none, or if the clock or that midnight is out of range.
 fn start_of_day_in(
@@ -217,11 +188,16 @@ fn start_of_day_in(
 ) -> Result<OffsetDateTime, TimeArgError>
     ensures { words.IsStartOfDayIn clocks.now now back (words.erased_moment result) }
 {
-    let Some(shown) = converted_in(OffsetDateTime::from(now), clocks) else {
+    let zone = clocks.zone;
+    let Some(shown) = Clock::Zone(zone).show(OffsetDateTime::from(now)) else {
         return Err(TimeArgError::Unread(Reason::OutsideZoneRange));
     };
     let begin = moment_at(midnight_at(now, shown.offset(), back))?;
-    earliest_with_local(begin, clocks)
+    let fold = Fold::Earlier;
+    match (Clocks { zone, fold }).moment_when(begin) {
+        Ok(first) => Ok(first),
+        Err(why) => Err(TimeArgError::Unread(why)),
+    }
 }
 
 // The offset at which days start: the default offset, or UTC without one.

@@ -9,7 +9,7 @@ use Rattle.time_parsing.specs.Iso8601 as Iso8601
 use Rattle.time_parsing.specs.Outcome as Outcome
 use Rattle.restamp_formats.specs.Common.{offset_date, offset_of, offset_time, plain_date, plain_time, IsUtc, Refusal, insufficient, Date, Time, UtcOffset, OffsetDateTime, PlainDateTime, steps_shape, Record, empty, IsMoment, IsPlain, IsMomentOfParts, IsOffset, IsTimed, is_leap_second, Refusing, Clocks, Match, Defaults, Reading}
 use Rattle.restamp_formats.specs.Reading.{IsGuarded, IsReadWith, ReadsRecord, ParsesAs, ParsesLocally, ParsesInZone, at_offset, completed, said, with_offset, with_year}
-use Rattle.restamp_formats.specs.{Reason.Reason, Reason.unread, Zoned.IsOffsetWhen}
+use Rattle.restamp_formats.specs.{Reason.Reason, Reason.unread, Zoned.IsMomentWhen}
 use Rattle.restamp_formats.proofs.{ComponentValueLemmas.offset_made, ParseLemmas.on_none, ParseLemmas.on_some}
 
 -- the record with the parts of an offset
@@ -120,15 +120,15 @@ module _ (text rest : List ℕ) (r : Record) where
   says format read is_prefix defaults all result moment = absurd read
 
   pub says_once : (format : Reading) → ReadsRecord format text empty rest r → (is_prefix : Bool) (defaults : Defaults) (clocks : Clocks)
-      (utc v : OffsetDateTime) (d : Date) (t : Time)
+      (utc v m : OffsetDateTime) (d : Date) (t : Time)
       → (is_prefix ≡ false → rest ≡ []) → defaults.clocks ≡ Some clocks → defaults.offset ≡ None
       → IsDated greatest_year (with_year defaults.year r) (Ok d) → IsTimed (with_year defaults.year r) (Ok t)
       → ((with_year defaults.year r).offset_hour ≡ None) × ((with_year defaults.year r).unix_timestamp_nanos ≡ None)
       × (is_leap_second (with_year defaults.year r) ≡ false)
-      → (offset_date utc ≡ d) × (offset_time utc ≡ t) × IsUtc (offset_of utc) → IsOffsetWhen clocks utc (Ok (offset_of v))
-      → (offset_date v ≡ d) × (offset_time v ≡ t)
+      → (offset_date utc ≡ d) × (offset_time utc ≡ t) × IsUtc (offset_of utc) → IsMomentWhen clocks utc (Ok m)
+      → (offset_date v ≡ d) × (offset_time v ≡ t) × (offset_of v ≡ offset_of m)
       → ParsesLocally format is_prefix text defaults (Ok (said v (length text - length rest)))
-  says_once format read is_prefix defaults clocks utc v d t all on none dated timed plain in_utc when at =
+  says_once format read is_prefix defaults clocks utc v m d t all on none dated timed plain in_utc when at =
       let base = with_year defaults.year r in
       let first = subst (λ (o : Option UtcOffset). IsMoment greatest_year (with_offset o base) (Err insufficient)) (sym none)
       (without base d t dated timed plain.0 plain.1 plain.2) in
@@ -139,7 +139,12 @@ module _ (text rest : List ℕ) (r : Record) where
         in_utc.2,
         Ok (said utc (length text - length rest)),
         says format read is_prefix (at_offset (offset_of utc) defaults) all (Ok utc) shown,
-        (Ok (offset_of v), when, says format read is_prefix (at_offset (offset_of v) defaults) all (Ok v) last),
+        (
+          Ok m,
+          when,
+          subst (λ o. ParsesAs format is_prefix text (at_offset o defaults) (Ok (said v (length text - length rest))))
+              at.2 (says format read is_prefix (at_offset (offset_of v) defaults) all (Ok v) last),
+        ),
       ) in (
         Err (unread insufficient),
         says format read is_prefix defaults all (Err insufficient) first,

@@ -127,7 +127,7 @@ module _ (is_prefix : Bool) (text : List ℕ) (format other : Reading) (says : A
     p.1,
     p.2,
     says (at_offset p.0 d) p.2 p.3,
-    MatchResult-weaker p.2 p.4 (λ s q. (q.0, q.1, MatchResult-weaker q.0 q.2 (λ o. says (at_offset o d) a) (λ why e. e))) (λ why e. e),
+    MatchResult-weaker p.2 p.4 (λ s q. (q.0, q.1, MatchResult-weaker q.0 q.2 (λ m. says (at_offset (offset_of m) d) a) (λ why e. e))) (λ why e. e),
   )
 
   locally : (d : Defaults) (a : Result Match Reason) → ParsesLocally format is_prefix text d a → ParsesLocally other is_prefix text d a

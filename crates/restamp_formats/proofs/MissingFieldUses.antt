@@ -2,10 +2,10 @@
 use Rattle.std.proofs.Common.{Option, Result, MatchOption, ◌⊎◌, is_some, MatchResult, arith, ◌≡◌, ℕ, true, false, None, Some, inl, inr, refl, sym, ap, subst, ◌∙◌, Bool, List, [], Ok, Err}
 use Rattle.std.proofs.lemmas.Bool.{cases_Bool, not-false}
 use Rattle.time_record.specs.Reading as Description
-use Rattle.restamp_formats.specs.Common.{Refusal, OffsetDateTime, UtcOffset, greatest_year, steps_shape, Tree, Record, empty, IsMoment, IsFront, IsOutcome, Kind, Part, Defaults, Clocks, Reading, Match}
+use Rattle.restamp_formats.specs.Common.{Refusal, OffsetDateTime, offset_of, greatest_year, steps_shape, Tree, Record, empty, IsMoment, IsFront, IsOutcome, Kind, Part, Defaults, Clocks, Reading, Match}
 use Rattle.restamp_formats.specs.MissingField.{is_of, HasNoUse, SameBut, always, can_default, ClocksHaveNoUse}
 use Rattle.restamp_formats.specs.Reading.{IsCompleted, completed, has_year, IsRead, IsReadWith, ParsesAs, ParsesInZone, at_offset}
-use Rattle.restamp_formats.specs.{Zoned.IsOffsetWhen, Reason.Reason}
+use Rattle.restamp_formats.specs.{Zoned.IsMomentWhen, Reason.Reason}
 use Rattle.restamp_formats.proofs.{MissingFieldMoments.part_of_year, MissingFieldRecords.count_stays, MissingFieldRecords.counted_moment, MissingFieldRecords.fraction_stays, MissingFieldRecords.said, MissingFieldTrees.SaysPart, MissingFieldTrees.part_said, OneReading.one_has}
 
 -- a record with a part that gives an offset, and without a count from 1970, has the hour of an offset
@@ -92,8 +92,8 @@ clocks_have_no_use format is_prefix text defaults result none (Err reason, says,
     by_clocks None h = h
     by_clocks (Some c) (utc, is_utc, shown, shows, later) =
         subst (λ (it : Result Match Reason). MatchResult it
-        (λ s. (offset : Result UtcOffset Reason) × IsOffsetWhen c s.moment offset
-        × MatchResult offset (λ o. ParsesAs format is_prefix text (at_offset o defaults) result) (λ why. result ≡ Err why))
+        (λ s. (moment : Result OffsetDateTime Reason) × IsMomentWhen c s.moment moment
+        × MatchResult moment (λ m. ParsesAs format is_prefix text (at_offset (offset_of m) defaults) result) (λ why. result ≡ Err why))
         (λ why. result ≡ Err why))
         (one_has format is_prefix text defaults shown (Err reason)
         (says_same (at_offset utc defaults) defaults refl text format is_prefix shown none shows) says) later

@@ -9,7 +9,7 @@ use Rattle.time_parsing.proofs.OneOutcome.{one_moment_outcome, one_outcome, one_
 use Rattle.time_parsing.specs.Outcome as Outcome
 use Rattle.restamp_formats.specs.Common.{offset_of, IsUtc, greatest_year, Refusal, OffsetDateTime, UtcOffset, Record, empty, IsMoment, RefusesDirectly, RefusesRfc2822, Refusing, Path, over_record, direct, steps_shape, Clocks, Defaults, Reading, Match}
 use Rattle.restamp_formats.specs.Reading.{IsReadBy, IsReadWith, IsRead, ParsesAs, ParsesInZone, ParsesLocally, Undated, undated, at_offset, completed, in_year, is_after, is_early, IsEarly, IsFinal, year_after, AreYearsTried, IsCompleted, IsDated, AreTried, IsReadInTurn, all_of, front_of, bare_where, guarded, IsGuarded, IsReadInFront, zones_of}
-use Rattle.restamp_formats.specs.{Zoned.IsOffsetWhen, Zoned.clock_of, Zoned.offset_by, Zoned.IsSuffixed, Reason.Reason, Reason.unread, Reason.is_local_time_error}
+use Rattle.restamp_formats.specs.{Zoned.IsMomentWhen, Zoned.clock_of, Zoned.moment_by, Zoned.IsSuffixed, Reason.Reason, Reason.unread, Reason.is_local_time_error}
 use Rattle.restamp_formats.proofs.OneWriting.{both_are, one_bool, one_option, one_suffixed}
 
 one_read_by : (is_prefix : Bool) (path : Path) (reads : Outcome.Reading) (refuses : Refusing)
@@ -87,11 +87,11 @@ one_after (Err f) (Ok v) P Q x y e one other p q = absurd cc
 one_after (Err f) (Err g) P Q x y e one other p q =
     let same : f ≡ g = cc in other g (subst (λ (u : Reason). Q u x) same p) q
 
--- a zone has one offset at a local date and time
-one_offset : (clocks : Clocks) (v : OffsetDateTime) (a b : Result UtcOffset Reason)
-    → IsOffsetWhen clocks v a → IsOffsetWhen clocks v b → a ≡ b
-one_offset clocks v a b p q =
-    p.2 ∙ ap (offset_by clocks.fold) (one_answer clocks.zone (clock_of v) p.0 q.0 p.1 q.1) ∙ sym q.2
+-- a zone has one moment for a local date and time
+one_moment : (clocks : Clocks) (v : OffsetDateTime) (a b : Result OffsetDateTime Reason)
+    → IsMomentWhen clocks v a → IsMomentWhen clocks v b → a ≡ b
+one_moment clocks v a b p q =
+    p.2 ∙ ap (moment_by clocks.fold) (one_answer clocks.zone (clock_of v) p.0 q.0 p.1 q.1) ∙ sym q.2
 
 one_utc : (a b : UtcOffset) → IsUtc a → IsUtc b → a ≡ b
 one_utc a b p q = same_offset_by_seconds a b (omega (arith, ints, p.0, p.1, p.2, q.0, q.1, q.2))
@@ -103,11 +103,11 @@ one_on clocks format is_prefix text defaults a b p q =
     let SaysAt : UtcOffset → Result Match Reason → Type 0 = λ o x. ParsesAs format is_prefix text (at_offset o defaults) x in
     let same : p.0 ≡ q.0 = one_utc p.0 q.0 p.1 q.1 in
     one_after p.2 q.2
-    (λ s x. (offset : Result UtcOffset Reason) × IsOffsetWhen clocks s.moment offset
-    × MatchResult offset (λ o. SaysAt o x) (λ why. x ≡ Err why)) (λ why x. x ≡ Err why) a b
+    (λ s x. (moment : Result OffsetDateTime Reason) × IsMomentWhen clocks s.moment moment
+    × MatchResult moment (λ m. SaysAt (offset_of m) x) (λ why. x ≡ Err why)) (λ why x. x ≡ Err why) a b
     (one_has format is_prefix text (at_offset q.0 defaults) p.2 q.2 (subst (λ (o : UtcOffset). SaysAt o p.2) same p.3) q.3)
-    (λ s u v. one_after u.0 v.0 SaysAt (λ why x. x ≡ Err why) a b (one_offset clocks s.moment u.0 v.0 u.1 v.1)
-    (λ o i j. one_has format is_prefix text (at_offset o defaults) a b i j) (λ why i j. i ∙ sym j) u.2 v.2)
+    (λ s u v. one_after u.0 v.0 (λ m. SaysAt (offset_of m)) (λ why x. x ≡ Err why) a b (one_moment clocks s.moment u.0 v.0 u.1 v.1)
+    (λ m i j. one_has format is_prefix text (at_offset (offset_of m) defaults) a b i j) (λ why i j. i ∙ sym j) u.2 v.2)
     (λ why u v. u ∙ sym v) p.4 q.4
 
 one_locally : (format : Reading) (is_prefix : Bool) (text : List ℕ) (defaults : Defaults) (a b : Result Match Reason)

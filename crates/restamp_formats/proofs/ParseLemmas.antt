@@ -5,7 +5,7 @@ use Rattle.std.proofs.{lemmas.Int.to_z-of_z, Math.Seq.drop-cons}
 use Rattle.std.specs.Int.{w32, cast_signed as to_z, cast_unsigned as of_z}
 use Rattle.restamp_formats.specs.Common.{OffsetDateTime, offset_of, IsUtc, UtcOffset, refusal_of, Parse, Defaults, Reading, Match, Clocks}
 use Rattle.restamp_formats.specs.Reading.{AreTried, ParsesAs, ParsesLocally, Undated, undated, is_after, IsFinal, year_after, IsReadInYear, AreYearsTried, IsDated, IsReadInTurn, ParsesInZone, IsEarly, at_offset, in_year, is_early, IsRead, is_counted, erased_match, zones_of}
-use Rattle.restamp_formats.specs.{Reason.Satisfies, Reason.IsErrOf, Reason.Reason, Reason.unread, Zoned.IsOffsetWhen}
+use Rattle.restamp_formats.specs.{Reason.Satisfies, Reason.IsErrOf, Reason.Reason, Reason.unread, Zoned.IsMomentWhen}
 
 -- ---- The match of a text that needs no defaults
 
@@ -90,15 +90,15 @@ module _ (format : Reading) (is_prefix : Bool) (text : List ℕ) (defaults : Def
     pub on-unread : (e : Reason) → ParsesAs format is_prefix text d (Err e) → ParsesInZone clocks format is_prefix text defaults (Err e)
     on-unread e says = (utc, is, Err e, rw (← same) says, refl)
 
-    pub on-refused : (s : Match) (why : Reason) → ParsesAs format is_prefix text d (Ok s) → IsOffsetWhen clocks s.moment (Err why)
+    pub on-refused : (s : Match) (why : Reason) → ParsesAs format is_prefix text d (Ok s) → IsMomentWhen clocks s.moment (Err why)
         → ParsesInZone clocks format is_prefix text defaults (Err why)
     on-refused s why says when =
         (utc, is, Ok s, rw (← same) says, (Err why, when, refl))
 
-    pub on-shown : (s : Match) (o : UtcOffset) (e : Defaults) (r : Result Match Reason) → ParsesAs format is_prefix text d (Ok s)
-        → IsOffsetWhen clocks s.moment (Ok o) → e ≡ at_offset o defaults → ParsesAs format is_prefix text e r
+    pub on-shown : (s : Match) (m : OffsetDateTime) (e : Defaults) (r : Result Match Reason) → ParsesAs format is_prefix text d (Ok s)
+        → IsMomentWhen clocks s.moment (Ok m) → e ≡ at_offset (offset_of m) defaults → ParsesAs format is_prefix text e r
         → ParsesInZone clocks format is_prefix text defaults r
-    on-shown s o e r says when there later = (utc, is, Ok s, rw (← same) says, (Ok o, when, rw (← there) later))
+    on-shown s m e r says when there later = (utc, is, Ok s, rw (← same) says, (Ok m, when, rw (← there) later))
 
   -- the match of a text that the format rejects without a zone
   pub locally-on : (e : Reason) (clocks : Clocks) (r : Result Match Reason) → defaults.clocks ≡ Some clocks

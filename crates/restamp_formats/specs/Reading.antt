@@ -12,7 +12,7 @@ use Rattle.time_parsing.specs.Rfc2822 as Rfc2822
 use Rattle.time_parsing.specs.Rfc3339Strict as Rfc3339
 use Rattle.restamp_formats.specs.declared.dated.Undated as declared
 use Rattle.restamp_formats.specs.Common.{ℕ, zero, suc, ℤ, pos, int_lt, Bool, true, false, not, MatchBool, List, [], length, take, drop, slice_index, Option, None, Some, MatchOption, is_some, unwrap_or, Result, Ok, Err, MatchResult, offset_date, offset_instant, offset_of, IsUtc, Refusal, refusal_of, Parse, OffsetDateTime, UtcOffset, RefusesRfc2822, Record, empty, put, year_is, IsMoment, Refusing, Path, over_record, direct, IsFront, IsOutcome, steps_shape, Zones, Clocks, Reading, Match, Defaults}
-use Rattle.restamp_formats.specs.{Zoned.IsOffsetWhen, Zoned.IsSuffixed, Reason.Reason, Reason.unread, Reason.negative_fraction, Reason.is_local_time_error}
+use Rattle.restamp_formats.specs.{Zoned.IsMomentWhen, Zoned.IsSuffixed, Reason.Reason, Reason.unread, Reason.negative_fraction, Reason.is_local_time_error}
 
 -- a match of the first n bytes of a text, which mean the moment
 abbrev pub said : OffsetDateTime → ℕ → Match
@@ -202,8 +202,8 @@ ParsesInZone clocks format is_prefix text defaults result =
     (utc : UtcOffset) × IsUtc utc
     × (shown : Result Match Reason) × ParsesAs format is_prefix text (at_offset utc defaults) shown
     × MatchResult shown
-    (λ s. (offset : Result UtcOffset Reason) × IsOffsetWhen clocks s.moment offset
-    × MatchResult offset (λ o. ParsesAs format is_prefix text (at_offset o defaults) result)
+    (λ s. (moment : Result OffsetDateTime Reason) × IsMomentWhen clocks s.moment moment
+    × MatchResult moment (λ m. ParsesAs format is_prefix text (at_offset (offset_of m) defaults) result)
     (λ why. result ≡ Err why))
     (λ why. result ≡ Err why)
 

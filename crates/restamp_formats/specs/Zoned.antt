@@ -82,7 +82,7 @@ abbrev pub conversion_error : Clock → Reason
 conversion_error (Clock.Zone zone) = outside_zone_range
 conversion_error clock = out_of_range
 
--- ---- The offset that a zone has at a local date and time
+-- ---- The moment that a zone has for a local date and time
 
 -- the local date and time of a moment at its own offset
 abbrev pub clock_of : OffsetDateTime → PlainDateTime
@@ -95,23 +95,22 @@ offsets earlier later = record {
   later = parts_of (offset_seconds (offset_of later));
 }
 
--- the offset of the moment that an ambiguous local time means; for `Refuse` the reason `ambiguous_offsets`
-abbrev pub of_two : Fold → OffsetDateTime → OffsetDateTime → Result UtcOffset Reason
+-- the moment that an ambiguous local time means; for `Refuse` the reason `ambiguous_offsets`
+abbrev pub of_two : Fold → OffsetDateTime → OffsetDateTime → Result OffsetDateTime Reason
 of_two Fold.Refuse earlier later = Err (ambiguous_offsets (offsets earlier later))
-of_two Fold.Earlier earlier later = Ok (offset_of earlier)
-of_two Fold.Later earlier later = Ok (offset_of later)
+of_two Fold.Earlier earlier later = Ok earlier
+of_two Fold.Later earlier later = Ok later
 
--- the offset of the only moment that a zone has for a local time, or the one that `fold` chooses; or the reason why
--- there is none
-abbrev pub offset_by : Fold → Result OffsetDateTime NotOne → Result UtcOffset Reason
-offset_by fold (Ok m) = Ok (offset_of m)
-offset_by fold (Err NotOne.Gap) = Err nonexistent
-offset_by fold (Err (NotOne.Fold earlier later)) = of_two fold earlier later
-offset_by fold (Err NotOne.OutsideZoneRange) = Err outside_zone_range
+-- the only moment that a zone has for a local time, or the one that `fold` chooses; or the reason why there is none
+abbrev pub moment_by : Fold → Result OffsetDateTime NotOne → Result OffsetDateTime Reason
+moment_by fold (Ok m) = Ok m
+moment_by fold (Err NotOne.Gap) = Err nonexistent
+moment_by fold (Err (NotOne.Fold earlier later)) = of_two fold earlier later
+moment_by fold (Err NotOne.OutsideZoneRange) = Err outside_zone_range
 
--- The offset of the zone at the local date and time of a moment, chosen by `fold` if that is ambiguous; or the reason
--- `nonexistent`, `ambiguous_offsets` or `outside_zone_range`.
-abbrev pub IsOffsetWhen : Clocks → OffsetDateTime → Result UtcOffset Reason → Type 0
-IsOffsetWhen clocks v result =
+-- The moment that has, in the zone, the local date and time of a moment, chosen by `fold` if that is ambiguous; or the
+-- reason `nonexistent`, `ambiguous_offsets` or `outside_zone_range`.
+abbrev pub IsMomentWhen : Clocks → OffsetDateTime → Result OffsetDateTime Reason → Type 0
+IsMomentWhen clocks v result =
     (answer : Result OffsetDateTime NotOne) × IsAnswer clocks.zone (clock_of v) answer
-    × (result ≡ offset_by clocks.fold answer)
+    × (result ≡ moment_by clocks.fold answer)

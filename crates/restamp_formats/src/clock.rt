@@ -46,7 +46,7 @@ impl Clock<'_> {
     /// Converts the moment to this clock; `None` if its year at a fixed offset is outside -999999 to 999999, or, for a
     /// zone, if the moment is outside the range of time zones.
     #[inline(always)]
-    pub(crate) fn show(&self, moment: OffsetDateTime) -> Option<OffsetDateTime>
+    pub fn show(&self, moment: OffsetDateTime) -> Option<OffsetDateTime>
         ensures { spec.IsConverted self.now moment result }
     {
         match self {

@@ -152,8 +152,9 @@ fn parse_by_defaults<E: FromReason>(
 
 /// Parses a text by the format; if that rejects it, as a local time in the zone of the defaults; and if that fails and
 /// the defaults have a `latest` moment, with ten years from the one after its year down, for a moment that isn't after
-/// it. A nonexistent or ambiguous local time ends the search if it isn't after `latest` at the offset of `latest`. The
-/// error, as an `E`, is that of the last attempt that fails. Not inlined, so that other texts need no stack for it.
+/// it. Up to seven years in a row have no 29 February, so ten suffice. A nonexistent or ambiguous local time ends the
+/// search if it isn't after `latest` at the offset of `latest`. The error, as an `E`, is that of the last attempt that
+/// fails. Not inlined, so that other texts need no stack for it.
 #[tactic(auto, using(crate::proofs::ParseLemmas::dated_at_once))]
 #[inline(never)]
 pub fn parse_dated<E: FromReason>(
@@ -174,21 +175,6 @@ pub fn parse_dated<E: FromReason>(
             parse_by_defaults(reading, is_prefix, text, defaults, reason)
         }
     }
-}
-
-/// [`parse_dated`] with the whole [`Reason`] as its error. A text without a year means the latest moment that isn't
-/// after `defaults.latest`, if there is one. Ten years are tried, from the one after that moment's down, since up to
-/// seven in a row have no 29 February.
-pub fn read_dated(
-    reading: &Reading,
-    is_prefix: bool,
-    text: &[u8],
-    defaults: &Defaults<'_>,
-) -> Result<Match, Reason>
-    ensures said { spec.IsDated reading.now is_prefix text.now defaults.now (erased result) }
-    ensures within { IfOk result (λ said. said.start + said.length ≤ length text.now) }
-{
-    parse_dated(reading, is_prefix, text, defaults)
 }
 
 // Parses a text by the first of the formats that matches, as `parse_dated` does; otherwise returns `reason`.

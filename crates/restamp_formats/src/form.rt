@@ -3,7 +3,7 @@ ghost use Rattle.std.specs.Fmt.{signed_decimal};
 ghost use Rattle.std.specs.Prelude.{◌≡◌, ◌≤◌};
 ghost use Rattle.restamp_formats.specs.Common.{length, MatchOption, IfSome, Ok, greatest_year, IsInstant, nanoseconds, offset_instant, Named, Seconds, Milliseconds, Microseconds, Nanoseconds, Writing};
 ghost use Rattle.restamp_formats.specs.Form as spec;
-ghost use Rattle.restamp_formats.specs.Reason.{Stores, erased};
+ghost use Rattle.restamp_formats.specs.Reason.{Stores};
 
 use crate::brief::FromReason;
 use crate::clock::Clock;
@@ -283,13 +283,4 @@ pub fn write_to<E: FromReason>(
             write_described(moment, description, form.digits, &form.clock, text)
         }
     }
-}
-
-/// Converts the moment to the form's clock, and returns its text. The errors are those of [`write_to`].
-pub fn write_moment(moment: OffsetDateTime, form: &Form<'_>) -> Result<Text, Reason>
-    ensures { spec.IsWritten form.now moment (erased result) }
-{
-    let mut text = Text::new();
-    write_to(moment, form, &mut text)?;
-    Ok(text)
 }

@@ -16,8 +16,8 @@ mod reason;
 
 pub use brief::{Brief, FromReason};
 pub use clock::Clock;
-pub use dated::{parse_dated, parse_in_turn, read_dated, read_in_turn};
-pub use form::{Form, Named, Unit, Writing, write_moment, write_to};
+pub use dated::{parse_dated, parse_in_turn, read_in_turn};
+pub use form::{Form, Named, Unit, Writing, write_to};
 pub use local::{Clocks, Fold};
 pub use missing_field::{MissingField, Part};
 pub use naming::{FormatFault, find_reading, find_writing};

@@ -39,8 +39,12 @@ pub(crate) fn clock_of(moment: OffsetDateTime) -> PlainDateTime
 }
 
 impl Fold {
-    // The offset of the moment that an ambiguous local time means; for `Refuse` the reason `Ambiguous`.
-    fn of_two(self, earlier: OffsetDateTime, later: OffsetDateTime) -> Result<UtcOffset, Reason>
+    // The moment that an ambiguous local time means; for `Refuse` the reason `Ambiguous`.
+    fn of_two(
+        self,
+        earlier: OffsetDateTime,
+        later: OffsetDateTime,
+    ) -> Result<OffsetDateTime, Reason>
         ensures { erased result ≡ spec.of_two self earlier later }
     {
         match self {
@@ -48,20 +52,20 @@ impl Fold {
                 earlier: OffsetParts::of(earlier.offset().whole_seconds()),
                 later: OffsetParts::of(later.offset().whole_seconds()),
             })),
-            Fold::Earlier => Ok(earlier.offset()),
-            Fold::Later => Ok(later.offset()),
+            Fold::Earlier => Ok(earlier),
+            Fold::Later => Ok(later),
         }
     }
 }
 
 impl Clocks<'_> {
-    // The offset of the zone at the local date and time of a moment, chosen by `fold` if that is ambiguous; or the
-    // reason `Nonexistent`, `Ambiguous` or `OutsideZoneRange`.
-    fn offset_when(&self, shown: OffsetDateTime) -> Result<UtcOffset, Reason>
-        ensures { spec.IsOffsetWhen self.now shown (erased result) }
+    /// The moment that has, in the zone, the local date and time that `shown` has at its own offset, chosen by `fold` if
+    /// that is ambiguous. The error is `Nonexistent`, `Ambiguous` or `OutsideZoneRange`.
+    pub fn moment_when(&self, shown: OffsetDateTime) -> Result<OffsetDateTime, Reason>
+        ensures { spec.IsMomentWhen self.now shown (erased result) }
     {
         match assume_zone(clock_of(shown), &self.zone) {
-            Ok(moment) => Ok(moment.offset()),
+            Ok(moment) => Ok(moment),
             Err(NotOne::Gap) => Err(Reason::Nonexistent),
             Err(NotOne::Fold { earlier, later }) => self.fold.of_two(earlier, later),
             Err(NotOne::OutsideZoneRange) => Err(Reason::OutsideZoneRange),
@@ -86,8 +90,8 @@ impl Clocks<'_> {
             Ok(said) => said.moment,
             Err(why) => return Err(why),
         };
-        match self.offset_when(shown) {
-            Ok(offset) => parse_outlined(reading, is_prefix, text, &defaults.at(offset)),
+        match self.moment_when(shown) {
+            Ok(moment) => parse_outlined(reading, is_prefix, text, &defaults.at(moment.offset())),
             Err(why) => Err(E::from_reason(why)),
         }
     }

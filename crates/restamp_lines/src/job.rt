@@ -9,6 +9,7 @@ ghost use Rattle.restamp_lines.specs.Job as spec;
 mod fast;
 
 use crate::part::Part;
+use byte_streams::{LINE_LIMIT, LOOKAHEAD};
 use restamp_formats::{
     Defaults, Form, FromReason, Match, Reading, Reason, parse_in_turn, write_to,
 };
@@ -19,10 +20,10 @@ use time_values::OffsetDateTime;
 use time_values::text::Text;
 
 /// The most bytes that a timestamp may have if the job has no place.
-pub const REACH: usize = 256;
+pub const REACH: usize = LOOKAHEAD;
 
 /// The most bytes from a line's start to the end of its timestamp. If the timestamp ends later, the line is rejected.
-pub const LIMIT: usize = 262_144;
+pub const LIMIT: usize = LINE_LIMIT;
 
 /// What is done with each line.
 #[derive(Clone, Copy)]

@@ -212,7 +212,7 @@ impl fmt::Display for Why<'_> {
     }
 }
 
-/// A rejected line has at most one missing part.
+/// The missing part of a rejected line has at most one result, a part or `None`, even if the line lacks several parts.
 #[tactic(auto, using(crate::proofs::OneErrorLocation::one_missing_field))]
 pub fn law_one_missing_field()
     ensures { spec.OneMissingField }

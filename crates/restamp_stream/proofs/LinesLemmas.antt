@@ -32,8 +32,8 @@ left_fills bytes left n p h k = omega (arith, h, k, ap length p.1, length-append
 -- ---- An input has one result, and is the output if no line is rewritten or dropped
 
 -- a front has one action, and is rejected at one column and for one reason
-abbrev pub OneFate : Job → Type 0
-OneFate job = (front : List ℕ) (a b : Action) → job.is_action front a → job.is_action front b → a ≡ b
+abbrev pub OneAction : Job → Type 0
+OneAction job = (front : List ℕ) (a b : Action) → job.is_action front a → job.is_action front b → a ≡ b
 
 abbrev pub OneReason : Job → Type 0
 OneReason job = (front : List ℕ) (column other : ℕ) (reason why : List ℕ)
@@ -43,15 +43,15 @@ one_report : (job : Job) (t : Tally) (front report other : List ℕ) (named : Bo
     → MatchBool named (IsNaming job t front report) (report ≡ []) → MatchBool named (IsNaming job t front other) (other ≡ []) → report ≡ other
 one_report job t front report other named one p q = grind (arith, one)
 
-pub one_answer : (job : Job) → OneFate job → OneReason job → OneAnswer job
-one_answer job fate_one reason_one t [] actions others text other reports more p q = (rw (p.0, q.0), rw (p.1, q.1), rw (p.2, q.2))
-one_answer job fate_one reason_one t (line ∷ lines) actions others text other reports more p q =
+pub one_answer : (job : Job) → OneAction job → OneReason job → OneAnswer job
+one_answer job action_one reason_one t [] actions others text other reports more p q = (rw (p.0, q.0), rw (p.1, q.1), rw (p.2, q.2))
+one_answer job action_one reason_one t (line ∷ lines) actions others text other reports more p q =
     let front = front_of job line in
-    let same : p.0 ≡ q.0 = fate_one front p.0 q.0 p.6.0 q.6.0 in
+    let same : p.0 ≡ q.0 = action_one front p.0 q.0 p.6.0 q.6.0 in
     let tally : Tally = count_action t q.0 in
     let report : p.4 ≡ q.4 = one_report job tally front p.4 q.4 (is_named job.settings.reports tally q.0) reason_one (rw same at p.6.3) q.6.3 in
     let rest : (p.1 ≡ q.1) × (p.3 ≡ q.3) × (p.5 ≡ q.5) =
-    one_answer job fate_one reason_one tally lines p.1 q.1 p.3 q.3 p.5 q.5 (rw same at p.7) q.7 in
+    one_answer job action_one reason_one tally lines p.1 q.1 p.3 q.3 p.5 q.5 (rw same at p.7) q.7 in
     (rw (p.8, q.8, same, rest.0), rw (p.9, q.9, p.6.2, q.6.2, same, rest.1), rw (p.10, q.10, report, rest.2))
 
 one_text : (known : List ℕ) (new other : Option (List ℕ)) (text more : List ℕ) → text ≡ more → Appends (Some known) new text
@@ -61,12 +61,12 @@ one_text known new other text more e p q = grind arith
 known_after : (known : List ℕ) (new : Option (List ℕ)) (text : List ℕ) → Appends (Some known) new text → (after : List ℕ) × (new ≡ Some after)
 known_after known new text p = grind arith
 
-pub one_result : (job : Job) → OneFate job → OneReason job → OneResult job
-one_result job fate_one reason_one bytes out log tally after other p q =
+pub one_result : (job : Job) → OneAction job → OneReason job → OneResult job
+one_result job action_one reason_one bytes out log tally after other p q =
     let a = p.processed in
     let b = q.processed in
     let same : (p.actions ≡ q.actions) × (a.text ≡ b.text) × (a.reports ≡ b.reports) =
-    one_answer job fate_one reason_one _ (lines_of bytes) p.actions q.actions a.text b.text a.reports b.reports a.become b.become in
+    one_answer job action_one reason_one _ (lines_of bytes) p.actions q.actions a.text b.text a.reports b.reports a.become b.become in
     let outs : p.between.out ≡ q.between.out = one_text out _ _ _ _ same.1 a.written b.written in
     let logs : p.between.log ≡ q.between.log = one_text log _ _ _ _ same.2 a.reported b.reported in
     let tallies : p.between.tally ≡ q.between.tally = rw (a.tallied, b.tallied, same.0) in

@@ -1,6 +1,6 @@
 //! Timestamps without an offset, in the local time of a zone, and bounds that are words relative to the clock.
 use restamp_formats::{
-    Clocks, Defaults, Fold, OffsetParts, Reason, TwoOffsets, find_reading, read_dated,
+    Clocks, Defaults, Fold, OffsetParts, Reason, TwoOffsets, find_reading, parse_dated,
 };
 use std::alloc::Global;
 use time_values::OffsetDateTime;
@@ -55,7 +55,7 @@ fn answer_of(
         clocks: Some(clocks),
         latest,
     };
-    match read_dated(&reading, false, text, &defaults) {
+    match parse_dated(&reading, false, text, &defaults) {
         Ok(said) => Answer::At(said.moment.unix_timestamp()),
         Err(Reason::Nonexistent) => Answer::Nonexistent,
         Err(Reason::Ambiguous(offsets)) => Answer::Twice(offsets),

@@ -250,7 +250,7 @@ fn changed(rt: HostRuntime) {
 // Timestamps anywhere in a line. They consist of whole words and numbers.
 mod anywhere {
     use restamp_formats::{
-        Clock, Defaults, Form, Reading, Reason, Writing, find_reading, find_writing, read_dated,
+        Clock, Defaults, Form, Reading, Reason, Writing, find_reading, find_writing, parse_dated,
     };
     use restamp_lines::{Job, REACH, Refusal};
     use restamp_place::Place;
@@ -392,7 +392,7 @@ mod anywhere {
             }
             let rest = &line[start..];
             let near = &rest[..REACH.min(rest.len())];
-            if let Ok(said) = read_dated(format, true, near, &NOTHING_GIVEN) {
+            if let Ok(said) = parse_dated::<Reason>(format, true, near, &NOTHING_GIVEN) {
                 let begin = start + said.start;
                 let end = begin + said.length;
                 if !is_inside(line, end) {

@@ -2,9 +2,11 @@
 -- the definitions, without any code.
 use Rattle.std.proofs.Common.{◌≡◌, ℕ, List, [], length, pos, neg_ℤ, true, false, Some, Ok, Err, codes, refl, ap, inl, inr, arith}
 use Rattle.time_values.specs.Calendar.{greatest_year}
+use Rattle.time_values.specs.Dates.{HasParts, IsDateWithin}
 use Rattle.time_values.specs.Offsets.{HasOffset}
 use Rattle.time_values.specs.Refusal.{component, trailing}
 use Rattle.time_values.specs.Times.{HasClock}
+use Rattle.time_values.specs.declared.date.Date.{Date}
 use Rattle.time_values.specs.declared.month.Month.TheVariants.{January}
 use Rattle.time_values.specs.declared.time.Time.{Time}
 use Rattle.time_values.specs.declared.utc_offset.UtcOffset.{UtcOffset}
@@ -14,7 +16,7 @@ use Rattle.time_readers.specs.IsoOffsets.{offset_text}
 use Rattle.time_readers.specs.IsoPieces.{byte, digits, month, number, point, positive, sign, up_to, weekday, year}
 use Rattle.time_readers.specs.IsoTimes.{time_after}
 use Rattle.time_record.specs.Record.{Record, empty}
-use Rattle.time_record.specs.Resolution.{IsOffset, IsTimed}
+use Rattle.time_record.specs.Resolution.{IsDated, IsOffset, IsTimed}
 use Rattle.time_parsing.specs.Iso8601 as Iso8601
 use Rattle.time_parsing.specs.Iso8601.{date_over, offset_over, reading, time_over}
 use Rattle.time_parsing.specs.Outcome.{IsOutcome}
@@ -104,3 +106,40 @@ offset_of_a_year_and_month o has = (after_year_and_month empty, year_and_month_a
 -- bytes that remain are trailing characters, whatever was read before them
 pub bytes_that_remain : IsOutcome IsTimed (Iso8601.Reads Y) (Iso8601.Refuses Y) (codes "1234-05:30") empty (Err trailing)
 bytes_that_remain = inl (inr (codes ":30", after_failed_date empty, failed_date_leaves_no_kind empty, (λ e. omega (arith, ap length e)), refl))
+
+-- ---- A year past 9999
+
+module _ (r : Record) where
+  abbrev in_12345 : Record
+  in_12345 = record r { year = Some (pos 12_345); month = Some January; day = Some 2; leap_second_allowed = true }
+
+  abbrev at_offset_of_12345 : Record
+  at_offset_of_12345 = record r {
+    offset_hour = Some (pos 1);
+    offset_minute = Some (pos 23);
+    offset_is_negative = false;
+    leap_second_allowed = true;
+  }
+
+  pub year_12345_to_999999 : Iso8601.Reads 999_999 (codes "+012345-01-02") r [] in_12345
+  unfolding reading date_over time_over offset_over date_text forms year month weekday positive up_to digits byte point sign number time_after offset_text
+  year_12345_to_999999 = refl
+
+  -- in the narrower range, its sign and four digits are an offset
+  pub offset_for_year_12345_to_9999 : Iso8601.Reads 9_999 (codes "+012345-01-02") r (codes "45-01-02") at_offset_of_12345
+  unfolding reading date_over time_over offset_over date_text forms year month weekday positive up_to digits byte point sign number time_after offset_text
+  offset_for_year_12345_to_9999 = refl
+
+  pub no_date_of_year_12345_to_9999 : (new : Record) → Iso8601.Reads 9_999 (codes "+012345-01-02") r [] new → ⊥
+  no_date_of_year_12345_to_9999 new h =
+      let same = (iso8601_exact 9_999).one_rest (codes "+012345-01-02") r (codes "45-01-02") [] at_offset_of_12345 new offset_for_year_12345_to_9999 h in
+      omega (arith, ap length same)
+
+pub date_of_year_12345 : (d : Date) → HasParts (pos 12_345) January 2 d → IsDateWithin 999_999 d
+    → IsOutcome (IsDated 999_999) (Iso8601.Reads 999_999) (Iso8601.Refuses 999_999) (codes "+012345-01-02") empty (Ok d)
+unfolding IsDated
+date_of_year_12345 d parts within = (in_12345 empty, year_12345_to_999999 empty, (parts, within))
+
+pub trailing_after_year_12345 : IsOutcome (IsDated 9_999) (Iso8601.Reads 9_999) (Iso8601.Refuses 9_999) (codes "+012345-01-02") empty (Err trailing)
+trailing_after_year_12345 =
+    inl (inr (codes "45-01-02", at_offset_of_12345 empty, offset_for_year_12345_to_9999 empty, (λ e. omega (arith, ap length e)), refl))

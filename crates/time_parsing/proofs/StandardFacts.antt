@@ -1,15 +1,18 @@
 -- Worked values of RFC 3339 and RFC 2822, parsed over records, so that a wrong rule in the specs does not check. They
 -- follow from the definitions, without any code.
-use Rattle.std.proofs.Common.{◌≡◌, ◌≢◌, ℕ, List, [], ◌∷◌, ◌++◌, length, pos, neg_ℤ, true, false, Some, None, codes, refl, sym, ap, inl, arith}
+use Rattle.std.proofs.Common.{◌≡◌, ◌≢◌, ◌≤◌, ◌<◌, ◌^◌, ℕ, List, [], ◌∷◌, ◌++◌, length, pos, neg_ℤ, unsigned_abs, true, false, Some, None, codes, refl, sym, ap, inl, arith}
 use Rattle.time_values.specs.Calendar.{greatest_year}
 use Rattle.time_values.specs.Refusal.{component, literal, range}
 use Rattle.time_values.specs.DisplayTexts.{fixed}
+use Rattle.time_values.specs.Sign.{signed_by}
 use Rattle.time_values.specs.declared.month.Month.TheVariants.{January, April, November}
 use Rattle.time_values.specs.declared.weekday.Weekday.TheVariants.{Monday, Saturday}
-use Rattle.time_digits.specs.Digits.{IsDigitRun}
+use Rattle.time_digits.specs.Digits.{IsDigitRun, is_negative}
+use Rattle.time_digits.specs.declared.Sign.{Sign}
 use Rattle.time_digits.specs.declared.Sign.TheVariants.{Negative, Positive}
 use Rattle.time_digits.proofs.Runs.{IsDigitRun-unique}
 use Rattle.time_readers.specs.IsoPieces.{digits, month, weekday, year}
+use Rattle.time_readers.specs.Readers.{MatchesPlaces}
 use Rattle.time_readers.specs.Rfc2822 as mail
 use Rattle.time_readers.specs.Rfc3339.{PlaceSyntax, HasForm, InRanges, IsSubsecond, nothing_read, offset_places, time_places}
 use Rattle.time_readers.specs.declared.rfc2822.Numbers.{Numbers as MailNumbers}
@@ -24,7 +27,7 @@ use Rattle.time_record.specs.Record.{Record, empty}
 use Rattle.time_parsing.specs.Rfc2822 as Rfc2822
 use Rattle.time_parsing.specs.Rfc3339.{Reads, Refuses}
 use Rattle.time_parsing.specs.exact.Laws.{rfc2822_exact, rfc3339_exact}
-use Rattle.time_parsing.proofs.MailForm.{mail_form, mail_numbers}
+use Rattle.time_parsing.proofs.MailForm.{mail_bytes, mail_form, mail_numbers}
 use Rattle.time_parsing.proofs.WrittenBack.{MatchesPlaces-none, MatchesPlaces-text, fixed-run, numeric, numeric-stands, written_form, zulu, zulu-stands}
 
 abbrev Y : ℕ
@@ -76,6 +79,17 @@ behind_form =
     (no_fraction (codes "00:30") 45 (λ e. omega (arith, e))) (numeric-stands 2021 1 2 3 4 5 None Negative 0 30 (omega arith) (omega arith))
     (omega arith, omega arith, omega arith) (omega arith) (λ e. omega (arith, e)) (omega arith) (omega arith)
 
+-- their numbers are in range
+in_ranges_2021 : (sign : Sign) (hour minute : ℕ) → minute ≤ 59 → InRanges (numeric 2021 1 2 3 4 5 None sign hour minute)
+in_ranges_2021 sign hour minute small = record {
+  month = (omega arith, omega arith);
+  day = (omega arith, omega arith);
+  hour = (omega arith, omega arith);
+  minute = (omega arith, omega arith);
+  second = (omega arith, omega arith);
+  offset_minute = (omega arith, small);
+}
+
 module _ (r : Record) where
   abbrev pub after_example : Record
   after_example = record r {
@@ -121,32 +135,15 @@ module _ (r : Record) where
   -- a numeric offset keeps the second of the offset
   pub offset_ahead_is_read : Reads Y (codes "2021-01-02T03:04:05+05:30") r [] (record after_2021 { offset_hour = Some (pos 5); offset_minute = Some (pos 30) })
   offset_ahead_is_read =
-      let ranges : InRanges (numeric 2021 1 2 3 4 5 None Positive 5 30) = record {
-        month = (omega arith, omega arith);
-        day = (omega arith, omega arith);
-        hour = (omega arith, omega arith);
-        minute = (omega arith, omega arith);
-        second = (omega arith, omega arith);
-        offset_minute = (omega arith, omega arith);
-      } in
+      let ranges = in_ranges_2021 Positive 5 30 (omega arith) in
       let n = numeric 2021 1 2 3 4 5 None Positive 5 30 in
       (n, January, (ranged_forms (codes "2021-01-02T03:04:05+05:30") [] n).1 (ahead_form, ranges), refl, refl)
 
   -- a minus before the hour 00 applies to the minute
-  pub offset_behind_is_read : Reads Y (codes "2021-01-02T03:04:05-00:30") r [] (record after_2021 {
-    offset_hour = Some (pos 0);
-    offset_minute = Some
-        (neg_ℤ (pos 30));
-  })
+  pub offset_behind_is_read : Reads Y (codes "2021-01-02T03:04:05-00:30") r []
+      (record after_2021 { offset_hour = Some (pos 0); offset_minute = Some (neg_ℤ (pos 30)) })
   offset_behind_is_read =
-      let ranges : InRanges (numeric 2021 1 2 3 4 5 None Negative 0 30) = record {
-        month = (omega arith, omega arith);
-        day = (omega arith, omega arith);
-        hour = (omega arith, omega arith);
-        minute = (omega arith, omega arith);
-        second = (omega arith, omega arith);
-        offset_minute = (omega arith, omega arith);
-      } in
+      let ranges = in_ranges_2021 Negative 0 30 (omega arith) in
       let n = numeric 2021 1 2 3 4 5 None Negative 0 30 in
       (n, January, (ranged_forms (codes "2021-01-02T03:04:05-00:30") [] n).1 (behind_form, ranges), refl, refl)
 
@@ -202,6 +199,48 @@ no_sign_is_kept h =
 
 -- ---- RFC 2822
 
+-- `Mon, 02 Jan 2021 03:04:05`, and an offset
+abbrev monday : Sign → ℕ → ℕ → MailNumbers
+monday sign hour minute = mail_numbers Monday 2 January 2021 3 4 5 sign hour minute
+
+monday_form : (sign : Sign) (hour minute : ℕ) → hour ≤ 25 → minute < 10 ^ 2
+    → mail.HasForm false (mail_bytes Monday 2 January 2021 3 4 5 sign hour minute) [] (monday sign hour minute)
+monday_form sign hour minute hours minutes =
+    mail_form Monday 2 January 2021 3 4 5 sign hour minute hours minutes (omega arith, omega arith, omega arith) (omega arith) (omega arith)
+    (omega arith)
+
+monday_in_ranges : (sign : Sign) (hour minute : ℕ) → unsigned_abs (signed_by (is_negative sign) (pos hour)) ≤ 25
+    → unsigned_abs (signed_by (is_negative sign) (pos minute)) ≤ 59 → mail.InRanges (monday sign hour minute)
+monday_in_ranges sign hour minute hours minutes = record {
+  day = (omega arith, omega arith);
+  hour = (omega arith, omega arith);
+  minute = (omega arith, omega arith);
+  second = (omega arith, omega arith);
+  offset_hour = (omega arith, hours);
+  offset_minute = (omega arith, minutes);
+}
+
+-- the numbers after the name of the weekday, the text of that place, and the digits of a day 0
+abbrev named : MailNumbers
+named = record mail.nothing_read { weekday = Some Monday }
+
+name_before_day_0 : (tail : List ℕ)
+    → MatchesPlaces (mail.PlaceSyntax true) (mail_place.WeekdayName ∷ []) mail.nothing_read (codes "Mon, 00 " ++ tail) (codes "00 " ++ tail) named
+name_before_day_0 tail =
+    let before = opt_cfws-short (codes "Mon, 00 " ++ tail) (omega arith) in
+    let behind = opt_cfws-one (codes " 00 " ++ tail) (omega arith) refl (omega arith) in
+    MatchesPlaces-text (mail.PlaceSyntax true) mail_place.WeekdayName [] mail.nothing_read named _ (codes "Mon, ") _ (codes "00 " ++ tail)
+    (Some Monday, ([], codes "Mon", codes " ", refl, before, refl, behind), refl) (MatchesPlaces-none (mail.PlaceSyntax true) named (codes "00 " ++ tail))
+
+digits_of_day_0 : (tail : List ℕ) → IsDigitRun 1 2 (codes "00") (codes " " ++ tail) 0
+digits_of_day_0 tail = record {
+  digits = ((omega arith, omega arith), ((omega arith, omega arith), tt));
+  enough = omega arith;
+  within = omega arith;
+  ends = inl refl;
+  is = refl;
+}
+
 module _ (r : Record) where
   abbrev after_mail : Record
   after_mail = record r {
@@ -221,20 +260,9 @@ module _ (r : Record) where
       (record after_mail { offset_hour = Some (pos 6); offset_minute = Some (pos 7) })
   unfolding fixed
   mail_date_is_read =
-      let n = mail_numbers Monday 2 January 2021 3 4 5 Positive 6 7 in
-      let form = mail_form Monday 2 January 2021 3 4 5 Positive 6 7 (omega arith) (omega arith) (
-        omega arith,
-        omega arith,
-        omega arith,
-      ) (omega arith) (omega arith) (omega arith) in
-      let ranges : mail.InRanges n = record {
-        day = (omega arith, omega arith);
-        hour = (omega arith, omega arith);
-        minute = (omega arith, omega arith);
-        second = (omega arith, omega arith);
-        offset_hour = (omega arith, omega arith);
-        offset_minute = (omega arith, omega arith);
-      } in
+      let n = monday Positive 6 7 in
+      let form = monday_form Positive 6 7 (omega arith) (omega arith) in
+      let ranges = monday_in_ranges Positive 6 7 (omega arith) (omega arith) in
       (n, (ranged_mail (codes "Mon, 02 Jan 2021 03:04:05 +0607") [] n).1 (form, ranges), refl)
 
   -- an offset of -0030 is behind UTC
@@ -242,61 +270,28 @@ module _ (r : Record) where
       (record after_mail { offset_hour = Some (pos 0); offset_minute = Some (neg_ℤ (pos 30)) })
   unfolding fixed
   mail_offset_keeps_its_sign =
-      let n = mail_numbers Monday 2 January 2021 3 4 5 Negative 0 30 in
-      let form = mail_form Monday 2 January 2021 3 4 5 Negative 0 30 (omega arith) (omega arith) (
-        omega arith,
-        omega arith,
-        omega arith,
-      ) (omega arith) (omega arith) (omega arith) in
-      let ranges : mail.InRanges n = record {
-        day = (omega arith, omega arith);
-        hour = (omega arith, omega arith);
-        minute = (omega arith, omega arith);
-        second = (omega arith, omega arith);
-        offset_hour = (omega arith, omega arith);
-        offset_minute = (omega arith, omega arith);
-      } in
+      let n = monday Negative 0 30 in
+      let form = monday_form Negative 0 30 (omega arith) (omega arith) in
+      let ranges = monday_in_ranges Negative 0 30 (omega arith) (omega arith) in
       (n, (ranged_mail (codes "Mon, 02 Jan 2021 03:04:05 -0030") [] n).1 (form, ranges), refl)
 
   -- the place of the day requires its range, whatever follows it
   pub day_0_is_refused : (tail : List ℕ) → Rfc2822.Refuses Y (codes "Mon, 00 " ++ tail) r (component (codes "day"))
-  day_0_is_refused tail =
-      let named : MailNumbers = record mail.nothing_read { weekday = Some Monday } in (
-        mail_place.Day,
-        record {
-          before = mail_place.WeekdayName ∷ [];
-          after = mail.to_offset_places ++ mail.offset_places;
-          place = refl;
-          mid = codes "00 " ++ tail;
-          numbers = named;
-          stand =
-              MatchesPlaces-text (mail.PlaceSyntax true) mail_place.WeekdayName [] mail.nothing_read named _ (codes "Mon, ") _ (codes "00 " ++ tail) (
-                Some Monday,
-                (
-                  [],
-                  codes "Mon",
-                  codes " ",
-                  refl,
-                  opt_cfws-short (codes "Mon, 00 " ++ tail) (omega arith),
-                  refl,
-                  opt_cfws-one (codes " 00 " ++ tail) (omega arith) refl (omega arith),
-                ),
-                refl,
-              )
-              (MatchesPlaces-none (mail.PlaceSyntax true) named (codes "00 " ++ tail));
-          stops = λ text after m e asked.
-              let zero : IsDigitRun 1 2 (codes "00") (codes " " ++ tail) 0 = record {
-                digits = ((omega arith, omega arith), ((omega arith, omega arith), tt));
-                enough = omega arith;
-                within = omega arith;
-                ends = inl refl;
-                is = refl;
-              } in
-              let is = IsDigitRun-unique 1 1 2 text (codes "00") after (codes " " ++ tail) asked.0 0 asked.1 zero (sym e) in
-              omega (arith, is.2, asked.2.0);
-        },
-        refl,
-      )
+  day_0_is_refused tail = (
+    mail_place.Day,
+    record {
+      before = mail_place.WeekdayName ∷ [];
+      after = mail.to_offset_places ++ mail.offset_places;
+      place = refl;
+      mid = codes "00 " ++ tail;
+      numbers = named;
+      stand = name_before_day_0 tail;
+      stops = λ text after m e asked.
+          let is = IsDigitRun-unique 1 1 2 text (codes "00") after (codes " " ++ tail) asked.0 0 asked.1 (digits_of_day_0 tail) (sym e) in
+          omega (arith, is.2, asked.2.0);
+    },
+    refl,
+  )
 
   pub no_reading_of_day_0 : (rest : List ℕ) (new : Record) → Rfc2822.Reads Y (codes "Mon, 00 Jan 2021 03:04 GMT") r rest new → ⊥
   no_reading_of_day_0 rest new h =

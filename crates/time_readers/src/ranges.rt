@@ -32,9 +32,9 @@ pub(crate) fn two_digits_in<const CHECK_RANGES: bool>(
     }
 }
 
-// Parses the first four ASCII digits as their number, 0 to 9999. Returns `None` if the input begins with fewer.
+// Parses the first four ASCII digits as a year, 0 to 9999. Returns `None` if the input begins with fewer.
 #[inline(always)]
-pub(crate) fn four_digits(input: &[u8]) -> Option<ParsedItem<'_, u16>>
+pub(crate) fn four_digit_year(input: &[u8]) -> Option<ParsedItem<'_, u16>>
     ensures { Finds (IsDigitRun 4 4) (λ v. v) input.now result }
 {
     let found = exactly_n_digits::<4>(input)?;

@@ -2,17 +2,33 @@
 -- is the greatest year.
 use Rattle.std.proofs.Common.{◌≡◌, ℕ, List, [], ◌∷◌, true, false, codes, refl, sym, subst, inl, inr, arith}
 use Rattle.time_components.specs.Spelling.{nothing, BeginsCharacter}
-use Rattle.time_components.specs.Tree.{component, sequence, optional, trees}
+use Rattle.time_components.specs.Tree.{component, sequence, optional, first_of, trees}
 use Rattle.time_components.specs.declared.format_description.Component.TheVariants as kind
 use Rattle.time_components.specs.declared.modifier.Ignore.{Ignore}
-use Rattle.time_record.specs.Reading.{Reads, ReadsAll, NoReading, Clean, CleanAll, Begins, BeginsAll, BeginsFirst, places}
+use Rattle.time_record.specs.Reading.{Reads, ReadsAll, NoReading, Clean, CleanAll, CleanFirst, Begins, BeginsAll, BeginsFirst, places}
 use Rattle.time_record.specs.Record.{Record}
 use Rattle.time_record.proofs.Unique.{Reads-unique, one_count}
-use Rattle.time_record.proofs.ReadingFacts.{at_12, at_12_34, clock, clock_or_hour, colon, hour, hour_reads_two_digits, minute, no_clock_at_12x}
-use Rattle.time_record.proofs.ReadingFacts.{no_colon, no_hour_of_one_digit, reads_hour, reads_minute}
+use Rattle.time_record.proofs.ReadingFacts.{at_12, at_12_34, clock, clock_or_hour, colon, hour, hour_reads_two_digits, list_reads_in_turn}
+use Rattle.time_record.proofs.ReadingFacts.{minute, no_clock_at_12x, no_colon, no_hour_of_one_digit, reads_hour, reads_minute}
 
-pub six_places : places clock_or_hour ≡ 6
-six_places = refl
+-- lists, alternatives and optional trees are places too
+pub six_places_of_alternatives : places clock_or_hour ≡ 6
+six_places_of_alternatives = refl
+
+pub four_places_of_a_list : places clock ≡ 4
+four_places_of_a_list = refl
+
+pub two_places_of_an_optional : places (optional minute) ≡ 2
+two_places_of_an_optional = refl
+
+pub alternatives_are_a_place : places clock_or_hour ≡ 5 → ⊥
+alternatives_are_a_place h = omega (arith, h)
+
+pub list_is_a_place : places clock ≡ 3 → ⊥
+list_is_a_place h = omega (arith, h)
+
+pub optional_is_a_place : places (optional minute) ≡ 1 → ⊥
+optional_is_a_place h = omega (arith, h)
 
 module _ (Y : ℕ) (r : Record) where
   abbrev twelve : Record
@@ -26,19 +42,9 @@ module _ (Y : ℕ) (r : Record) where
   unfolding Begins BeginsAll BeginsFirst
   five_are_begun =
       let colon_at_x : BeginsAll Y (trees (colon ∷ minute ∷ [])) (codes "x") twelve 1 = (1, refl, inl (no_colon Y twelve [], refl)) in
-      let first : BeginsAll Y (trees (hour ∷ colon ∷ minute ∷ [])) (codes "12x") r 2 = (
-        1,
-        refl,
-        inr (
-          codes "x",
-          twelve,
-          hour_reads_two_digits Y r,
-          1,
-          colon_at_x,
-          refl,
-        ),
-      ) in
-      let second : BeginsFirst Y (trees (hour ∷ [])) (codes "12x") r 1 = (1, refl, inl (codes "x", twelve, hour_reads_two_digits Y r, refl)) in
+      let reads_12 = hour_reads_two_digits Y r in
+      let first : BeginsAll Y (trees (hour ∷ colon ∷ minute ∷ [])) (codes "12x") r 2 = (1, refl, inr (codes "x", twelve, reads_12, 1, colon_at_x, refl)) in
+      let second : BeginsFirst Y (trees (hour ∷ [])) (codes "12x") r 1 = (1, refl, inl (codes "x", twelve, reads_12, refl)) in
       (4, (3, (2, first, refl), inr (no_clock_at_12x Y r, 1, second, refl)), refl)
 
   -- a list visits no item after one without a reading
@@ -52,31 +58,15 @@ module _ (Y : ℕ) (r : Record) where
       (3, (2, (1, first, refl), inr (no_clock, 1, second, refl)), refl)
 
   -- alternatives visit no item after one that reads
-  pub five_of_a_whole_clock : Begins Y clock_or_hour (codes "12:34") r 5
-  unfolding Begins BeginsAll BeginsFirst Reads ReadsAll
+  pub five_of_a_whole_clock : Begins Y clock_or_hour (codes "12:34x") r 5
+  unfolding Begins BeginsAll BeginsFirst Reads
   five_of_a_whole_clock =
-      let reads_34 : Reads Y minute (codes "34") twelve [] late = reads_minute Y twelve 34 [] late (omega arith) refl in
-      let reads_12 : Reads Y hour (codes "12:34") r (codes ":34") twelve = reads_hour Y r 12 (codes ":34") twelve (omega arith) refl in
-      let last : BeginsAll Y (trees (minute ∷ [])) (codes "34") twelve 1 = (1, refl, inr ([], late, reads_34, 0, refl, refl)) in
-      let two : BeginsAll Y (trees (colon ∷ minute ∷ [])) (codes ":34") twelve 2 = (1, refl, inr (codes "34", twelve, (refl, refl), 1, last, refl)) in
-      let three : BeginsAll Y (trees (hour ∷ colon ∷ minute ∷ [])) (codes "12:34") r 3 = (1, refl, inr (codes ":34", twelve, reads_12, 2, two, refl)) in
-      let whole : Reads Y clock (codes "12:34") r [] late = (
-        codes ":34",
-        twelve,
-        reads_12,
-        (
-          codes "34",
-          twelve,
-          (refl, refl),
-          (
-            [],
-            late,
-            reads_34,
-            (refl, refl),
-          ),
-        ),
-      ) in
-      (4, (4, (3, three, refl), inl ([], late, whole, refl)), refl)
+      let reads_12 : Reads Y hour (codes "12:34x") r (codes ":34x") twelve = reads_hour Y r 12 (codes ":34x") twelve (omega arith) refl in
+      let reads_34 : Reads Y minute (codes "34x") twelve (codes "x") late = reads_minute Y twelve 34 (codes "x") late (omega arith) refl in
+      let last : BeginsAll Y (trees (minute ∷ [])) (codes "34x") twelve 1 = (1, refl, inr (codes "x", late, reads_34, 0, refl, refl)) in
+      let two : BeginsAll Y (trees (colon ∷ minute ∷ [])) (codes ":34x") twelve 2 = (1, refl, inr (codes "34x", twelve, (refl, refl), 1, last, refl)) in
+      let three : BeginsAll Y (trees (hour ∷ colon ∷ minute ∷ [])) (codes "12:34x") r 3 = (1, refl, inr (codes ":34x", twelve, reads_12, 2, two, refl)) in
+      (4, (4, (3, three, refl), inl (codes "x", late, list_reads_in_turn Y r, refl)), refl)
 
   pub an_optional_begins_two : Begins Y (optional minute) (codes "x") r 2
   unfolding Begins
@@ -141,6 +131,12 @@ module _ (Y : ℕ) (r : Record) (m : Ignore) (one : m.count.value ≡ 1) where
   pub clean_after_a_fault : Clean Y (sequence (trees (colon ∷ component false (kind.Ignore m) ∷ []))) (codes "x") r
   unfolding Clean CleanAll
   clean_after_a_fault = (tt, λ mid q h. absurd (no_colon Y r [] mid q h))
+
+  -- nor is an alternative visited after one that is read
+  pub clean_after_an_alternative : Clean Y (first_of (trees (colon ∷ sequence (trees (colon ∷ component false (kind.Ignore m) ∷ [])) ∷ [])))
+      (58 ∷ accented) r
+  unfolding Clean CleanAll CleanFirst Reads
+  clean_after_an_alternative = (tt, λ unread. absurd (unread accented r (refl, refl)))
 
   pub not_clean_in_a_list : Clean Y (sequence (trees (component false (kind.Ignore m) ∷ []))) accented r → ⊥
   unfolding Clean CleanAll

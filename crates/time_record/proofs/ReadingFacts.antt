@@ -1,18 +1,23 @@
 -- Worked values of readings and errors, so that a wrong rule in the specs fails the check. They follow from the definitions, without any code. `Y` is the
 -- greatest year.
 use Rattle.std.proofs.Common.{◌≡◌, ℕ, ◌+◌, ◌/◌, ◌%◌, ◌<◌, List, [], ◌∷◌, ◌++◌, length, false, Option, Some, None, codes, refl, sym, ap, subst, ◌∙◌}
-use Rattle.std.proofs.Common.{inl, inr, arith}
+use Rattle.std.proofs.Common.{inl, inr, arith, pos, rules}
 use Rattle.time_values.specs.Refusal.{Refusal, literal as of_literal, component as of_component, trailing}
 use Rattle.time_digits.specs.Digits.{AllDigits, IsDigitRun, NoCut, NoDigitFirst, digits_value}
+use Rattle.time_values.proofs.CalendarTests.{first_is, last_is}
 use Rattle.time_digits.specs.declared.Padding.TheVariants as padding
+use Rattle.time_digits.specs.declared.Sign.TheVariants.{Positive}
 use Rattle.time_digits.proofs.Runs.{IsDigitRun-unique}
-use Rattle.time_components.specs.Spelling.{number}
+use Rattle.time_components.specs.Spelling.{Spells, number, signed}
 use Rattle.time_components.specs.Tree.{Tree, literal, component, sequence, optional, first_of, none, trees}
+use Rattle.time_components.specs.declared.format_description.Component.{Component}
 use Rattle.time_components.specs.declared.format_description.Component.TheVariants as kind
 use Rattle.time_components.specs.declared.modifier.TrailingInput.TheVariants.{Prohibit}
+use Rattle.time_components.proofs.OneSpelling.{Spells-unique}
+use Rattle.time_components.proofs.StandardFacts.{six_digits_behind_a_sign}
 use Rattle.time_record.specs.Components.{put_value}
 use Rattle.time_record.specs.Reading.{Reads, ReadsAll, ReadsSome, NoReading, IsFault, IsFaultAll, Refuses}
-use Rattle.time_record.specs.Record.{Record, empty, put, hour_24_is, minute_is}
+use Rattle.time_record.specs.Record.{Record, empty, put, hour_24_is, minute_is, unix_timestamp_nanos_is}
 use Rattle.time_record.proofs.Unique.{Reads-unique, Refuses-unique}
 
 abbrev pub hour : Tree
@@ -271,6 +276,89 @@ module _ (Y : ℕ) (r : Record) where
 
   pub no_fault_of_what_is_read : (e : Refusal) → Refuses Y hour (codes "12x") r e → ⊥
   no_fault_of_what_is_read e h = h.unread (codes "x") at_12 hour_reads_two_digits
+
+-- ---- Years and timestamps past 9999
+
+abbrev extended_year : Component
+extended_year = kind.CalendarYearFullExtendedRange (record { padding = padding.Zero; sign_is_mandatory = false })
+
+abbrev nanoseconds : Component
+nanoseconds = kind.UnixTimestampNanosecond (record { sign_is_mandatory = false })
+
+-- the year `+012345`, or else that text
+abbrev year_or_its_text : Tree
+year_or_its_text = sequence (trees (first_of (trees (component false extended_year ∷ literal (codes "+012345") ∷ [])) ∷ []))
+
+abbrev after_9999 : List ℕ
+after_9999 = codes "253402300800000000000"
+
+after_9999_is_spelled : Spells false nanoseconds after_9999 [] (signed (pos 253_402_300_800_000_000_000))
+after_9999_is_spelled = ((Positive, 253_402_300_800_000_000_000), refl, inr (refl, refl, search rules))
+
+module _ (r : Record) where
+  abbrev in_12345 : Record
+  in_12345 = record r { year = Some (pos 12_345) }
+
+  abbrev at_second_after_9999 : Record
+  at_second_after_9999 = record r { unix_timestamp_nanos = Some (pos 253_402_300_800_000_000_000) }
+
+  pub year_12345_to_999999 : Reads 999_999 (component false extended_year) (codes "+012345") r [] in_12345
+  unfolding Reads
+  year_12345_to_999999 = record {
+    text = codes "+012345";
+    value = signed (pos 12_345);
+    cut = refl;
+    spells = six_digits_behind_a_sign;
+    puts = refl;
+  }
+
+  pub no_year_12345_to_9999 : Refuses 9_999 (component false extended_year) (codes "+012345") r (of_component (codes "year"))
+  unfolding Reads IsFault
+  no_year_12345_to_9999 = record {
+    unread = λ rest q h.
+        let is = Spells-unique false extended_year h.text (codes "+012345") rest [] h.value _ h.spells six_digits_behind_a_sign (sym h.cut) in
+        let none_is : None ≡ Some q = subst (λ v. put_value 9_999 extended_year v r ≡ Some q) is.1 h.puts in
+        cc;
+    fault = refl;
+  }
+
+  -- the greatest year decides which alternative of a whole text is read
+  pub text_of_a_year_to_9999 : Reads 9_999 year_or_its_text (codes "+012345") r [] r
+  unfolding Reads ReadsAll ReadsSome
+  text_of_a_year_to_9999 = ([], r, inr (no_year_12345_to_9999.unread, inl (refl, refl)), (refl, refl))
+
+  pub year_for_its_text_to_999999 : Reads 999_999 year_or_its_text (codes "+012345") r [] in_12345
+  unfolding Reads ReadsAll ReadsSome
+  year_for_its_text_to_999999 = ([], in_12345, inl year_12345_to_999999, (refl, refl))
+
+  pub no_text_of_a_year_to_999999 : r.year ≡ None → Reads 999_999 year_or_its_text (codes "+012345") r [] r → ⊥
+  no_text_of_a_year_to_999999 without h =
+      let same = Reads-unique 999_999 year_or_its_text (codes "+012345") r [] r [] in_12345 h year_for_its_text_to_999999 in
+      let years : r.year ≡ Some (pos 12_345) = ap (λ (q : Record). q.year) same.1 in
+      cc
+
+  pub second_after_9999_to_999999 : Reads 999_999 (component false nanoseconds) after_9999 r [] at_second_after_9999
+  unfolding Reads
+  second_after_9999_to_999999 = record {
+    text = after_9999;
+    value = signed (pos 253_402_300_800_000_000_000);
+    cut = refl;
+    spells = after_9999_is_spelled;
+    puts = rw (first_is 999_999 refl, last_is 999_999 refl) refl;
+  }
+
+  no_put_after_9999 : put 9_999 (unix_timestamp_nanos_is (pos 253_402_300_800_000_000_000)) r ≡ None
+  no_put_after_9999 = rw (first_is 9_999 refl, last_is 9_999 refl) refl
+
+  pub no_second_after_9999_to_9999 : Refuses 9_999 (component false nanoseconds) after_9999 r (of_component (codes "unix_timestamp"))
+  unfolding Reads IsFault
+  no_second_after_9999_to_9999 = record {
+    unread = λ rest q h.
+        let is = Spells-unique false nanoseconds h.text after_9999 rest [] h.value _ h.spells after_9999_is_spelled (sym h.cut) in
+        let none_is : None ≡ Some q = sym no_put_after_9999 ∙ subst (λ v. put_value 9_999 nanoseconds v r ≡ Some q) is.1 h.puts in
+        cc;
+    fault = refl;
+  }
 
 -- an optional part that fails halfway doesn't store its hour
 pub no_hour_of_a_half_read_part : (Y : ℕ) → Reads Y (optional clock) (codes "12:x") empty (codes "12:x") (record empty { hour_24 = Some 12 }) → ⊥

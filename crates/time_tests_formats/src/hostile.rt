@@ -195,6 +195,7 @@ mod changed_bytes {
     use std::ops::Range;
     use time_parsing::{Parsable, Rfc2822, Rfc3339};
     use time_record::Parsed;
+    use time_tests_records::fields::{full_record, negative_hour};
     use time_tests_records::same::same_record;
 
     // Texts of RFC 3339, some of which are rejected.
@@ -271,18 +272,29 @@ mod changed_bytes {
             .with_unix_timestamp_nanos(-1)
     }
 
-    // Whether the record is unchanged unless a prefix of the text is parsed into it.
-    fn keeps_the_record<F: Parsable>(format: &F, text: &[u8], before: &Parsed) -> bool {
-        let mut record = *before;
-        format.parse_into(text, &mut record).is_ok() || same_record(&record, before)
+    // A record with a timestamp, in which a leap second is allowed; one without, in which a leap second isn't allowed,
+    // and the flag of a negative offset is set; and one with this flag and no minute of an offset.
+    fn known_records() -> Option<[Parsed; 3]> {
+        Some([known_record()?, full_record()?, negative_hour()?])
     }
 
-    // Whether the text passes the checks of `has_one_moment`, `has_equal_errors` and, with the record `known`,
-    // `keeps_the_record`.
-    fn is_right<F: Parsable>(format: &F, text: &[u8], known: &Parsed) -> bool {
+    // Whether each record is unchanged unless a prefix of the text is parsed into it.
+    fn keeps_the_records<F: Parsable>(format: &F, text: &[u8], before: &[Parsed; 3]) -> bool {
+        let mut all_kept = true;
+        for before in before {
+            let mut record = *before;
+            all_kept = all_kept
+                && (format.parse_into(text, &mut record).is_ok() || same_record(&record, before));
+        }
+        all_kept
+    }
+
+    // Whether the text passes the checks of `has_one_moment`, `has_equal_errors` and, with the records `known`,
+    // `keeps_the_records`.
+    fn is_right<F: Parsable>(format: &F, text: &[u8], known: &[Parsed; 3]) -> bool {
         has_one_moment(format, text)
             && has_equal_errors(format, text)
-            && keeps_the_record(format, text, known)
+            && keeps_the_records(format, text, known)
     }
 
     // Whether the text passes the checks of `is_right` with each other byte at the index `place`. The text is restored.
@@ -291,7 +303,7 @@ mod changed_bytes {
         format: &F,
         text: &mut [u8],
         place: usize,
-        known: &Parsed,
+        known: &[Parsed; 3],
     ) -> bool {
         let Some(kept) = text.get(place).copied() else {
             return false;
@@ -317,7 +329,7 @@ mod changed_bytes {
         text: &[u8],
         places: Range<usize>,
     ) -> Result<bool, AllocError> {
-        let Some(known) = known_record() else {
+        let Some(known) = known_records() else {
             return Ok(false);
         };
         let mut changed = Vec::new(alloc);

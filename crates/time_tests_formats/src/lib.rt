@@ -12,7 +12,7 @@ mod guides;
 #[cfg(test)]
 mod hostile;
 #[cfg(test)]
-mod iso8601;
+mod iso_texts;
 #[cfg(test)]
 mod parses;
 #[cfg(test)]

@@ -4,6 +4,7 @@ use crate::formats::{Format, described};
 use std::num::NonZero;
 use time_parsing::{Iso8601, Parsable, Rfc2822, Rfc3339};
 use time_record::Parsed;
+use time_tests_records::fields::{full_record, negative_hour};
 use time_tests_records::same::same_record;
 use time_values::Month::{self, January, July, March};
 use time_values::Weekday;
@@ -122,6 +123,8 @@ const MONDAY: WeekCells = (None, 0, Some(Weekday::Monday));
 
 const CLOCK: Format = Format::Described(b"[hour]:[minute][optional [:[second]]]");
 
+const OFFSET: Format = Format::Described(b"[offset_hour]:[offset_minute]");
+
 const YEAR_OR_MONTH: Format = Format::Described(b"[first [[year]] [[month]]]");
 
 // The cells after the mail date `Mon, 02 Jan 2021 03:04 GMT`.
@@ -143,7 +146,7 @@ type Row = (
     Cells,
 );
 
-static RECORDS: [Row; 16] = [
+static RECORDS: [Row; 17] = [
     // Of two forms the first that matches counts.
     (
         Format::Iso,
@@ -268,6 +271,8 @@ static RECORDS: [Row; 16] = [
         Ok(b":61"),
         (NO_DATE, NO_WEEK, (Some(3), Some(4), None, None), NO_OFFSET),
     ),
+    // The minus of a rejected offset isn't stored.
+    (OFFSET, None, b"", b"-05:x", Err(OFFSET_MINUTE), NOTHING),
     (
         YEAR_OR_MONTH,
         None,
@@ -307,6 +312,21 @@ fn record_before(row: &Row) -> Option<Parsed> {
     Some(record)
 }
 
+// Whether the text is rejected, and leaves the record unchanged.
+fn is_kept(format: Format, text: &[u8], before: Parsed) -> bool {
+    let mut record = before;
+    parse_cells(format, text, &mut record).0.is_err() && same_record(&record, &before)
+}
+
+// Whether the text is rejected, and leaves two records unchanged. Both have the flag of a negative offset, but no
+// timestamp, and allow no leap second: one has all other numbers, and one the hour of the offset alone.
+fn are_kept(format: Format, text: &[u8]) -> bool {
+    match (full_record(), negative_hour()) {
+        (Some(full), Some(hour)) => is_kept(format, text, full) && is_kept(format, text, hour),
+        _ => false,
+    }
+}
+
 // Whether the row's text stores these cells, or is rejected and stores nothing.
 fn is_stored(row: &Row) -> bool {
     let (format, _, _, text, left, cells) = *row;
@@ -315,7 +335,7 @@ fn is_stored(row: &Row) -> bool {
     };
     let mut record = before;
     let is_right = parse_cells(format, text, &mut record) == (left, cells);
-    is_right && (left.is_ok() || same_record(&record, &before))
+    is_right && (left.is_ok() || (same_record(&record, &before) && are_kept(format, text)))
 }
 
 #[test]

@@ -335,8 +335,8 @@ mod read_back {
     }
 }
 
-// The canonical texts of RFC 3339, and parses of these.
-mod canonical {
+// The law of reading back: the canonical text of a moment by RFC 3339 is parsed as that moment.
+mod counted_and_laws {
     use std::test::Fail;
     use time_parsing::laws::text_3339;
     use time_parsing::{Parsable, Rfc3339};

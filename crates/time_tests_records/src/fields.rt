@@ -159,16 +159,21 @@ pub fn record_of(numbers: &[(Field, i128)]) -> Option<Parsed> {
     Some(parsed)
 }
 
-/// A record with the greatest number of each field but the timestamp, and with each flag but the one that allows leap
-/// seconds.
-pub fn full_record() -> Option<Parsed> {
+/// A record of the offset hour -05 alone. Its minus sets the flag of a negative offset.
+pub fn negative_hour() -> Option<Parsed> {
     let mut parsed = Parsed::new();
     let hour = Component::OffsetHour(modifier::OffsetHour {
         padding: Padding::Zero,
         sign_is_mandatory: false,
     });
-    // The minus of an hour sets the flag of a negative offset.
     parsed.parse_component(b"-05", hour).ok()?;
+    Some(parsed)
+}
+
+/// A record with the greatest number of each field but the timestamp, and with each flag but the one that allows leap
+/// seconds.
+pub fn full_record() -> Option<Parsed> {
+    let mut parsed = negative_hour()?;
     for (field, _, high) in RANGES {
         if !matches!(field, Field::UnixTimestampNanos) {
             set(&mut parsed, field, high)?;

@@ -4,7 +4,8 @@
 #[cfg(test)]
 mod conversions;
 #[cfg(test)]
-mod fields;
+mod counted_and_laws;
+pub mod fields;
 #[cfg(test)]
 mod guides;
 pub mod inspected;
@@ -15,5 +16,3 @@ mod records;
 pub mod same;
 #[cfg(test)]
 mod surface;
-#[cfg(test)]
-mod walks;

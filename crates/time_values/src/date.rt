@@ -141,7 +141,7 @@ impl Date {
         days_before_month(self.year, month) + self.day as u16
     }
 
-    // The date of that day number.
+    // The date that many days after the first date, -999999-01-01.
     pub(crate) fn from_day_number(day: u32) -> Date
         requires { day < Calendar.day_limit greatest_year }
         ensures { Dates.day_number greatest_year result ≡ day }

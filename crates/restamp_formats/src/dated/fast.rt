@@ -2,14 +2,14 @@
 ghost use Rattle.time_parsing.specs.Iso8601 as iso8601;
 ghost use Rattle.std.specs.Prelude.{◌≡◌, ◌+◌, ◌≤◌};
 ghost use Rattle.restamp_formats.specs.Common.{false, length, None, Some, Ok, IfSome, greatest_year, is_leap_second};
-ghost use Rattle.restamp_formats.specs.{Reading.ReadsRecord, Reading.ParsesLocally, Zoned.IsOffsetWhen};
+ghost use Rattle.restamp_formats.specs.{Reading.ReadsRecord, Reading.ParsesLocally, Zoned.IsMomentWhen};
 
 use crate::local::{Clocks, clock_of};
 use crate::reading::{Defaults, Match, Reading, match_before, put_year};
 use std::convert::TryFrom;
 use time_parsing::{Iso8601, Parsable};
 use time_record::Parsed;
-use time_values::{OffsetDateTime, PlainDateTime, UtcOffset};
+use time_values::{OffsetDateTime, PlainDateTime};
 use time_zones::assume_zone;
 
 // Whether the record has the hour of an offset, a count from 1970 or a second of 60.
@@ -45,16 +45,13 @@ fn parse<'a>(reading: &Reading, text: &'a [u8], parsed: &mut Parsed) -> Option<&
     }
 }
 
-// The only offset that the zone has at the local date and time of a moment; `None` if that is nonexistent, ambiguous or
-// out of the zone's range. A reason in the result would cost a line a third of what the offset does.
+// The only moment that the zone has for the local date and time of a moment; `None` if that is nonexistent, ambiguous or
+// out of the zone's range. A reason in the result would cost a line a third of what finding the moment costs.
 #[inline(always)]
-fn only_offset(clocks: &Clocks<'_>, shown: OffsetDateTime) -> Option<UtcOffset>
-    ensures { IfSome result (λ offset. IsOffsetWhen clocks.now shown (Ok offset)) }
+fn only_moment(clocks: &Clocks<'_>, shown: OffsetDateTime) -> Option<OffsetDateTime>
+    ensures { IfSome result (λ moment. IsMomentWhen clocks.now shown (Ok moment)) }
 {
-    match assume_zone(clock_of(shown), &clocks.zone) {
-        Ok(moment) => Some(moment.offset()),
-        Err(_) => None,
-    }
+    assume_zone(clock_of(shown), &clocks.zone).ok()
 }
 
 // Parses a text as a local time in that zone; `None` means unknown. Not inlined, so that lines that need no zone need
@@ -84,8 +81,8 @@ fn read_on(
     let Ok(clock) = PlainDateTime::try_from(parsed) else {
         return None;
     };
-    let offset = only_offset(&clocks, clock.assume_utc())?;
-    Some(match_before(rest, text, clock.assume_offset(offset)))
+    let moment = only_moment(&clocks, clock.assume_utc())?;
+    Some(match_before(rest, text, clock.assume_offset(moment.offset())))
 }
 
 /// Parses a text without an offset as a local time in the zone of the defaults. `None` means unknown, not rejected: as

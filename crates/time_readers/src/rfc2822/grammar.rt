@@ -12,7 +12,7 @@ pub(super) mod blanks;
 
 use crate::combinator::{ascii_char, one_or_two_digits, sign, two_digits};
 use crate::component::{parse_month_short, parse_weekday_short};
-use crate::ranges::{four_digits, is_in_range, two_digits_in};
+use crate::ranges::{four_digit_year, is_in_range, two_digits_in};
 use crate::rfc2822::{Numbers, Place, cfws, fws, opt_cfws, opt_cfws_colon_opt_cfws, zone_literal};
 use crate::{ParsedItem, modifier};
 use time_values::sign::signed;
@@ -147,7 +147,7 @@ fn month_name<'a>(input: &'a [u8], numbers: &mut Numbers) -> Option<&'a [u8]>
 fn year<'a>(input: &'a [u8], numbers: &mut Numbers) -> Option<&'a [u8]>
     ensures { Reads (PlaceSyntax false place.Year numbers.old) input.now result numbers.new }
 {
-    if let Some(full) = four_digits(input) {
+    if let Some(full) = four_digit_year(input) {
         if full.1 < 1900 {
             return None;
         }

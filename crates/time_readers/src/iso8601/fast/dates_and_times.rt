@@ -78,7 +78,7 @@ fn extended_first_sixteen(input: &[u8]) -> Option<FirstSixteen<'_>>
     })
 }
 
-// Parses the date, the hour and the minute without separators. `None` for any other form.
+// Parses the date, the hour and the minute without separators, if a second 00 to 59 and a byte follow; else `None`.
 #[inline(always)]
 fn basic_first_sixteen(input: &[u8]) -> Option<FirstSixteen<'_>>
     ensures { IfSome result (IsFirstSixteen input.now) }

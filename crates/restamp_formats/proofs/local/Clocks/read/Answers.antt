@@ -12,18 +12,18 @@ returns-in-Err-clause-said g c =
           c.at.ensures (refl, refl, refl) why.0 why.2,
     )
 
-pub returns-in-Ok-offset_when-clause-said : goal.returns-in-Ok-offset_when-clause-said
-returns-in-Ok-offset_when-clause-said g c =
-    gives_so g.E.FromReason.is_of c.parse_outlined-in-Ok-offset_when.result
+pub returns-in-Ok-moment_when-clause-said : goal.returns-in-Ok-moment_when-clause-said
+returns-in-Ok-moment_when-clause-said g c =
+    gives_so g.E.FromReason.is_of c.parse_outlined-in-Ok-moment_when.result
     (λ given there. on-shown c.args.reading.now c.args.is_prefix c.args.text.now c.args.defaults.now c.args.self.now _
-    c.at.result c.at.ensures (refl, refl, refl) c.in-Ok.said c.in-Ok-offset_when.offset c.at-in-Ok-offset_when.result given
-    c.in-Ok.ensures.said c.in-Ok-offset_when.ensures c.at-in-Ok-offset_when.ensures there)
-    c.parse_outlined-in-Ok-offset_when.ensures.said
+    c.at.result c.at.ensures (refl, refl, refl) c.in-Ok.said c.in-Ok-moment_when.moment c.at-in-Ok-moment_when.result given
+    c.in-Ok.ensures.said c.in-Ok-moment_when.ensures (rw c.offset.ensures at c.at-in-Ok-moment_when.ensures) there)
+    c.parse_outlined-in-Ok-moment_when.ensures.said
 
-pub returns-in-Err-offset_when-clause-said : goal.returns-in-Err-offset_when-clause-said
-returns-in-Err-offset_when-clause-said g c = (
-  seen c.in-Err-offset_when.why,
+pub returns-in-Err-moment_when-clause-said : goal.returns-in-Err-moment_when-clause-said
+returns-in-Err-moment_when-clause-said g c = (
+  seen c.in-Err-moment_when.why,
   c.from_reason.ensures,
   on-refused c.args.reading.now c.args.is_prefix c.args.text.now c.args.defaults.now c.args.self.now _ c.at.result
-      c.at.ensures (refl, refl, refl) c.in-Ok.said (seen c.in-Err-offset_when.why) c.in-Ok.ensures.said c.in-Err-offset_when.ensures,
+      c.at.ensures (refl, refl, refl) c.in-Ok.said (seen c.in-Err-moment_when.why) c.in-Ok.ensures.said c.in-Err-moment_when.ensures,
 )

@@ -1,6 +1,6 @@
 use Rattle.std.proofs.Common.{◌<◌, ◌^◌, arith}
 use Rattle.time_digits.proofs.Runs.{IsDigitRun-below}
-use Rattle.time_readers.proofs.ranges.four_digits.Goals as goal
+use Rattle.time_readers.proofs.ranges.four_digit_year.Goals as goal
 
 pub overflow_cast-result : goal.overflow_cast-result
 overflow_cast-result c =

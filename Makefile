@@ -3,7 +3,8 @@
 #     make release    makes all twice, of what is committed and proved, compares the bytes, and tries each part on a bare Debian
 #     make packages   makes all once, whatever is committed, and tries nothing
 #
-# It needs root, for the bare Debian. Debian: make gcc git python3-dev python3-setuptools dpkg-dev lintian debootstrap.
+# It needs root, for the bare Debian.
+# Debian: make gcc git python3-dev python3-setuptools nodejs binaryen dpkg-dev lintian debootstrap.
 OUT = out/release
 
 release:

@@ -123,15 +123,28 @@ def ask_sqlite(rng):
     """A query, and its expected result."""
     written, form, made = random_form(rng)
     text = module.texts.some_text(rng, made(rng))
-    call = rng.choice(["unix", "rfc3339", "place"])
+    call = rng.choice(["unix", "unix_ns", "rfc3339", "date", "time", "place"])
     question = f"pelzaune_{call}(CAST(x'{text.hex()}' AS TEXT), CAST(x'{written.hex()}' AS TEXT))"
     if call == "place":
         return question, row_of(form, text)
     try:
-        moment = outcome(form, "datetime", text)
-        return question, instant(moment) // BILLION if call == "unix" else writing.of_3339(moment, "auto")
-    except (Refused, writing.Unwritable):
+        return question, sqlite_value(form, call, text)
+    except (Refused, module.Told, writing.Unwritable):
         return question, None
+
+
+def sqlite_value(form, call, text):
+    """The expected result of a function of SQLite for a text that it accepts."""
+    if call == "unix_ns":
+        return module.within(form, text)
+    if call == "date":
+        date = outcome(form, "date", text)
+        return "{:04}-{:02}-{:02}".format(*date) if 0 <= date[0] <= 9999 else None
+    if call == "time":
+        *clock, nanosecond = outcome(form, "time", text)
+        return "{:02}:{:02}:{:02}".format(*clock) + f".{nanosecond:09}".rstrip("0").rstrip(".")
+    moment = outcome(form, "datetime", text)
+    return instant(moment) // BILLION if call == "unix" else writing.of_3339(moment, "auto")
 
 
 def sqlite(rng, tally, command, number=300):

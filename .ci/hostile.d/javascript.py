@@ -131,12 +131,23 @@ def answer_many(call, form, many):
     return [[without if it is None else it for it in found], [at for at, it in enumerate(found) if it is None]]
 
 
+def cased(rng, name):
+    """The name of a format in capitals, in small letters, or in both."""
+    return rng.choice([str.lower, str.upper, str.capitalize])(name)
+
+
+def lines_of(text):
+    """The lines of bytes, each of which ends with LF or CR LF. The last may have no end."""
+    *ended, rest = text.split(b"\n")
+    return [it.removesuffix(b"\r") for it in ended] + ([rest] if rest else [])
+
+
 def random_form(rng):
     """A format as it is sent, its reader, and a maker of texts. A description is a string here, so it has to be UTF-8."""
     while True:
         sent, form, made = module.random_form(rng)
         if isinstance(sent, int):
-            return ["name", engines.NAMES[sent]], form, made
+            return ["name", cased(rng, engines.NAMES[sent])], form, made
         try:
             return ["description", bytes.fromhex(sent).decode()], form, made
         except UnicodeDecodeError:
@@ -152,7 +163,7 @@ def ask_written(rng):
     sent = {"year": value.year, "month": value.month, "day": value.day, "hour": value.hour, "minute": value.minute, "second": value.second,
             "millisecond": value.microsecond // 1000, "microsecond": value.microsecond % 1000, "offsetSeconds": offset}
     wanted = module.written(value, name)
-    return ["format", sent, ["name", name]], [*wanted[:3], None, None] if isinstance(wanted, list) else wanted
+    return ["format", sent, ["name", cased(rng, name)]], [*wanted[:3], None, None] if isinstance(wanted, list) else wanted
 
 
 def ask_many(rng, sent, form, made):
@@ -160,9 +171,8 @@ def ask_many(rng, sent, form, made):
     call, kind, damaged = rng.choice(COUNTS), rng.choice(["lines", "list", "iterator"]), rng.random() < 0.5
     many = [texts.some_text(rng, made(rng)) if damaged else made(rng) for _ in range(rng.randint(0, 5))]
     if kind == "lines":
-        text = b"\n".join(many) + rng.choice([b"", b"\n"])
-        lines = text.split(b"\n")
-        return [call, [kind, text.hex()], sent], answer_many(call, form, lines if lines[-1] else lines[:-1])
+        text = rng.choice([b"\n", b"\r\n"]).join(many) + rng.choice([b"", b"\n", b"\r\n"])
+        return [call, [kind, text.hex()], sent], answer_many(call, form, lines_of(text))
     return [call, [kind, [module.kind_of(rng, it) for it in many]], sent], answer_many(call, form, many)
 
 

@@ -95,6 +95,8 @@ def parse_parts(form, text):
             if fault.kind != "missing":
                 raise
             found.append(None)
+    if found == [None] * 3:
+        raise Told("the text has no complete date, time or offset", None)
     date, time, offset = found
     return (None if date is None else python_date(date), None if time is None else python_time(time),
             None if offset is None else zone_of(offset))

@@ -158,9 +158,10 @@ _Noreturn static void tell_refusal(pelzaune_status status, bytes format, bytes t
 
 _Noreturn static void tell_fault(const question *it)
 {
-    ereport(ERROR, (errcode(ERRCODE_INVALID_DATETIME_FORMAT), errmsg_internal("%s", pelzaune_text(it->status)),
-        PELZAUNE_KIND(it->status) == PELZAUNE_TOO_LONG ? errdetail_internal("The format is \"%s\".", shown(it->format))
-            : errdetail_internal("At index %zu of the format \"%s\".", it->index, shown(it->format))));
+    bool has_index = it->status != PELZAUNE_TOO_LONG && it->status != PELZAUNE_UNKNOWN_FORMAT;
+    ereport(ERROR, (errcode(ERRCODE_INVALID_DATETIME_FORMAT), errmsg_internal("%s", text_of_fault(it->status)),
+        has_index ? errdetail_internal("At index %zu of the format \"%s\".", it->index, shown(it->format))
+            : errdetail_internal("The format is \"%s\".", shown(it->format))));
 }
 
 /* Raises the error of a call. A value that the server's type can't represent has the server's own error. */

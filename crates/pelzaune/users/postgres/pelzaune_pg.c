@@ -88,7 +88,7 @@ static inline ending take_unix_ns(question *it, Datum *value)
 }
 
 /* Two functions of SQL: one that raises an error of that type, and one that returns NULL instead, unless the format is
- * malformed. */
+ * invalid. */
 #define CALLS(name, type) \
     PG_FUNCTION_INFO_V1(call_##name); \
     Datum call_##name(PG_FUNCTION_ARGS) \

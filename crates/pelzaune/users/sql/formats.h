@@ -2,7 +2,8 @@
  * texts.
  *
  * A format is 'rfc3339', 'rfc2822' or 'iso8601', in any case, or a description: one with a % is of strftime, and any
- * other is in brackets. 'rfc3339' accepts T, t or a space between date and time. */
+ * other has a [. A text with neither isn't a format, so that a misspelled name is an error. 'rfc3339' accepts T, t or a
+ * space between date and time. */
 #ifndef PELZAUNE_SQL_FORMATS_H
 #define PELZAUNE_SQL_FORMATS_H
 
@@ -59,21 +60,35 @@ static inline void write_too_long(const char *argument, size_t length, char *out
     snprintf(out, TOO_LONG_ROOM, "%s is too long to parse (%zu bytes, max %d bytes)", argument, length, TEXT_MOST);
 }
 
-static inline uint32_t syntax_of(bytes description)
+static inline int has_byte(bytes it, char byte)
 {
-    return description.length && memchr(description.at, '%', description.length) ? PELZAUNE_STRFTIME : PELZAUNE_BRACKETS_2;
+    return it.length && memchr(it.at, byte, it.length) != NULL;
 }
 
-/* Parses a format. If it is malformed, *out is unchanged, and *index is that of its fault. */
+static inline uint32_t syntax_of(bytes description)
+{
+    return has_byte(description, '%') ? PELZAUNE_STRFTIME : PELZAUNE_BRACKETS_2;
+}
+
+/* Parses a format. If it is invalid, *out is unchanged. PELZAUNE_UNKNOWN_FORMAT means that it is neither a name nor a
+ * description; with another status *index is that of the description's fault. */
 static inline pelzaune_status read_form(bytes given, form *out, size_t *index)
 {
     uint32_t number = number_of_format(given);
     if (!number) {
+        if (!has_byte(given, '%') && !has_byte(given, '[')) return PELZAUNE_UNKNOWN_FORMAT;
         pelzaune_status status = pelzaune_describe(syntax_of(given), given.at, given.length, &out->held, index);
         if (status) return status;
     }
     out->number = number;
     return PELZAUNE_OK;
+}
+
+/* The message for an invalid format. */
+static inline const char *text_of_fault(pelzaune_status status)
+{
+    return status == PELZAUNE_UNKNOWN_FORMAT ? "format must be rfc3339, rfc2822, iso8601, or a description with % or ["
+        : pelzaune_text(status);
 }
 
 /* Parses a text by a format into the value of the call's name. */

@@ -12,8 +12,8 @@
  * calendar has no such date.
  *
  * A format is 'rfc3339', the default, 'rfc2822' or 'iso8601', in any case, or a description: one with a % is of strftime,
- * and any other is in brackets. 'rfc3339' accepts T, t or a space between date and time. A malformed description is an
- * error, and so is a text above 1 MiB.
+ * and any other has a [. 'rfc3339' accepts T, t or a space between date and time. Any other format is an error, and so
+ * are an invalid description and a text above 1 MiB.
  *
  *     .load ./pelzaune_sqlite */
 #include <sqlite3ext.h>
@@ -53,14 +53,14 @@ static int take_bytes(sqlite3_context *context, const char *argument, sqlite3_va
     return 0;
 }
 
-/* Parses a format. Returns 0 after reporting the error of a malformed one. */
+/* Parses a format. Returns 0 after reporting the error of an invalid one. */
 static int ask_format(sqlite3_context *context, sqlite3_value *value, form *format)
 {
     size_t index;
     bytes given;
     if (!take_bytes(context, "format", value, &given)) return 0;
     pelzaune_status status = read_form(given, format, &index);
-    if (status) sqlite3_result_error(context, pelzaune_text(status), -1);
+    if (status) sqlite3_result_error(context, text_of_fault(status), -1);
     return !status;
 }
 

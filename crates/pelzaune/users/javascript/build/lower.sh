@@ -7,7 +7,7 @@
 set -e
 here=$(dirname "$0") at=$(mktemp -d)
 trap 'rm -rf "$at"' EXIT
-# What the linked module uses, and engines have had since 2021.
+# What the linked module uses.
 features='--enable-sign-ext --enable-mutable-globals --enable-nontrapping-float-to-int --enable-bulk-memory --enable-multivalue'
 wasm-opt $features --enable-memory64 --strip-debug --strip-producers --strip-target-features --memory64-lowering "$1" -o "$at/lowered.wasm"
 wasm-dis $features "$at/lowered.wasm" -o "$at/lowered.wat"

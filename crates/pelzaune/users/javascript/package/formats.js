@@ -44,13 +44,13 @@ export class Description {
   }
 }
 
-/** The number of a format's name, or 0 for a description. Any other value is an error. */
+/** The number of a format's name, in any case, or 0 for a description. Any other value is an error. */
 export function numberOf(format) {
   if (typeof format !== 'string') {
     if (Description.preparedOf(format) !== undefined) return 0;
     throw new TypeError(`the format must be a name or a description, not ${kindOf(format)}`);
   }
-  const number = FORMATS.get(format);
+  const number = FORMATS.get(format) ?? FORMATS.get(format.toLowerCase());
   if (number !== undefined) return number;
   const names = [...FORMATS.keys()].join(', ');
   throw new RangeError(`no format is named ${JSON.stringify(format.slice(0, 80))}: pass one of ${names}, or description(text)`);

@@ -1,7 +1,7 @@
 // The types of the package. The members of values have the names and ranges of Temporal's.
 
-/** The name of a format. `rfc3339`, the default, accepts `T`, `t` or a space between date and time. */
-export type FormatName = 'rfc3339' | 'rfc2822' | 'iso8601';
+/** The name of a format. The calls accept any case. `rfc3339`, the default, accepts `T`, `t` or a space between date and time. */
+export type FormatName = 'rfc3339' | 'rfc2822' | 'iso8601' | 'RFC3339' | 'RFC2822' | 'ISO8601';
 
 /** A prepared description, which `description` returns. */
 export interface Description {
@@ -127,8 +127,8 @@ export interface Parser {
   /** Parses the parts that a text has. */
   parseParts(text: Text, format?: Format): Parts;
   /**
-   * Parses texts, or the lines of bytes, into nanoseconds since 1970. `rejected` has the indexes of texts that the format
-   * rejects, or whose nanoseconds don't fit 64 bits. Their entries are NO_COUNT.
+   * Parses texts, or the lines of bytes, into nanoseconds since 1970. A line ends with LF or CR LF. `rejected` has the
+   * indexes of texts that the format rejects, or whose nanoseconds don't fit 64 bits. Their entries are NO_COUNT.
    */
   parseMany(texts: Iterable<Text> | Uint8Array | ArrayBufferLike, format?: Format): { epochNanoseconds: BigInt64Array; rejected: number[] };
   /** Parses texts, or the lines of bytes, into milliseconds since 1970, rounded down, or NaN for a rejected text. */

@@ -1,7 +1,8 @@
 // Many texts, or the lines of bytes, as numbers.
 //
 // Lines are parsed in blocks of at most BLOCK_BYTES, with room for an entry a byte: no block has more lines, so none is
-// counted first, and the memory doesn't grow with what is parsed.
+// counted first, and the memory doesn't grow with what is parsed. A block starts at the start of a line, so that it has
+// both bytes of each CR LF or neither.
 
 import { kindOf } from './formats.js';
 import { BLOCK_BYTES, isBytes, isWellFormed, validateBytes } from './memory.js';
@@ -10,6 +11,7 @@ import { BLOCK_BYTES, isBytes, isWellFormed, validateBytes } from './memory.js';
 export const NO_COUNT = -(2n ** 63n);
 
 const LF = 10;
+const CR = 13;
 const LEAST_HIGH_HALF = -(2 ** 31);
 // As many UTF-16 units of texts as fit a block, whatever their characters.
 const BATCH_UNITS = Math.floor(BLOCK_BYTES / 3);
@@ -21,6 +23,22 @@ function millisecondsOf(high, low) {
   // 1000000 is 64 * 15625. Each product below is exact in 53 bits.
   const rest = ((high % 15625) + 15625) % 15625;
   return ((high - rest) / 15625) * 67108864 + Math.floor((rest * 67108864 + (low >>> 6)) / 15625);
+}
+
+/** Removes each CR before an LF, and returns how many bytes are left at the start. */
+function removeReturns(bytes) {
+  const { length } = bytes;
+  const first = bytes.indexOf(CR);
+  if (first < 0) return length;
+  let kept = first;
+  let last = 0;
+  for (let index = first; index < length; index++) {
+    const byte = bytes[index];
+    if (byte === LF && last === CR) kept--;
+    bytes[kept++] = byte;
+    last = byte;
+  }
+  return kept;
 }
 
 class Column {
@@ -78,12 +96,29 @@ class Column {
     this.values[this.count++] = !isRejected ? this.storedOne() : this.inMilliseconds ? NaN : NO_COUNT;
   }
 
-  /** Appends the values of a block of lines. */
+  /**
+   * Appends the values of a block of lines, each of which ends with LF or CR LF. Searching for a CR takes as long as
+   * parsing. A named format rejects a line that ends with a CR, so its lines are first parsed with their CRs, and
+   * parsed again without them only if one is rejected.
+   */
   addBlock(block) {
     const { memory } = this;
-    const length = memory.putBytes(block, memory.text);
-    if (length > BLOCK_BYTES) this.addOne(memory.text, block[length - 1] === LF ? length - 1 : length);
-    else this.addEntries(this.parseLines(length, memory.entriesAt, BLOCK_BYTES), length);
+    const { text } = memory;
+    const length = memory.putBytes(block, text);
+    const copy = memory.bytes.subarray(text, text + length);
+    if (length > BLOCK_BYTES) {
+      const kept = removeReturns(copy);
+      this.addOne(text, copy[kept - 1] === LF ? kept - 1 : kept);
+      return;
+    }
+    const isNamed = this.prepared === undefined;
+    let kept = isNamed ? length : removeReturns(copy);
+    let lines = this.parseLines(kept, memory.entriesAt, BLOCK_BYTES);
+    if (isNamed && memory.view.getUint32(memory.count, true) !== 0) {
+      kept = removeReturns(copy);
+      if (kept < length) lines = this.parseLines(kept, memory.entriesAt, BLOCK_BYTES);
+    }
+    this.addEntries(lines, kept);
   }
 
   /** Appends the entries of as many lines of the memory. */

@@ -1,10 +1,26 @@
 // The parts of a text: which component matched which characters.
 //
-// The library locates the error of a text. So this damages one character after the other, and asks where the damaged text
-// fails: it fails at the start of the part whose character is damaged, and the library says what it expected there.
+// The library locates the error of a text. So this damages one character after the other, and asks where the damaged
+// text fails: it fails at the start of the part whose character is damaged, and the library says what it expected there.
+// In ISO 8601 most parts are optional, so that the library expects the end of the text. There a pattern finds the parts.
 
 // No format has this character anywhere but in a comment or where any character is ignored.
 const DAMAGE = '\u0001';
+
+/** The parts of a text of ISO 8601, by their names. Only a complete date is one: `2021-01` is a time and an offset. */
+const ISO = new RegExp([
+  '^(?:(?<year>[+-]\\d{6}|\\d{4})',
+  '(?:-?W(?<week>\\d{2})-?(?<weekday>\\d)|-?(?<ordinal>\\d{3})(?!\\d)|-?(?<month>\\d{2})-?(?<day>\\d{2})))?',
+  '(?:T?(?<hour>\\d{2})(?::?(?<minute>\\d{2})(?::?(?<second>\\d{2}))?)?(?:[.,](?<fraction>\\d+))?)?',
+  '(?:(?<offset_hour>Z|[+-]\\d{2})(?::?(?<offset_minute>\\d{2}))?)?',
+].join(''), 'd');
+
+/** The parts of a text of ISO 8601 before `limit`. */
+function isoPartsOf(text, limit) {
+  return Object.entries(ISO.exec(text).indices.groups)
+    .filter(([, place]) => place !== undefined && place[0] < limit)
+    .map(([name, [start, end]]) => ({ start, end: Math.min(end, limit), component: name.replace('_', ' ') }));
+}
 
 /** The end of the character at an index, which may have two units. */
 function nextIndex(text, index) {
@@ -12,22 +28,31 @@ function nextIndex(text, index) {
 }
 
 /**
- * The component of the character at an index, where its part starts, or null. A digit may continue a part that could
- * have ended before it, as in a fraction: then the library expects what follows, which doesn't begin with a digit.
+ * Whether the digit at an index continues the last part, which is a number that could have ended before it. Then the
+ * library expects what follows the number.
  */
+function continues(text, index, last, found) {
+  if (last === null || last.end !== index || !/^[0-9]{2}$/.test(text.slice(index - 1, index + 1))) return false;
+  if (found.component === null) return found.expected !== `'${text[index]}'`;
+  return last.component === 'subsecond' && found.component !== last.component && found.index === index;
+}
+
+/** The component of the character at an index, where its part starts, or null. */
 function partAt(text, index, end, last, locate) {
   const found = locate(text.slice(0, index) + DAMAGE + text.slice(end));
-  const isDigit = /[0-9]/.test(text[index]);
-  const isContinued = last !== null && last.end === index && isDigit && found !== null && found.index === index
-    && /[0-9]/.test(text[index - 1]) && found.component !== last.component && last.component === 'subsecond';
-  if (isContinued) return last;
-  const isMark = found !== null && found.index === index && !/[\p{L}\p{N}+-]/u.test(text.slice(index, end));
-  if (found === null || found.component === null || found.index > index || isMark) return null;
-  return { start: found.index, component: found.component };
+  if (found === null) return null;
+  if (continues(text, index, last, found)) return last;
+  const character = text.slice(index, end);
+  const isMark = found.index === index && !/[\p{L}\p{N}+-]/u.test(character);
+  if (found.component === null || found.index > index || isMark) return null;
+  // Where a mail date may begin with a weekday, the library expects the day.
+  const isWeekday = found.component === 'day' && /\p{L}/u.test(character);
+  return { start: found.index, component: isWeekday ? 'weekday' : found.component };
 }
 
 /** The parts of a text before `limit`: where each starts and ends, and its component. */
-export function partsOf(text, limit, locate) {
+export function partsOf(format, text, limit, locate) {
+  if (format === 'iso8601') return isoPartsOf(text, limit);
   const parts = [];
   for (let index = 0; index < limit; ) {
     const end = nextIndex(text, index);
@@ -41,8 +66,8 @@ export function partsOf(text, limit, locate) {
 }
 
 const COLOURS = [
-  [/^(year|week)/, 'year'], [/^month/, 'month'], [/^(day|ordinal|weekday)/, 'day'], [/^(hour|period)/, 'hour'], [/^minute/, 'minute'],
-  [/^(second|unix)/, 'second'], [/^(subsecond|nanosecond)/, 'fraction'], [/^offset/, 'offset'],
+  [/^(day|ordinal|weekday)/, 'day'], [/^(year|week)/, 'year'], [/^month/, 'month'], [/^(hour|period)/, 'hour'], [/^minute/, 'minute'],
+  [/^(second|unix)/, 'second'], [/^(subsecond|nanosecond|fraction)/, 'fraction'], [/^offset/, 'offset'],
 ];
 
 /** The class of the colour of a component. */

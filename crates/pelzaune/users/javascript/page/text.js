@@ -143,7 +143,7 @@ export function showText(p, state, format) {
   const wrongAt = isWrong ? error.index ?? null : null;
   const limit = wrongAt ?? text.length;
   const isColoured = format !== null && text.length <= MOST_COLOURED && text.isWellFormed?.() !== false;
-  const parts = isColoured ? partsOf(text, limit, (it) => p.locate(it, format)) : [];
+  const parts = isColoured ? partsOf(state.format, text, limit, (it) => p.locate(it, format)) : [];
   fill(by('display'), ...(text === '' && !isWrong ? [] : displayText(text, parts, wrongAt)));
   showParts(text, parts);
   by('text').setAttribute('aria-invalid', String(isWrong));

@@ -7,6 +7,7 @@ import { test as testMany } from './many.mjs';
 import { test as testValues } from './values.mjs';
 
 const MILLION = 1000000;
+const RFC3339_STRICT = 4;
 
 /** A million calls of each kind don't grow the memory. */
 function testMemory(p, memory, checks) {
@@ -25,6 +26,31 @@ function testMemory(p, memory, checks) {
   checks.same(memory.buffer.byteLength, before, 'the memory after a million calls');
 }
 
+/** A column without entries counts the lines of a text, in no more time than it takes to parse them. */
+function testCounting({ exports }, checks) {
+  const { value } = exports.__heap_base;
+  const size = typeof value === 'bigint' ? BigInt : Number;
+  // The package's short results are there, and its texts follow.
+  const refused = (Number(value) + 63) & ~63;
+  const text = refused + 2048;
+  const column = (lines, entries, capacity) => {
+    new Uint8Array(exports.memory.buffer).set(lines, text);
+    const start = performance.now();
+    const count = exports.pelzaune_column(RFC3339_STRICT, size(text), size(lines.length), size(entries), size(capacity), size(refused));
+    return { count: Number(count), milliseconds: performance.now() - start };
+  };
+  const counts = { '': 0, x: 1, '\n': 1, 'x\n': 1, 'x\ny': 2, '\n\n': 2, '\r\n': 1, 'x\n\ny\n': 3 };
+  for (const [lines, count] of Object.entries(counts)) checks.same(column(utf8(lines), 0, 0).count, count, `lines of ${JSON.stringify(lines)}`);
+  for (let length = 0; length < 200; length++) checks.same(column(utf8(`${'x'.repeat(length)}\n`.repeat(3)), 0, 0).count, 3, `lines of ${length} bytes`);
+
+  const lines = utf8('2021-01-02T03:04:05.678+05:30\n'.repeat(10000));
+  const entries = text + 8 * Math.ceil(lines.length / 8);
+  const least = (...given) => Math.min(...Array.from({ length: 20 }, () => column(lines, ...given).milliseconds));
+  checks.same([column(lines, 0, 0).count, column(lines, entries, 10000).count], [10000, 10000], 'the lines');
+  const [counting, parsing] = [least(0, 0), least(entries, 10000)];
+  checks.isTrue(counting <= parsing, `counting lines takes ${counting} milliseconds, and parsing them ${parsing}`);
+}
+
 /** The module imports nothing, and exports what the header declares. */
 function testModule(module, createParser, checks) {
   checks.same(WebAssembly.Module.imports(module), [], 'the imports of the module');
@@ -39,6 +65,7 @@ export function run(module, createParser, ready) {
   const instance = new WebAssembly.Instance(module);
   const p = createParser(instance);
   testModule(module, createParser, checks);
+  testCounting(instance, checks);
   testMemory(p, instance.exports.memory, checks);
   for (const test of [testValues, testErrors, testMany, testArguments]) {
     try {

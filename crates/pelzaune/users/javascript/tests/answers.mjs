@@ -15,6 +15,7 @@ const p = createParser(new WebAssembly.Module(readFileSync(new URL(process.argv[
 const NO_COUNT = -(2n ** 63n);
 const TAB = 9;
 const LF = 10;
+const CR = 13;
 const bytes = readFileSync(0);
 const columns = new Map();
 
@@ -46,11 +47,18 @@ for (let start = 0; start < bytes.length; ) {
   start = end + 1;
 }
 process.stdout.write(answers.join(''));
+
+/** Compares the column of texts or of lines with the counts. */
+function compareColumn(format, given, counts) {
+  const { epochNanoseconds } = p.parseMany(given, format);
+  const isAlike = epochNanoseconds.length === counts.length && counts.every((count, index) => count === epochNanoseconds[index]);
+  if (!isAlike) throw new Error(`the column of ${format} differs`);
+}
+
 for (const [format, { texts, counts }] of columns) {
-  const lines = Buffer.concat(texts.flatMap((text) => [text, Buffer.of(LF)]));
-  for (const given of [lines, texts]) {
-    const { epochNanoseconds } = p.parseMany(given, format);
-    const isAlike = epochNanoseconds.length === counts.length && counts.every((count, index) => count === epochNanoseconds[index]);
-    if (!isAlike) throw new Error(`the column of ${format} differs`);
-  }
+  compareColumn(format, texts, counts);
+  // No line of a file ends with CR, since that is part of the line's end.
+  const isLine = texts.map((text) => text[text.length - 1] !== CR);
+  const lines = texts.filter((_, index) => isLine[index]).flatMap((text) => [text, Buffer.of(LF)]);
+  compareColumn(format, Buffer.concat(lines), counts.filter((_, index) => isLine[index]));
 }

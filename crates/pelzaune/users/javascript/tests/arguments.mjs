@@ -32,7 +32,7 @@ function testTypes(p, checks) {
     }
   }
   for (const call of [...callsOf(p), p.parseMany]) checks.throws(() => call(), 'TypeError', {}, 'no argument');
-  for (const name of ['', 'RFC3339', 'constructor', '__proto__', 'toString', '%Y', 'rfc3339 ']) {
+  for (const name of ['', 'rfc9557', 'rfc-3339', '\u0130so8601', 'i\u017fo8601', 'constructor', '__proto__', 'toString', '%Y', 'rfc3339 ', 'RFC3339\0']) {
     for (const call of callsOf(p)) checks.throws(() => call('2021', name), 'RangeError', {}, `the format ${name}`);
   }
 }

@@ -10,16 +10,22 @@ const TRAILING = 'unexpected trailing characters; the end of input was expected'
 // A text, its format, and the message, component, index and expectation of its error.
 const TEXTS = [
   ['2021-13-02T03:04:05Z', 'rfc3339', 'month is out of range', 'month', 5, 'month'],
+  ['1970-13-01T00:00:00Z', 'rfc3339', 'month is out of range', 'month', 5, 'month'],
   ['2021-02-29T03:04:05Z', 'rfc3339', 'day is out of range for the other components', 'day', null, null],
+  ['2021-02-30T03:04:05Z', 'rfc3339', 'day is out of range for the other components', 'day', null, null],
+  ['1970-02-30T00:00:00Z', 'rfc3339', 'day is out of range for the other components', 'day', null, null],
   ['2021-01-02T03:04:0\u0665Z', 'rfc3339', "the 'second' component could not be parsed", 'second', 17, 'second'],
   ['', 'rfc3339', "the 'year' component could not be parsed", 'year', 0, 'year'],
   ['2021-01-02T03:04:05Z\n', 'rfc3339', TRAILING, null, 20, 'the end'],
+  ['2021-01-02T03:04:05Zx', 'rfc3339', TRAILING, null, 20, 'the end'],
   ['2021-01-02T03:04:05Z\u{1f550}', 'rfc3339', TRAILING, null, 20, 'the end'],
   ['2021/01-02T03:04:05Z', 'rfc3339', 'a character literal was not valid', null, 4, "'-'"],
   ['1985-04-12923:20:50Z', 'rfc3339', SEPARATOR, 'separator', 10, 'separator'],
   ['1985-04-12_23:20:50Z', 'rfc3339', SEPARATOR, 'separator', 10, 'separator'],
   ['1985-13-12923:20:50Z', 'rfc3339', SEPARATOR, 'separator', 5, 'month'],
   ['2021-01-02', 'iso8601', INSUFFICIENT, null, null, null],
+  ['2021-13', 'iso8601', undefined, undefined, null, null],
+  ['2021-13-02', 'iso8601', undefined, undefined, 7, undefined],
   ['02/Jan-2021', '%d/%b/%Y', 'a character literal was not valid', null, 6, "'/'"],
   ['02/Jan', '%d/%b/%Y', 'a character literal was not valid', null, 6, "'/'"],
   ['2021-02', '[year]-[month]-[day]', 'a character literal was not valid', null, 7, "'-'"],
@@ -52,6 +58,19 @@ function testTexts(p, checks) {
       for (const call of [p.parsePlain, p.parseDate, p.parseTime, p.parseParts]) checks.throws(() => call(text, form), 'ParseError', { index }, text);
     }
     checks.isTrue(inBytes instanceof RangeError && inBytes instanceof Error, 'its class');
+  }
+}
+
+/** RFC 3339 has `T`, `t` or a space between date and time. */
+function testSeparators(p, checks) {
+  for (const separator of ['9', '_', '-', ':', '\t']) {
+    const text = `1985-04-12${separator}23:20:50Z`;
+    for (const form of [undefined, 'rfc3339', 'RFC3339']) {
+      for (const call of [p.parse, p.parsePlain, p.parseDate, p.parseTime, p.parseParts]) {
+        checks.throws(() => call(text, form), 'ParseError', { message: SEPARATOR, component: 'separator', index: 10, expected: 'separator' }, text);
+      }
+      for (const texts of [[text], utf8(text)]) checks.same(p.parseMany(texts, form).rejected, [0], text);
+    }
   }
 }
 
@@ -98,6 +117,7 @@ function testMoments(p, checks) {
 
 export function test(p, checks) {
   testTexts(p, checks);
+  testSeparators(p, checks);
   testLocate(p, checks);
   testDescriptions(p, checks);
   testMoments(p, checks);

@@ -4,7 +4,9 @@ import { answered, padded, pick, random, utf8 } from './checks.mjs';
 
 const TEXT = '1970-01-01T00:00:01Z';
 const LOG = '%d/%b/%Y:%H:%M:%S %z';
+const MAIL = 'Fri, 02 Jan 1970 00:00:00 GMT';
 const SECOND = 1000000000n;
+const DAY = 86400n * SECOND;
 const NO_COUNT = -(2n ** 63n);
 const BLOCK = 65536;
 
@@ -78,7 +80,19 @@ function testFormats(p, checks) {
   checks.same(many(p, ['Fri, 02 Jan 1970 00:00:00 GMT'], 'rfc2822'), [[86400n * SECOND], []], 'a mail date');
   checks.same(many(p, ['19700102T000000Z', '1970-01-02T00:00:00'], 'iso8601'), [[86400n * SECOND, NO_COUNT], [1]], 'ISO 8601');
   checks.same(many(p, ['1', '-1'], p.description('[unix_timestamp]')), [[SECOND, -SECOND], []], 'a timestamp');
+  checks.same(many(p, utf8('1\n-1\n'), p.description('[unix_timestamp]')), [[SECOND, -SECOND], []], 'lines of timestamps');
   checks.same(many(p, ['02.01.1970'], p.description('%d.%m.%Y')), [[NO_COUNT], [0]], 'no moment');
+  for (const form of ['%d.%m.%Y %z', '[day].[month].[year] [offset_hour sign:mandatory][offset_minute]']) {
+    checks.same(many(p, ['02.01.1970 +0000', '01.01.1970 -0001'], p.description(form)), [[NO_COUNT, NO_COUNT], [0, 1]], 'no time');
+  }
+}
+
+/** Texts with characters that no format has, among others. */
+function testCharacters(p, checks) {
+  const odd = [`${TEXT}\0`, `\0${TEXT}`, `${TEXT}\n`, '1970-01-01T00:00:0\u0661Z', '\u00e9', '\u{1f550}', '1970\u201301-01T00:00:00Z', Uint8Array.of(0xff), ''];
+  for (const text of odd) checks.same(many(p, [TEXT, text, TEXT]), [[SECOND, NO_COUNT, SECOND], [1]], `among others: ${text}`);
+  checks.same(many(p, ['1 Uhr \u00e9', '1 Uhr \u00e8', utf8('1 Uhr \u00e9')], p.description('[unix_timestamp] Uhr \u00e9')), [[SECOND, NO_COUNT, SECOND], [1]], 'an accent');
+  checks.same(many(p, utf8(`${TEXT}\n\n1970-01-01T00:00:02Zx\n1969-12-31T23:59:59.5-00:01`)), [[SECOND, NO_COUNT, NO_COUNT, 59500000000n], [1, 2]], 'lines');
 }
 
 function testEachAsAlone(p, checks) {
@@ -124,16 +138,63 @@ function testMilliseconds(p, checks) {
 }
 
 function testLineEnds(p, checks) {
-  for (const form of ['[unix_timestamp]\n', '[unix_timestamp][optional [\n]]', '[optional [\n]][unix_timestamp][optional [\n2]]']) {
-    const description = p.description(form);
+  for (const form of ['rfc3339', '[unix_timestamp]\n', '[unix_timestamp][optional [\n]]', '[optional [\n]][unix_timestamp][optional [\n2]]']) {
+    const description = form === 'rfc3339' ? form : p.description(form);
     for (const count of [1, 3, 40, 5000]) {
-      for (const kinds of [['1\n'], ['1\n', '1', '\n1', '\n', '', '1\n2', '\n1\n2', TEXT, `${TEXT}\n`]]) {
+      for (const kinds of [['1\n'], ['1\n', '1', '\n1', '\n', '', '1\n2', '\n1\n2', TEXT, `${TEXT}\n`, `${TEXT}\n${TEXT}`]]) {
         const texts = Array.from({ length: count }, (_, index) => kinds[(index * index) % kinds.length]);
         checks.same(many(p, texts, description), alone(p, texts, description), `a text with LF by ${form}`);
       }
     }
   }
-  checks.same(many(p, utf8(`\n${TEXT}\r\n\n${TEXT}`)), [[NO_COUNT, NO_COUNT, NO_COUNT, SECOND], [0, 1, 2]], 'empty lines and CR');
+  checks.same(many(p, utf8(`\n${TEXT}\n\n${TEXT}`)), [[NO_COUNT, SECOND, NO_COUNT, SECOND], [0, 2]], 'empty lines');
+}
+
+/** Compares the columns of bytes with the expected counts, and the bytes with what they were. */
+function compareLines(p, checks, text, format, counts, what) {
+  const lines = utf8(text);
+  const rejected = counts.flatMap((count, index) => (count === NO_COUNT ? [index] : []));
+  const epochMilliseconds = Float64Array.from(counts, (count) => (count === NO_COUNT ? NaN : Number(count / 1000000n)));
+  checks.same(many(p, lines, format), [counts, rejected], what);
+  checks.same(p.parseMilliseconds(lines, format), { epochMilliseconds, rejected }, `${what} in milliseconds`);
+  checks.isTrue(utf8(text).every((byte, index) => byte === lines[index]), `${what} is unchanged`);
+}
+
+/** A CR before an LF ends the line with it. Any other is a byte of the line. */
+function testReturns(p, checks) {
+  const stamp = p.description('[unix_timestamp]');
+  const ended = p.description('[unix_timestamp]\r');
+  const rows = [
+    [`${TEXT}\r\n${TEXT}\r\n`, undefined, [SECOND, SECOND]],
+    [`${TEXT}\n${TEXT}\r\n${TEXT}`, undefined, [SECOND, SECOND, SECOND]],
+    [`\r\n${TEXT}\r\r\n${TEXT}\r`, undefined, [NO_COUNT, NO_COUNT, NO_COUNT]],
+    [`\r${TEXT}\n\r\n\r`, undefined, [NO_COUNT, NO_COUNT, NO_COUNT]],
+    [`${MAIL}\r\n?\r\n${MAIL} (x)\r\n${MAIL}\r\r\n`, 'rfc2822', [DAY, NO_COUNT, DAY, NO_COUNT]],
+    ['1970-01-02T00Z\r\n?\r\n19700102T000000Z\r\n1970-01-02T00Z\r\r\n', 'iso8601', [DAY, NO_COUNT, DAY, NO_COUNT]],
+    ['1\r\n2\r\n', stamp, [SECOND, 2n * SECOND]],
+    ['1\r\r\n2', ended, [SECOND, NO_COUNT]],
+    ['1\r\n2\r', ended, [NO_COUNT, 2n * SECOND]],
+  ];
+  for (const [text, format, counts] of rows) compareLines(p, checks, text, format, counts, JSON.stringify(text));
+  for (const texts of [[`${TEXT}\r`, TEXT], [`${TEXT}\r`], [utf8(`${TEXT}\r\n`), TEXT]]) {
+    checks.same(many(p, texts)[1], [0], 'a text of a list is no line');
+  }
+}
+
+/** CR LF around the ends of blocks, and lines that are longer than a block. */
+function testReturnsOfBlocks(p, checks) {
+  const lengths = [...Array.from({ length: 48 }, (_, index) => BLOCK - 24 + index), 2 * BLOCK - 1, 2 * BLOCK, 3 * BLOCK];
+  for (const length of lengths) {
+    const zeros = '0'.repeat(length - 21);
+    const [first, second] = ['x'.repeat(length), `1970-01-01T00:00:02.${zeros}Z`];
+    compareLines(p, checks, `${first}\r\n${TEXT}\n${second}\r\n${TEXT}\r\n`, undefined, [NO_COUNT, SECOND, 2n * SECOND, SECOND], `a line of ${length}`);
+  }
+  const next = random(7);
+  for (let round = 0; round < 5; round++) {
+    const texts = Array.from({ length: 4000 }, () => pick(next, [TEXT, '?', '', `1970-01-01T00:00:02.${'0'.repeat(1 + next(4000))}Z`]));
+    const counts = texts.map((text) => ({ [TEXT]: SECOND, '?': NO_COUNT, '': NO_COUNT })[text] ?? 2n * SECOND);
+    compareLines(p, checks, texts.map((text) => text + pick(next, ['\n', '\r\n'])).join(''), undefined, counts, 'lines of both kinds');
+  }
 }
 
 function testLong(p, checks) {
@@ -185,10 +246,13 @@ function testWrong(p, checks) {
 export function test(p, checks) {
   testIterables(p, checks);
   testFormats(p, checks);
+  testCharacters(p, checks);
   testEachAsAlone(p, checks);
   testEnds(p, checks);
   testMilliseconds(p, checks);
   testLineEnds(p, checks);
+  testReturns(p, checks);
+  testReturnsOfBlocks(p, checks);
   testLong(p, checks);
   testBytes(p, checks);
   testWrong(p, checks);

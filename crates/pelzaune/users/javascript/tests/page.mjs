@@ -2,18 +2,19 @@
 //
 //     node page.mjs PAGE.html [SCREENSHOT.png]
 //
-// With a second argument it writes the picture that README shows.
+// With a second argument it also writes the picture that README shows, in Chromium, if the tests pass.
 
 import { closeSync, openSync, writeFileSync, writeSync } from 'node:fs';
 import { mkdtemp, rm } from 'node:fs/promises';
 import { tmpdir } from 'node:os';
 import { join, resolve } from 'node:path';
 import { pathToFileURL } from 'node:url';
-import { isInstalled, NAMES, withBrowser } from './browsers/browser.mjs';
+import { isInstalled, NAMES, TIME_ZONE, withBrowser } from './browsers/browser.mjs';
 import { Checks } from './checks.mjs';
 import * as tests from './page_tests.mjs';
 
 const page = String(pathToFileURL(resolve(process.argv[2])));
+const picturePath = process.argv[3];
 const FILE_BYTES = 50000000;
 
 /** A log of 50 MB, every thousandth line of which has no time. */
@@ -55,11 +56,12 @@ async function testIn(name, log) {
       await tab.open(page);
       await tab.evaluate('window.ready');
       const before = checks.failed.length;
-      await test(tab, checks, { page, log });
+      await test(tab, checks, { page, log, timeZone: TIME_ZONE });
       if (checks.failed.length > before) console.log(`${what} in ${name}:\n${checks.failed.slice(before).join('\n')}`);
     }
     checks.same(tab.messages, [], 'the console');
-    if (name === 'chromium' && process.argv[3]) writeFileSync(process.argv[3], await picture(tab));
+    const isPictured = name === 'chromium' && picturePath !== undefined && checks.failed.length === 0;
+    if (isPictured) writeFileSync(picturePath, await picture(tab));
   });
   console.log(`the page in ${name}: ${checks.passed} passed, ${checks.failed.length} failed`);
   return checks.passed > 0 && checks.failed.length === 0;

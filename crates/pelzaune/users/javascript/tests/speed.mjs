@@ -4,6 +4,7 @@
 //
 // Each number is the least of many short runs in turn, so that each call has a chance on an idle machine.
 
+import { readFileSync } from 'node:fs';
 import { dirname, resolve } from 'node:path';
 import { fileURLToPath, pathToFileURL } from 'node:url';
 import { isInstalled, NAMES, withBrowser } from './browsers/browser.mjs';
@@ -15,7 +16,8 @@ const folder = resolve(process.argv[2]);
 
 const columns = new Map();
 const ready = await import(pathToFileURL(`${folder}/index.js`));
-columns.set(`Node ${process.versions.node}`, run(undefined, undefined, ready));
+const module = new WebAssembly.Module(readFileSync(`${folder}/pelzaune.wasm`));
+columns.set(`Node ${process.versions.node}`, run(module, undefined, ready));
 await withServer({ package: folder, tests: here }, async (address) => {
   for (const { name, program } of NAMES) {
     if (!isInstalled(program)) {

@@ -7,6 +7,7 @@ const CALLS = 500;
 // A run is shorter than a turn of the processor on a busy machine.
 const LINES = 4000;
 const LOG = '%d/%b/%Y:%H:%M:%S %z';
+const RFC3339_STRICT = 4;
 
 /** The least nanoseconds of each call, which are made in turn. */
 function leastOf(calls, count, rounds) {
@@ -53,13 +54,24 @@ function callsOfOne(p, texts, parts) {
   };
 }
 
+/** A call that counts lines, by a column without entries. They are in the memory of an instance of its own. */
+function lineCounter(module, lines) {
+  const { memory, pelzaune_column: column, __heap_base: base } = new WebAssembly.Instance(module).exports;
+  const refused = (base.value + 63) & ~63;
+  const text = refused + 64;
+  new Uint8Array(memory.buffer).set(lines, text);
+  return () => column(RFC3339_STRICT, text, lines.length, 0, 0, refused);
+}
+
 /** The calls for many texts. */
-function callsOfMany(p, texts, joined) {
+function callsOfMany(module, p, texts, joined) {
   const lines = new TextEncoder().encode(joined);
+  const countLines = lineCounter(module, lines);
   const { Temporal } = globalThis;
   return {
     '`parseMany(bytes)`, a line': () => { sink += p.parseMany(lines).rejected.length; },
     '`parseMilliseconds(bytes)`, a line': () => { sink += p.parseMilliseconds(lines).rejected.length; },
+    '`pelzaune_column` without entries, a line': () => { sink += countLines(); },
     '`parseMany(texts)`, a text': () => { sink += p.parseMany(texts).rejected.length; },
     '`texts.map(Date.parse)`, a text': () => { sink += Float64Array.from(texts, Date.parse)[0]; },
     ...(Temporal && { '`Temporal.Instant.from` of each, a text': () => { for (const it of texts) sink += Temporal.Instant.from(it).epochMilliseconds; } }),
@@ -70,7 +82,7 @@ function callsOfMany(p, texts, joined) {
 export function run(module, createParser, p) {
   const { joined, parts, texts } = madeTexts();
   const one = callsOfOne(p, texts, parts);
-  const many = callsOfMany(p, texts, joined);
+  const many = callsOfMany(module, p, texts, joined);
   const nanoseconds = [...leastOf(Object.values(one), CALLS, 8 * ROUNDS), ...leastOf(Object.values(many), LINES, 4 * ROUNDS)];
   return Object.fromEntries([...Object.keys(one), ...Object.keys(many)].map((name, index) => [name, nanoseconds[index]]));
 }

@@ -8,7 +8,7 @@ import { createParser } from 'pelzaune/parser';
 
 const day: Description = description('[day].[month].[year]');
 const name: FormatName = 'iso8601';
-const forms: Format[] = [day, name, 'rfc2822'];
+const forms: Format[] = [day, name, 'rfc2822', 'RFC3339'];
 const moment: Moment = parse('1985-04-12T23:20:50.52Z');
 const members: number[] = [moment.year, moment.nanosecond, moment.offsetSeconds, moment.epochMilliseconds];
 const exact: bigint = moment.epochNanoseconds;

@@ -22,7 +22,12 @@ const MOMENTS = [
   ['iso8601', '2020-W53-6T03Z', '2021 1 2 3 0 0 0 0 0 0'],
   ['iso8601', '2021-01-02T03:04:05,25-00:30', '2021 1 2 3 4 5 250 0 0 -1800'],
   ['iso8601', '20210102T0304Z', '2021 1 2 3 4 0 0 0 0 0'],
+  ['iso8601', '2020W536T0304.5Z', '2021 1 2 3 4 30 0 0 0 0'],
+  ['iso8601', '+012021-01-02T03,5-0530', '12021 1 2 3 30 0 0 0 0 -19800'],
+  ['iso8601', '2020-366T23:59:60Z', '2020 12 31 23 59 59 999 999 999 0'],
   ['iso8601', '-012345-01-02T03:04:05+24:00', '-12345 1 2 3 4 5 0 0 0 86400'],
+  ['iso8601', '2021-01-02T03:04:05+24:00', '2021 1 2 3 4 5 0 0 0 86400'],
+  ['rfc3339', '0000-01-02T03:04:05Z', '0 1 2 3 4 5 0 0 0 0'],
   [LOG, '02/Jan/2021:03:04:05 -0030', '2021 1 2 3 4 5 0 0 0 -1800'],
   [LOG_BRACKETS, '02/Jan/2021:03:04:05 -0030', '2021 1 2 3 4 5 0 0 0 -1800'],
   ['[unix_timestamp]', '-1', '1969 12 31 23 59 59 0 0 0 0'],
@@ -37,6 +42,8 @@ const PLAIN = [
 const DATES = [
   ['iso8601', '2020-366', '2020 12 31'],
   ['iso8601', '2020-W53-6', '2021 1 2'],
+  ['iso8601', '2020W536', '2021 1 2'],
+  ['iso8601', '+012345-01-02', '12345 1 2'],
   ['rfc3339', '2021-01-02T03:04:05Z', '2021 1 2'],
   ['[year]-[month]-[day]', '2021-03-04', '2021 3 4'],
   ['%d.%m.%Y', '02.01.2021', '2021 1 2'],
@@ -44,13 +51,14 @@ const DATES = [
 
 const TIMES = [
   ['iso8601', 'T03:04,5', '3 4 30 0 0 0'],
+  ['iso8601', 'T03:04.5', '3 4 30 0 0 0'],
   ['[hour repr:12 padding:none]:[minute] [period]', '1:05 PM', '13 5 0 0 0 0'],
   ['%H:%M:%S', '23:59:59', '23 59 59 0 0 0'],
 ];
 
 /** A format of a table: a name, or a description. */
 export function formOf(p, text) {
-  return /^[a-z]+\d+$/.test(text) ? text : p.description(text);
+  return /^[a-z]+\d+$/i.test(text) ? text : p.description(text);
 }
 
 function testTables(p, checks) {
@@ -79,6 +87,39 @@ function testParts(p, checks) {
   checks.throws(() => parts('2021-02-30T03:04:05Z'), 'ParseError', { component: 'day', index: null }, 'an impossible date');
 }
 
+/** A text of ISO 8601 is a moment if and only if it has a date, a time and an offset. */
+function testPartsOfIso(p, checks) {
+  const next = random(8601);
+  const kinds = [
+    ['2021-01-02', '20210102', '2020-W53-6', '2020W536', '2020-366', '+012021-01-02'],
+    ['T', 't', ' ', ''],
+    ['03', '03:04', '0304', '03:04:05', '030405', '03,5', '03:04.5', '23:59:60'],
+    ['', '', 'Z', 'z', '+05', '-0530', '+05:30', '-08:00', 'T', '+'],
+  ];
+  for (let k = 0; k < 5000; k++) {
+    const text = kinds.map((kind) => pick(next, kind)).join('');
+    const parts = answered(() => p.parseParts(text, 'iso8601'));
+    if (Array.isArray(parts)) continue;
+    const { date, time, offsetSeconds } = parts;
+    const isWhole = date !== null && time !== null && offsetSeconds !== null;
+    const moment = answered(() => p.parse(text, 'iso8601'));
+    checks.same(Array.isArray(moment) ? null : plainly(moment), isWhole ? `${plainly(date)} ${plainly(time)} ${offsetSeconds}` : null, text);
+  }
+}
+
+/** The names of formats ignore case. */
+function testNames(p, checks) {
+  const texts = { rfc3339: '1970-01-02T00:00:00Z', rfc2822: 'Fri, 02 Jan 1970 00:00:00 GMT', iso8601: '1970-W01-5T00Z' };
+  for (const [name, text] of Object.entries(texts)) {
+    for (const form of [name, name.toUpperCase(), name[0].toUpperCase() + name.slice(1)]) {
+      checks.same(p.parse(text, form).epochSeconds, 86400, form);
+      for (const call of [p.parsePlain, p.parseDate, p.parseTime, p.parseParts, p.locate]) checks.same(call(text, form), call(text, name), form);
+      for (const call of [p.parseMany, p.parseMilliseconds]) checks.same(call([text], form), call([text], name), form);
+      checks.same(p.parse(p.format(new Date(86400000), form), form).epochSeconds, 86400, `as ${form}`);
+    }
+  }
+}
+
 function testInstants(p, checks) {
   const nanoseconds = (text) => p.parse(text).epochNanoseconds;
   checks.same(nanoseconds('1969-12-31T23:59:59.999999999Z'), -1n, 'before 1970');
@@ -93,7 +134,7 @@ function testInstants(p, checks) {
 }
 
 function testOffsets(p, checks) {
-  for (let minutes = -1439; minutes <= 1439; minutes += 7) {
+  for (let minutes = -1439; minutes <= 1439; minutes++) {
     const size = Math.abs(minutes);
     const text = `2021-01-02T03:04:05${minutes < 0 ? '-' : '+'}${padded(Math.floor(size / 60), 2)}:${padded(size % 60, 2)}`;
     checks.same(p.parse(text).offsetSeconds, 60 * minutes, text);
@@ -113,10 +154,15 @@ function testBesideDate(p, checks) {
   for (let k = 0; k < 3000; k++) {
     // A mail date has a year from 1900 on.
     const date = randomDate(next, 1901, 9000);
+    const day = `${date.getUTCFullYear()} ${date.getUTCMonth() + 1} ${date.getUTCDate()}`;
+    const time = `${date.getUTCHours()} ${date.getUTCMinutes()} ${date.getUTCSeconds()} ${date.getUTCMilliseconds()} 0 0`;
     for (const format of ['rfc3339', 'iso8601']) {
       const moment = p.parse(date.toISOString(), format);
       checks.same([moment.epochMilliseconds, moment.toDate().getTime()], [date.getTime(), date.getTime()], date.toISOString());
+      checks.same(plainly(p.parseDate(date.toISOString(), format)), day, date.toISOString());
+      checks.same(plainly(p.parseTime(date.toISOString(), format)), time, date.toISOString());
     }
+    checks.same(plainly(p.parsePlain(date.toISOString().slice(0, -1), 'iso8601')), `${day} ${time}`, date.toISOString());
     checks.same(p.parse(date.toUTCString(), 'rfc2822').epochSeconds, Math.floor(date.getTime() / 1000), date.toUTCString());
     checks.same(p.format(date, 'rfc2822').replace('+0000', 'GMT'), date.toUTCString(), 'as a mail date');
     checks.same(p.parse(p.format(date)).epochMilliseconds, date.getTime(), 'as RFC 3339');
@@ -149,6 +195,27 @@ function testBesideTemporal(p, checks) {
   checks.same(odd.toInstant().epochNanoseconds, odd.epochNanoseconds, 'its instant');
 }
 
+/** Texts with the names of months and days, and with a day of the year. */
+function testStrftime(p, checks) {
+  const next = random(2822);
+  const month = new Intl.DateTimeFormat('en', { month: 'long', timeZone: 'UTC' });
+  const weekday = new Intl.DateTimeFormat('en', { weekday: 'long', timeZone: 'UTC' });
+  const two = (number) => padded(number, 2);
+  for (let k = 0; k < 1000; k++) {
+    const date = new Date(Date.UTC(1000 + next(9000), next(12), 1 + next(28), next(24), next(60)));
+    const [year, hour, minute] = [date.getUTCFullYear(), date.getUTCHours(), date.getUTCMinutes()];
+    const dayOfYear = 1 + Math.floor((date - Date.UTC(year)) / 86400000);
+    const texts = {
+      '%Y-%m-%d %H:%M': `${year}-${two(date.getUTCMonth() + 1)}-${two(date.getUTCDate())} ${two(hour)}:${two(minute)}`,
+      '%d %B %Y, %I:%M %p': `${two(date.getUTCDate())} ${month.format(date)} ${year}, ${two(hour % 12 || 12)}:${two(minute)} ${hour < 12 ? 'AM' : 'PM'}`,
+      '%H:%M on %A, %Y-%j': `${two(hour)}:${two(minute)} on ${weekday.format(date)}, ${year}-${padded(dayOfYear, 3)}`,
+    };
+    for (const [form, text] of Object.entries(texts)) {
+      checks.same(plainly(p.parsePlain(text, p.description(form))), plainly(p.parsePlain(date.toISOString())), `${text} by ${form}`);
+    }
+  }
+}
+
 function testDescriptions(p, checks) {
   for (const text of [LOG, LOG_BRACKETS, '', '[year]-[month][optional [-[day]]]', 'Uhr é\u{1f550}']) {
     checks.same(p.description(text).text, text, `the text of ${text}`);
@@ -159,6 +226,21 @@ function testDescriptions(p, checks) {
     checks.same(plainly(p.parseDate('01/02/2021', second)), '2021 1 2', 'the second of two in turn');
     checks.throws(() => p.description('[yaer]'), 'DescriptionError', {}, 'an invalid one between');
     checks.throws(() => p.parseDate('01/02/2021', first), 'ParseError', { index: 2, expected: "'.'" }, 'the other text');
+  }
+}
+
+/** Moments at any offset are written as Date writes them at that of UTC, and parse back. */
+function testWrittenOffsets(p, checks) {
+  const next = random(822);
+  for (let k = 0; k < 2000; k++) {
+    const local = randomDate(next, 1901, 9000);
+    const minutes = next(2879) - 1439;
+    const size = Math.abs(minutes);
+    const offset = `${minutes < 0 ? '-' : '+'}${padded(Math.floor(size / 60), 2)}${padded(size % 60, 2)}`;
+    const { year, month, day, hour, minute, second, millisecond } = p.parsePlain(local.toISOString());
+    const moment = { year, month, day, hour, minute, second, millisecond, microsecond: next(1000), nanosecond: next(1000), offsetSeconds: 60 * minutes };
+    checks.same(p.format(moment, 'rfc2822'), local.toUTCString().replace('GMT', offset), 'as a mail date');
+    for (const form of ['rfc3339', 'iso8601']) checks.same(plainly(p.parse(p.format(moment, form), form)), plainly(moment), form);
   }
 }
 
@@ -176,10 +258,14 @@ function testWritten(p, checks) {
 export function test(p, checks) {
   testTables(p, checks);
   testParts(p, checks);
+  testPartsOfIso(p, checks);
+  testNames(p, checks);
   testInstants(p, checks);
   testOffsets(p, checks);
   testBesideDate(p, checks);
   testBesideTemporal(p, checks);
+  testStrftime(p, checks);
   testDescriptions(p, checks);
   testWritten(p, checks);
+  testWrittenOffsets(p, checks);
 }

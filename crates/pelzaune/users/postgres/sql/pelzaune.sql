@@ -23,6 +23,7 @@ SELECT pelzaune_try_date('31.04.1985', '%d.%m.%Y') IS NULL AS is_null;
 SELECT * FROM pelzaune_place('1985-13-12T23:20:50Z');
 SELECT pelzaune_date('31.04.1985', '%d.%m.%Y');
 SELECT pelzaune_try_date('31.04.1985', '[dya]');
+SELECT pelzaune_try_date('31.04.1985', 'iso-8601');
 SELECT pelzaune_timestamptz('1985-04-12_23:20:50Z');
 SELECT pelzaune_time(repeat('0', 1048577));
 

@@ -8,6 +8,7 @@ YEAR = "the 'year' component could not be parsed"
 MONTH = "the 'month' component could not be parsed"
 SEPARATOR = "the 'separator' component could not be parsed"
 MISSING = "the `Parsed` struct did not include enough information to construct the type"
+NO_FORMAT = "format must be rfc3339, rfc2822, iso8601, or a description with % or ["
 NO_YEAR = "the 'year' component has no text in that format"
 LOG = "%d/%b/%Y:%H:%M:%S %z"
 
@@ -127,7 +128,6 @@ ERRORS = [
     (r"date(E'2021-\x1b', '[year]-[month]')", "22007", MONTH, r'Expected month at index 5 of "2021-\x1b".'),
     ("date(repeat('y', 101))", "22007", YEAR, f'Expected year at index 0 of "{"y" * 100}...".'),
     ("date('2021', 'RFC3339')", "22007", LITERAL, "Expected '-' at index 4 of \"2021\"."),
-    ("date('2021', 'RFC-3339')", "22007", LITERAL, "Expected 'R' at index 0 of \"2021\"."),
     # in a description with a %, brackets are literal bytes
     ("time('23:59:59.5', '%H:%M:%S.[subsecond]')", "22007", LITERAL, "Expected '[' at index 9 of \"23:59:59.5\"."),
     # an hour of 24 is invalid
@@ -153,7 +153,13 @@ ERRORS = [
 # Errors of formats, which functions with try_ raise too.
 ERRORS_OF_FORMATS = [
     ("date('2021', '[yaer]')", "22007", "no component has that name", 'At index 1 of the format "[yaer]".'),
-    ("date('', repeat('x', 65))", "22007", "the description is too long", f'The format is "{"x" * 65}".'),
+    ("date('', repeat('x', 64) || '%Y')", "22007", "the description is too long", f'The format is "{"x" * 64}%Y".'),
+    # A misspelled name isn't taken for a description.
+    ("date('2021', 'RFC-3339')", "22007", NO_FORMAT, 'The format is "RFC-3339".'),
+    ("timestamptz('2021', 'rfc339')", "22007", NO_FORMAT, 'The format is "rfc339".'),
+    ("timestamp('iso-8601', 'iso-8601')", "22007", NO_FORMAT, 'The format is "iso-8601".'),
+    ("time('x', '')", "22007", NO_FORMAT, 'The format is "".'),
+    ("unix_ns('x', repeat(' ', 1048576))", "22007", NO_FORMAT, f'The format is "{" " * 100}...".'),
     ("date('2021', '%Q')", "22007", "no component has that name", 'At index 1 of the format "%Q".'),
     ("timestamptz('2021', 'rfc[3339')", "22007", "no component has that name", 'At index 4 of the format "rfc[3339".'),
     ("timestamp(repeat('x', 2000000), '[yaer]')", "22007", "no component has that name", 'At index 1 of the format "[yaer]".'),
@@ -169,6 +175,8 @@ ERRORS_ALONE = [
     ("text('1880-01-01 00:00:00+00', 'rfc3339', 'Europe/Berlin')", "22008", "the 'offset second' component has no text in that format", ""),
     ("text('1880-01-01 00:00:00+00', '%H:%M %z', 'Europe/Berlin')", "22008", "the 'offset second' component has no text in that format", ""),
     ("place('x', '[yaer]')", "22007", "no component has that name", 'At index 1 of the format "[yaer]".'),
+    ("place('x', 'rfc3339 ')", "22007", NO_FORMAT, 'The format is "rfc3339 ".'),
+    ("text('2021-01-02 00:00:00+00', 'rfc822')", "22007", NO_FORMAT, 'The format is "rfc822".'),
     ("text('infinity')", "22008", "timestamp out of range", ""),
     ("text('-infinity')", "22008", "timestamp out of range", ""),
     ("text('294276-12-31 23:59:59.999999+00')", "22008", NO_YEAR, ""),

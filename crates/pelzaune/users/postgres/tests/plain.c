@@ -73,7 +73,7 @@ static void take(const char *format, const char *text)
 
 static void test_texts(void)
 {
-    static const char *const formats[] = { "", "rfc3339", "rfc2822", "iso8601", "[", "[year]", "\\[", "]", "[[[", "[optional [", "[first ",
+    static const char *const formats[] = { "", "rfc3339", "rfc2822", "iso8601", "rfc339", "[", "[year]", "\\[", "]", "[[[", "[optional [", "[first ",
         "[year padding:]", "[year :]", "[ year padding:none ]-[MONTH repr:Long]", "%Y-%m-%d %H:%M:%S %z", "%", "%-", "%_d%0e%-H",
         "%c%D%x%F%R%T%X%r%n%t%%%s%u%w%U%V%W%j%k%l%p%P%a%A%b%h%B%C%g%G%y%I", "[optional [[hour]:[minute]]] [first [[ordinal]] [\\[x\\]]]",
         "[first [a] [b[optional [c]]]]", "[unix_timestamp precision:nanosecond sign:mandatory]", "[unix_timestamp precision:millisecond]",

@@ -14,8 +14,8 @@ datetime.date(2021, 1, 2)
 day is out of range for the other components | day
 
 A format is a member of `Format` (which are also attributes of the module), its name in any case, or a description.
-`Format.RFC3339`, the default, accepts `T`, `t` or a space between date and time. A description is one of strftime if it
-contains a `%`, and otherwise one in brackets:
+`Format.RFC3339`, the default, accepts `T`, `t` or a space between date and time. A misspelled name, which contains neither
+a `%` nor a `[`, raises ValueError. A description is one of strftime if it contains a `%`, and otherwise one in brackets:
 
 >>> pelzaune.parse("02/Jan/2021:03:04:05 +0000", "%d/%b/%Y:%H:%M:%S %z")
 datetime.datetime(2021, 1, 2, 3, 4, 5, tzinfo=datetime.timezone.utc)
@@ -54,7 +54,7 @@ Lines and texts without an offset may have one from an argument: a tzinfo, an of
 >>> pelzaune.parse_many(["1970-01-02T00:00:00"], "iso8601", offset="+01:00")
 array('q', [82800000000000])
 
-A datetime is formatted too, also in another time zone:
+A datetime is formatted too, by a member of `Format` or its name, also in another time zone:
 
 >>> pelzaune.format_datetime(pelzaune.parse("1985-04-12T23:20:50.52-08:30"), "rfc2822")
 'Fri, 12 Apr 1985 23:20:50 -0830'

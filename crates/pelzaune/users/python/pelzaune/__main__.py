@@ -3,7 +3,7 @@
     python -m pelzaune [--format FORMAT] [TEXT..]
 
 The format is rfc3339, rfc2822, iso8601 or a description. Without a text it reads lines of standard input. The exit status
-is 0 if all texts were parsed, 1 if one was rejected, and 2 for wrong arguments.
+is 0 if all texts were parsed, 1 if one was rejected, and 2 for wrong arguments, such as an unknown format.
 """
 import argparse
 import os
@@ -21,12 +21,12 @@ def options():
 
 
 def check(parser, form):
-    """Exits with status 2 if the format is a malformed description."""
+    """Exits with status 2 if the format is neither a name nor a valid description."""
     try:
         pelzaune.column(b"", form)
-    except pelzaune.DescriptionError as error:
-        at = "" if error.index is None else f", at index {error.index}"
-        parser.error(f"argument --format: {error}{at}")
+    except ValueError as error:
+        index = getattr(error, "index", None)
+        parser.error(f"argument --format: {error}" if index is None else f"argument --format: {error}, at index {index}")
 
 
 def line_of(text, form):

@@ -117,6 +117,7 @@ static PyObject *parse_parts(GIVEN)
     pelzaune_status each[] = { p.date_status, p.time_status, p.offset_status };
     for (int k = 0; k < 3; k++)
         if (each[k] != PELZAUNE_OK && each[k] != PELZAUNE_INSUFFICIENT) return refuse(each[k], &asked);
+    if (each[0] && each[1] && each[2]) return raise(parse_error, "the text has no complete date, time or offset", Py_NewRef(Py_None));
     PyObject *date = p.date_status ? Py_NewRef(Py_None) : date_of(&p.date);
     /* After a raised error no more Python code is called. */
     PyObject *time = !date ? NULL : p.time_status ? Py_NewRef(Py_None) : time_of(&p.time);
@@ -159,7 +160,7 @@ static PyMethodDef methods[] = {
     CALL(parse_date, OF_TEXT, "The date of a whole text. Raises ParseError, also outside the years 1 to 9999."),
     CALL(parse_time, OF_TEXT, "The time of a whole text, without a zone. Digits after the microsecond are dropped. Raises ParseError."),
     CALL(parse_parts, OF_TEXT, "The date, the time and the zone of a whole text, each None if the text has too little of it.\n\n"
-        "Raises ParseError."),
+        "Raises ParseError, also if the text has too little of each."),
     CALL(unix_ns, OF_TEXT, "The nanoseconds from 1970-01-01T00:00:00Z to the instant of a whole text, which needs an offset.\n\n"
         "They are exact, and of any size. Raises ParseError."),
     CALL(column, "(text, format=RFC3339, offset=None)", "The nanoseconds of each line of a text, as array('q'). A rejected line has NO_COUNT.\n\n"
@@ -178,8 +179,9 @@ static PyMethodDef methods[] = {
         "such texts. An object that isn't a text raises TypeError."),
     CALL(_parse_present, "(texts, format, errors, offset, missing)", "As parse_many, if some objects stand for a missing text: for pelzaune.pandas."),
     CALL(format_datetime, "(value, format=RFC3339, zone=None)", "The text of a datetime that has a zone.\n\n"
-        "It is in another zone, if there is an argument: a tzinfo, an offset such as '+05:30', or the name of a time zone. A\n"
-        "Timestamp of pandas keeps its nanoseconds. Raises FormatError if the datetime has no text in that format."),
+        "The format is a member of Format or its name: a description only parses. The text is in another zone, if there is an\n"
+        "argument: a tzinfo, an offset such as '+05:30', or the name of a time zone. A Timestamp of pandas keeps its\n"
+        "nanoseconds. Raises FormatError if the datetime has no text in that format."),
     { NULL, NULL, 0, NULL },
 };
 

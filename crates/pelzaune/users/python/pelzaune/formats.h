@@ -89,7 +89,17 @@ static int describe(const uint8_t *bytes, size_t length, pelzaune_description *o
     return 0;
 }
 
-/* Gets a format of its text: a name, or a description. */
+/* Raises an error that lists the formats, for a text that is neither a name nor a description. It isn't a ParseError, since
+ * callers catch that for each of many texts. */
+static int refuse_name(const uint8_t *bytes, size_t length)
+{
+    PyObject *text = PyUnicode_DecodeUTF8((const char *)bytes, (Py_ssize_t)(length < 80 ? length : 80), "replace");
+    PyObject *shown = text ? PyObject_Repr(text) : NULL;
+    Py_XDECREF(text);
+    return refuse_format(PyExc_ValueError, shown);
+}
+
+/* Gets a format of its text: a name, or a description, which has a % or a [. A text with neither is a misspelled name. */
 static inline int format_of_text(PyObject *format, question *asked)
 {
     size_t length;
@@ -99,6 +109,7 @@ static inline int format_of_text(PyObject *format, question *asked)
     if (!bytes) return 0;
     asked->number = number_of_name(bytes, length);
     if (asked->number) return 1;
+    if (!memchr(bytes, '%', length) && !memchr(bytes, '[', length)) return refuse_name(bytes, length);
     asked->held = &asked->read;
     asked->form = format;
     return describe(bytes, length, &asked->read);

@@ -56,11 +56,11 @@ class Arguments(unittest.TestCase):
         with self.assertRaises(TypeError):
             form < form
         made = pelzaune.Description.__new__(pelzaune.Description, "%Y")
-        self.assertEqual(pelzaune.parse_parts("2021", made), (None, None, None))
+        self.assertRaises(pelzaune.ParseError, pelzaune.parse_parts, "2021", made)
         before = sys.getrefcount(form)
         for _ in range(1000):
             pelzaune.column("2021", form)
-            pelzaune.parse_parts("2021", form)
+            self.assertRaises(pelzaune.ParseError, pelzaune.parse_parts, "2021", form)
         self.assertEqual(sys.getrefcount(form), before)
 
     def test_values_to_write(self):
@@ -101,7 +101,7 @@ class Texts(unittest.TestCase):
 
     def test_beginnings_of_descriptions(self):
         for form in ("[year]-[month repr:short][optional [[day]]][first [Z] [\\[]]", "%a, %d %b %Y %H:%M:%S %z %%"):
-            for length in range(len(form) + 1):
+            for length in range(1, len(form) + 1):
                 for text in TEXTS:
                     self.answered(pelzaune.parse, text, form[:length])
                     self.answered(pelzaune.parse, text, form[:length].encode())
@@ -128,8 +128,10 @@ class Texts(unittest.TestCase):
         for _ in range(20000):
             text = bytes(r.choice(letters) for _ in range(r.randrange(40)))
             form = r.choice(FORMATS + (text,))
-            self.answered(r.choice(OF_TEXT), text, form)
-
+            if form == text and not {*b"%["} & {*text}:
+                self.assertRaisesRegex(ValueError, "format must be", r.choice(OF_TEXT), text, form)
+            else:
+                self.answered(r.choice(OF_TEXT), text, form)
 
     def test_huge(self):
         """A text of more than 2**31 bytes, whose memory the system allocates only as it is read."""

@@ -226,14 +226,23 @@ class Interrupts(unittest.TestCase):
             signal.signal(signal.SIGPROF, before)
 
     def test_calls(self):
-        # Each of these takes some seconds.
-        lines, out = LINE * 10**7, array.array("q", [0]) * 10**6
+        # Without a signal each of these takes at least 0.2 seconds.
+        lines, out = LINE * 10**7, array.array("q", [0]) * 10**7
         mail = b"Fri, 02 Jan 1970 00:00:00 GMT\n" * 5 * 10**6
         for call, *given in ((pelzaune.column, lines), (pelzaune.column_into, lines, out), (pelzaune.column, memoryview(lines)), (pelzaune.column, mail, "rfc2822"),
                              (pelzaune.column, b"\n" * 10**8), (pelzaune.column, lines, "%Y-%m-%dT%H:%M:%SZ", "+01:00"),
                              (pelzaune.column, LINE.replace(b"Z", b"") * 10**7, "iso8601", "Europe/Berlin")):
-            with self.subTest(call=call.__name__, given=given[1:]):
+            with self.subTest(call=call.__name__, given=[it for it in given if isinstance(it, str)]):
                 self.assertLess(min(self.late(call, *given) for _ in range(3)), self.MOST)
+
+    def test_texts(self):
+        text, mail = LINE[:-1].decode(), "Fri, 02 Jan 1970 00:00:00 GMT"
+        texts, others = [text] * 10**7, [text, "?", mail, b"\xff", "\u00e9"] * 10**6
+        for given in ((texts,), (itertools.repeat(text, 10**8),), (others, "rfc3339", "coerce"), (others, "%d.%m.%Y", "none"), ([mail] * 10**7, "rfc2822"),
+                      (["1", "-1"] * 5 * 10**6, "[unix_timestamp]"), (texts, "iso8601", "raise", "+01:00"),
+                      ([text[:-1]] * 10**7, "iso8601", "coerce", "Europe/Berlin")):
+            with self.subTest(given=given[1:]):
+                self.assertLess(min(self.late(pelzaune.parse_many, *given) for _ in range(3)), self.MOST)
 
     def test_state_after(self):
         lines = bytearray(LINE * 10**7)

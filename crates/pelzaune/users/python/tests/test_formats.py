@@ -39,7 +39,7 @@ class Formats(unittest.TestCase):
                 self.assertEqual(pelzaune.parse(pelzaune.format_datetime(datetime.datetime(1970, 1, 2, tzinfo=UTC), it), it).timestamp(), 86400)
 
     def test_no_formats(self):
-        """An error lists the choices. What is no name is a description of these bytes."""
+        """An error lists the choices."""
         choices = "format must be RFC3339, RFC2822, ISO8601, a Description, or the text of one, not "
         for call in (pelzaune.parse, pelzaune.unix_ns, pelzaune.column, pelzaune.parse_many):
             given = [] if call is pelzaune.parse_many else "2021"
@@ -51,8 +51,18 @@ class Formats(unittest.TestCase):
                 with self.assertRaises(TypeError) as caught:
                     call(given, wrong)
                 self.assertEqual(str(caught.exception), choices + shown)
-        for text in ("rfc3339 ", "rfc3339\0", "rfc822", "rfc-3339"):
-            self.assertEqual(pelzaune.parse_parts(text, text), (None, None, None))
+            # A text with neither a % nor a [ is no description of its literal bytes.
+            for wrong in ("rfc3339 ", "rfc3339\0", "rfc822", "rfc-3339", "RFC-3339", "rfc339", "", "]", "\u00e9"):
+                for it in (wrong, wrong.encode()):
+                    with self.assertRaises(ValueError) as caught:
+                        call(given and it, it)
+                    self.assertEqual((type(caught.exception), str(caught.exception)), (ValueError, f"{choices}{wrong!r}"))
+            with self.assertRaises(ValueError) as caught:
+                call(given, b"\xff" + b"x" * 10**6)
+            self.assertEqual(str(caught.exception), choices + repr("\ufffd" + "x" * 79))
+        self.assertRaisesRegex(ValueError, "format must be .*, not 'iso-8601'", pelzaune.format_datetime, datetime.datetime(2021, 1, 2, tzinfo=UTC), "iso-8601")
+        # A Description may be one of literal bytes.
+        self.assertEqual(pelzaune.column("rfc3339\n", pelzaune.Description("rfc3339")).tolist(), [pelzaune.NO_COUNT])
 
 
 class Objects(unittest.TestCase):

@@ -63,6 +63,16 @@ class Answers(unittest.TestCase):
         self.assertEqual(many(["19700102T000000Z"], pelzaune.ISO8601), [86400 * 10**9])
         self.assertEqual(many(["1", "-1"], "[unix_timestamp]"), [10**9, -(10**9)])
 
+    def test_errors(self):
+        texts = [TEXT, "?", b"1970-13-01T00:00:00Z", TEXT]
+        for errors in ("none", "coerce"):
+            answer = pelzaune.parse_many(texts, errors=errors)
+            self.assertEqual([(type(it), it.typecode, it.tolist()) for it in answer],
+                             [(array.array, "q", [10**9, pelzaune.NO_COUNT, pelzaune.NO_COUNT, 10**9]), (array.array, "q", [1, 2])])
+            self.assertEqual(many(iter(texts * MANY), "rfc3339", errors), (answer[0].tolist() * MANY, [k for k in range(4 * MANY) if k % 4 in (1, 2)]))
+            self.assertEqual(many([TEXT], errors=errors), ([10**9], []))
+        self.assertRaises(pelzaune.ParseError, pelzaune.parse_many, texts, errors="raise")
+
     def test_each_text_as_alone(self):
         for count in (1, 255, 8191, 8192, 8193, MANY):
             texts = made_texts(count)
@@ -143,6 +153,7 @@ class Refusals(unittest.TestCase):
         for texts in ([], [TEXT]):
             for errors in ("raise", "none"):
                 self.assertRaisesRegex(ValueError, "format must be", pelzaune.parse_many, texts, 9, errors)
+                self.assertRaisesRegex(ValueError, "format must be", pelzaune.parse_many, texts, "rfc-3339", errors)
                 self.assertRaises(pelzaune.DescriptionError, pelzaune.parse_many, texts, "[year]-[moth]", errors)
                 self.assertRaises(pelzaune.DescriptionError, pelzaune.parse_many, texts, "%Y\ud800", errors)
 

@@ -11,6 +11,7 @@ import numpy
 import pandas
 import pelzaune
 import pelzaune.pandas
+import test_files
 from pelzaune.pandas import to_datetime
 
 TEXT, LOG = "1970-01-01T00:00:01Z", "%d/%b/%Y:%H:%M:%S %z"
@@ -119,6 +120,12 @@ class Times(unittest.TestCase):
         for offset in ("+01:00", datetime.timezone(datetime.timedelta(hours=1)), "Europe/Berlin"):
             self.same(to_datetime(pandas.Series(texts), "iso8601", offset=offset), [ONE, pandas.NaT, ONE])
         pandas.testing.assert_index_equal(to_datetime(texts, offset="+01:00"), pandas.DatetimeIndex([ONE, pandas.NaT, ONE]))
+
+    def test_interrupted(self):
+        for given in ((pandas.Series([TEXT] * 10**7),), ([TEXT, None, "?"] * 3 * 10**6, LOG, "coerce"), (numpy.array([TEXT] * 10**7), "iso8601", "raise", "+01:00")):
+            with self.subTest(given=given[1:]):
+                interrupts = test_files.Interrupts()
+                self.assertLess(min(interrupts.late(to_datetime, *given) for _ in range(3)), interrupts.MOST)
 
     def test_left_as_it_was(self):
         texts = pandas.Series([TEXT, None, "?"], name="at")

@@ -88,7 +88,7 @@ class Values(unittest.TestCase):
                 self.assertEqual(pelzaune.parse(when.strftime(form), form), datetime.datetime.strptime(when.strftime(form), form))
 
     def test_read_descriptions(self):
-        for text in ("%d/%b/%Y:%H:%M:%S %z", b"[year]-[month]-[day]", "[year]-[month][optional [-[day]]]", ""):
+        for text in ("%d/%b/%Y:%H:%M:%S %z", b"[year]-[month]-[day]", "[year]-[month][optional [-[day]]]", "%%"):
             form = pelzaune.Description(text)
             self.assertEqual((form.text, form), (text, pelzaune.Description(text)))
             self.assertEqual(repr(form), f"pelzaune.Description({text!r})")
@@ -113,6 +113,16 @@ class Values(unittest.TestCase):
         self.assertRaises(pelzaune.ParseError, pelzaune.parse_parts, "2021-02-30T03:04:05Z")
         # Neither datetime's date nor its timezone can represent these.
         self.assertRaisesRegex(pelzaune.ParseError, "year", pelzaune.parse_parts, "0000-05-13 +2559", "%Y-%m-%d %z")
+
+    def test_no_part(self):
+        """A text without a complete date, time or offset, though it matches its format."""
+        for text, form in (("2021", "%Y"), ("2021-01", "[year]-[month]"), (":30", ":[minute]"), ("", "[optional [[hour]]]"), ("x", pelzaune.Description("x")),
+                           ("10", "[subsecond]")):
+            with self.assertRaises(pelzaune.ParseError) as caught:
+                pelzaune.parse_parts(text, form)
+            self.assertEqual((str(caught.exception), caught.exception.component, caught.exception.index),
+                             ("the text has no complete date, time or offset", None, None))
+        self.assertEqual(pelzaune.parse_parts("+05", "[offset_hour]"), (None, None, zone(300)))
 
     def test_zones_are_kept_apart(self):
         for seconds in [*range(-86340, 86400, 60), *range(-86399, 86400, 977)] * 2:
@@ -248,7 +258,7 @@ class Refusals(unittest.TestCase):
             pelzaune.Description("[year]-[moth]")
         self.assertEqual((str(caught.exception), caught.exception.index), ("no component has that name", 8))
         with self.assertRaises(pelzaune.DescriptionError) as caught:
-            pelzaune.parse("2021", "-" * 65)
+            pelzaune.parse("2021", "-" * 64 + "%Y")
         self.assertEqual((str(caught.exception), caught.exception.index), ("the description is too long", None))
 
     def test_texts(self):
@@ -300,7 +310,8 @@ class Program(unittest.TestCase):
 
     def test_arguments(self):
         self.assertEqual(self.run_on("--version"), (f"pelzaune {pelzaune.__version__}\n", "", 0))
-        for form, reason in (("[yaer]", "no component has that name, at index 1"), ("-" * 65, "the description is too long")):
+        for form, reason in (("[yaer]", "no component has that name, at index 1"), ("[day]" + "-" * 64, "the description is too long"),
+                             ("RFC-3339", "format must be RFC3339, RFC2822, ISO8601, a Description, or the text of one, not 'RFC-3339'")):
             out, error, status = self.run_on("--format=" + form, "2021")
             self.assertEqual((out, error.split("\n")[-2], status), ("", f"python -m pelzaune: error: argument --format: {reason}", 2))
         self.assertEqual(self.run_on("--form")[2], 2)

@@ -10,6 +10,9 @@ import { chromiumTab } from './chromium.mjs';
 import { firefoxTab } from './firefox.mjs';
 import { openSocket } from './websocket.mjs';
 
+/** The time zone of the browsers. */
+export const TIME_ZONE = 'Asia/Tokyo';
+
 const START_MILLISECONDS = 90000;
 const COMMAND_MILLISECONDS = 600000;
 
@@ -123,7 +126,7 @@ export async function withBrowser(name, use) {
     await writeFile(join(profile, 'user.js'), rows.join(''));
   }
   const child = spawn(program, words(profile), {
-    detached: true, stdio: ['ignore', 'ignore', 'pipe'], env: { ...process.env, HOME: profile, MOZ_HEADLESS: '1' },
+    detached: true, stdio: ['ignore', 'ignore', 'pipe'], env: { ...process.env, HOME: profile, MOZ_HEADLESS: '1', TZ: TIME_ZONE },
   });
   try {
     const wire = await connection((await addressOf(child)) + path);

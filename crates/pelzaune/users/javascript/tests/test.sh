@@ -50,7 +50,7 @@ else
     echo "skipped: the types, since there is no tsc (Debian: node-typescript)"
 fi
 
-# The module is as small as its page says.
+# The module is at most as large as its page states.
 whole=$(wc -c < "$package/pelzaune.wasm") compressed=$(gzip -9n < "$package/pelzaune.wasm" | wc -c)
 echo "pelzaune.wasm: $whole bytes, $compressed compressed"
 test "$whole" -le 320000

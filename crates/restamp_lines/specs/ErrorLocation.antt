@@ -248,7 +248,7 @@ abbrev pub why_text : List ℕ → Reason → Option MissingField → List ℕ
 why_text zone reason None = text_with zone reason
 why_text zone reason (Some missing_field) = missing_field_text missing_field
 
--- The missing part of a rejected line has at most one result, a part or `None`, even if the line lacks several parts.
+-- For a rejected line and its reason, `IsMissingField` has at most one result, even if several parts are missing.
 abbrev pub OneMissingField : Type 0
 OneMissingField =
     (job : Job) (line : List ℕ) (reason : Reason) (result other : Option MissingField)

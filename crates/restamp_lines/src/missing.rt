@@ -212,7 +212,7 @@ impl fmt::Display for Why<'_> {
     }
 }
 
-/// The missing part of a rejected line has at most one result, a part or `None`, even if the line lacks several parts.
+/// For a rejected line and its reason, `IsMissingField` has at most one result, even if several parts are missing.
 #[tactic(auto, using(crate::proofs::OneErrorLocation::one_missing_field))]
 pub fn law_one_missing_field()
     ensures { spec.OneMissingField }

@@ -54,7 +54,7 @@ pub record IsMoment (s : MomentNumbers) (v : OffsetDateTime) : Type 0 where
   pub clock : HasClock s.hour s.minute (moment_second s) (moment_nanosecond s) (offset_time v)
   pub offset : HasOffset s.offset_hour s.offset_minute (pos 0) (offset_of v)
 
--- if the second is 60, the moment is the last nanosecond of a month in UTC
+-- if the second is 60, the moment (then of 59.999999999 seconds) is the last nanosecond of a month in UTC
 unfoldable pub IsLeapSecondValid : ℕ → MomentNumbers → OffsetDateTime → Type 0
 IsLeapSecondValid Y s v = s.second ≡ 60 → IsLeapSecondMoment Y (offset_instant Y v)
 

@@ -12,8 +12,8 @@ use crate::combinator::{
 use crate::{Integer, Padding, ParsedItem, Sign};
 use std::num::NonZero;
 
-// Parses `N` to `M` digits with the given padding, as their decimal value; `Padding::None` allows 1 to `M` digits.
-// The type must hold every number of `M` digits. Returns `None` if the input doesn't begin with such a number.
+// Parses a decimal number of `N` to `M` bytes with the given padding; `Padding::None` allows 1 to `M` digits. The type
+// must hold every number of `M` digits. Returns `None` if the input doesn't begin with such a number.
 #[inline(always)]
 fn run<const N: u8, const M: u8, T: Integer>(
     input: &[u8],

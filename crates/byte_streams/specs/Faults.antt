@@ -17,7 +17,7 @@ count_more before n = min (before + n) (2 ^ 64 - 1)
 abbrev pub HasGiven : {E : Type 0} → Result ℕ E → ℕ → ℕ → Type 0
 HasGiven result before now = MatchResult result (λ n. now ≡ count_more before n) (λ _. now ≡ before)
 
--- The count of failed calls rose, or a source has returned 2^64 - 1 bytes or more.
+-- The count of failed calls rose (`Rises`), or a source has returned 2^64 - 1 bytes or more.
 abbrev pub IsCutOff : ℕ → ℕ → ℕ → Type 0
 IsCutOff before now given = Rises before now ⊎ (2 ^ 64 - 1 ≤ given)
 

@@ -123,8 +123,8 @@ pub extern "C" fn pelzaune_parse_instant(format: u32, text: &[u8], out: &mut Ins
 
 /// Parses a whole text by the format with this number, and stores the nanoseconds from 1970-01-01T00:00:00Z to its
 /// moment in `out`. A text without an offset is rejected. A leap second is valid only at the end of a month in UTC, and
-/// becomes the last nanosecond before it. Returns 0; or the error's status, 7 if they don't fit 64 bits, 8 for an
-/// unknown format, and leaves `out` unchanged.
+/// becomes the last nanosecond before it. Returns 0; or the error's status, 7 if the nanoseconds don't fit 64 bits, 8
+/// for an unknown format, and leaves `out` unchanged.
 #[unsafe(no_mangle)]
 pub extern "C" fn pelzaune_parse_nanoseconds(format: u32, text: &[u8], out: &mut Nanoseconds) -> u32
     ensures { StoresCount (format_of format) text.now result out.old out.new }

@@ -73,7 +73,11 @@ unknown_format = 8
 abbrev pub unknown_syntax : ℕ
 unknown_syntax = 17
 
--- The text of a status of this kind that names that component; empty for a kind outside 1 to 18. For the kinds of parse
+-- The status of a moment whose text by a description has more than 1024 bytes.
+abbrev pub text_too_long : ℕ
+text_too_long = 19
+
+-- The text of a status of this kind that names that component; empty for a kind outside 1 to 19. For the kinds of parse
 -- errors, 1 to 6, it is the error's text.
 abbrev pub kind_text : ℕ → List ℕ → List ℕ
 kind_text kind name =
@@ -95,6 +99,7 @@ kind_text kind name =
     if nat_eq kind 16 then codes "the description is too long" else
     if nat_eq kind 17 then codes "no syntax of descriptions has that number" else
     if nat_eq kind 18 then codes "the '" ++ name ++ codes "' component has no text in that format" else
+    if nat_eq kind 19 then codes "the text has more than 1024 bytes" else
     []
 
 -- The text of a status: of the kind `status % 256` and the component with the number `status / 256`.

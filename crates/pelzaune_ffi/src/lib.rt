@@ -20,6 +20,7 @@ macro_rules! by_description {
 
 pub mod columns;
 pub mod descriptions;
+pub mod formatting;
 mod lines;
 pub mod locating;
 pub mod moments;

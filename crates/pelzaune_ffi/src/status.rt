@@ -19,6 +19,9 @@ pub const TOO_LONG: u32 = 16;
 /// The status of a call with a number that no syntax has.
 pub const UNKNOWN_SYNTAX: u32 = 17;
 
+/// The status of a moment whose text by a description has more than 1024 bytes.
+pub const TEXT_TOO_LONG: u32 = 19;
+
 // The number of a component's name, 1 to 23, or 0 for any other name.
 fn component_number(name: &str) -> u32
     ensures { result ≡ Status.component_number name.now }

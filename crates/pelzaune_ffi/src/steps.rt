@@ -159,7 +159,7 @@ macro_rules! signed {
     };
 }
 
-// Components with one modifier of yes or no: a mandatory sign, case sensitivity, or days that count from 1.
+// Components whose only modifier is a bool: a mandatory sign, case sensitivity, or days that count from 1.
 macro_rules! flagged {
     (step $name:ident, $stored:ident, $padding:ident, $flag:ident, $field:ident) => {
         Step::Component(Component::$name(modifier::$name { $field: $flag }))

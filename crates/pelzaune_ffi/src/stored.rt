@@ -37,7 +37,7 @@ pub struct StoredDescription {
 }
 
 // The steps that the stored steps encode, in their order.
-fn steps_of(stored: &[StoredStep]) -> ArrayVec<Step, MOST_STEPS>
+pub(crate) fn steps_of(stored: &[StoredStep]) -> ArrayVec<Step, MOST_STEPS>
     requires { length stored.now ≤ MOST_STEPS }
     ensures { result.items ≡ map Described.step_of stored.now }
 {
@@ -89,7 +89,7 @@ fn read_front<'s, 'a>(
 
 // The stored steps in use: the first `count`, or all if there are fewer.
 #[inline(always)]
-fn steps_in_use(stored: &StoredDescription) -> &[StoredStep]
+pub(crate) fn steps_in_use(stored: &StoredDescription) -> &[StoredStep]
     ensures steps { map Described.step_of result.now ≡ Described.steps_of stored.now }
     ensures fits { length result.now ≤ MOST_STEPS }
 {

@@ -47,7 +47,7 @@ fn local_of(parts: &MomentParts) -> Result<PlainDateTime, ComponentRange>
 
 // The moment with these parts, or the error of the first that is out of range: that of the date and time, or else of
 // the offset.
-fn moment_of(parts: &MomentParts) -> Result<OffsetDateTime, ComponentRange>
+pub(crate) fn moment_of(parts: &MomentParts) -> Result<OffsetDateTime, ComponentRange>
     ensures { Constructs (moment_refusal parts.now) (λ v. HasMoment v parts.now) result }
 {
     let local = local_of(parts)?;

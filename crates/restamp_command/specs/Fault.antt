@@ -110,8 +110,8 @@ place_of (since value why) = Some (codes "--since <TIME>", value)
 place_of (until value why) = Some (codes "--until <TIME>", value)
 place_of (in_place value) = Some (codes "--in-place[=<SUFFIX>]", value)
 
--- the text of an error; `None`, which means that none is specified, if a description has an unknown word, or if a
--- zone's file can't be read or is malformed
+-- the text of an error; `None`, which means that none is specified, for a description's error that quotes one of its
+-- words, and if a zone's file or the folder of zones can't be read, or a zone's file is malformed
 abbrev pub why_text : Fault → Option (List ℕ)
 why_text memory = Some (codes "out of memory")
 why_text (field value) = Some (codes "it is not a number from 1 to 18446744073709551615")

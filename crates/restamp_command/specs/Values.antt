@@ -135,8 +135,8 @@ IsNamedAt now given w result =
     (offset : UtcOffset) × IsDayOffset given offset
     × IsMomentAt (nanos_of (utc_instant greatest_year now) offset w) result
 
--- The moment of a word by the clock. Days start in the default zone, or else at the default offset, or else in UTC. An
--- error if the moment is out of range, or the day has no start in the zone.
+-- The moment of a word by the clock. Days start in the default zone, or else at the default offset, or else in UTC; a
+-- `Later` depends on none of these. An error if a moment is out of range, or the day has no start in the zone.
 abbrev pub IsMomentFrom : UtcDateTime → Defaults → Word → Result OffsetDateTime TimeArgError → Type 0
 IsMomentFrom now defaults (word.Later number u) result =
     IsNamedAt now defaults.offset (word.Later number u) result

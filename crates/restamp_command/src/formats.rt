@@ -25,8 +25,8 @@ pub(crate) fn is_zoned(name: &str) -> bool
 }
 
 // The format that the text names or describes. An error if there is none, if all its texts omit a part of a moment that
-// no default supplies, or if the zones of the system, which RFC 9557 uses, can't be read. `has_year` is whether there
-// is a default year.
+// no default supplies, or if it is RFC 9557 and the zones of the system can't be read. `has_year` is whether there is a
+// default year.
 fn find_format<'a, R: Env + Files + AllocGlobal + Clone + Drop>(
     rt: &R,
     name: &'a str,

@@ -52,7 +52,7 @@ module _ (v : OffsetDateTime) where
   and_then_ok (Ok mid) next bytes e = (mid, refl, e)
   and_then_ok (Err why) next bytes e = absurd cc
 
-  nothing_is : (before bytes : List ℕ) → texts_after greatest_year v before none ≡ Ok bytes → bytes ≡ before ++ []
+  nothing_is : (before bytes : List ℕ) → texts_after 35 greatest_year v before none ≡ Ok bytes → bytes ≡ before ++ []
   nothing_is before bytes e = let same : bytes ≡ before = cc in same ∙ sym (append-nil before)
 
   -- the text of joined pieces
@@ -78,23 +78,23 @@ module _ (v : OffsetDateTime) where
 
   -- a tree appends its text
   mutual
-    text_is : (t : Tree) (before bytes : List ℕ) → text_after greatest_year v before t ≡ Ok bytes
+    text_is : (t : Tree) (before bytes : List ℕ) → text_after 35 greatest_year v before t ≡ Ok bytes
         → bytes ≡ before ++ whole_text v (pieces t)
     text_is (literal text) before bytes e =
         rw (append-nil text) (joined_is (nat_le (length (before ++ text)) 35) bytes (before ++ text) Unformattable.TooLong e)
     text_is (component whole c) before bytes e =
-        let (text, is, put) = and_then_ok (component_text greatest_year v c) (joined before) bytes e in
+        let (text, is, put) = and_then_ok (component_text greatest_year v c) (joined 35 before) bytes e in
         rw (is, append-nil text) (joined_is (nat_le (length (before ++ text)) 35) bytes (before ++ text) Unformattable.TooLong put)
     text_is (sequence ts) before bytes e = texts_are ts before bytes e
     text_is (optional t) before bytes e = text_is t before bytes e
     text_is (first_of none) before bytes e = nothing_is before bytes e
     text_is (first_of (more t ts)) before bytes e = text_is t before bytes e
 
-    texts_are : (ts : Trees) (before bytes : List ℕ) → texts_after greatest_year v before ts ≡ Ok bytes
+    texts_are : (ts : Trees) (before bytes : List ℕ) → texts_after 35 greatest_year v before ts ≡ Ok bytes
         → bytes ≡ before ++ whole_text v (all_pieces ts)
     texts_are none before bytes e = nothing_is before bytes e
     texts_are (more t ts) before bytes e =
-        let (mid, first, later) = and_then_ok (text_after greatest_year v before t) (λ b. texts_after greatest_year v b ts) bytes e in
+        let (mid, first, later) = and_then_ok (text_after 35 greatest_year v before t) (λ b. texts_after 35 greatest_year v b ts) bytes e in
         rw (
           text-joined (pieces t) (all_pieces ts),
           ← append_assoc before (whole_text v (pieces t)) (whole_text v (all_pieces ts)),
@@ -106,12 +106,12 @@ module _ (v : OffsetDateTime) where
     mutual
       unfolding Reads ReadsAll ReadsSome
 
-      tree_back : (t : Tree) (later : List Piece) (before bytes : List ℕ) (r new : Record) → text_after greatest_year v before t ≡ Ok bytes
+      tree_back : (t : Tree) (later : List Piece) (before bytes : List ℕ) (r new : Record) → text_after 35 greatest_year v before t ≡ Ok bytes
           → AllStop v (pieces t ++ later) → put_values v (pieces t) r ≡ Some new
           → Reads greatest_year t (whole_text v (pieces t ++ later)) r (whole_text v later) new
       tree_back (literal text) later before bytes r new e stops puts = (refl, sym (same_Some r new puts))
       tree_back (component whole c) later before bytes r new e stops puts =
-          let (text, is, put) = and_then_ok (component_text greatest_year v c) (joined before) bytes e in record {
+          let (text, is, put) = and_then_ok (component_text greatest_year v c) (joined 35 before) bytes e in record {
             text = text;
             value = value_of greatest_year v c;
             cut = ap (λ made. or_nothing made ++ whole_text v later) is;
@@ -124,14 +124,14 @@ module _ (v : OffsetDateTime) where
       tree_back (first_of (more t ts)) later before bytes r new e stops puts =
           inl (tree_back t later before bytes r new e stops puts)
 
-      trees_back : (ts : Trees) (later : List Piece) (before bytes : List ℕ) (r new : Record) → texts_after greatest_year v before ts ≡ Ok bytes
+      trees_back : (ts : Trees) (later : List Piece) (before bytes : List ℕ) (r new : Record) → texts_after 35 greatest_year v before ts ≡ Ok bytes
           → AllStop v (all_pieces ts ++ later) → put_values v (all_pieces ts) r ≡ Some new
           → ReadsAll greatest_year ts (whole_text v (all_pieces ts ++ later)) r (whole_text v later) new
       trees_back none later before bytes r new e stops puts = (refl, sym (same_Some r new puts))
       trees_back (more t ts) later before bytes r new e stops puts =
           let here = pieces t in
           let behind = all_pieces ts ++ later in
-          let (mid, first, next) = and_then_ok (text_after greatest_year v before t) (λ b. texts_after greatest_year v b ts) bytes e in
+          let (mid, first, next) = and_then_ok (text_after 35 greatest_year v before t) (λ b. texts_after 35 greatest_year v b ts) bytes e in
           let (q, put, puts_next) = put-joined here (all_pieces ts) r new puts in
           let flat = append_assoc here (all_pieces ts) later in
           let all = subst (AllStop v) flat stops in
@@ -148,7 +148,7 @@ SaysAll format defaults v bytes = ParsesAs format false bytes defaults (Ok (said
 
 -- the text parses as the moment by a description with the tree
 module _ (d : List Step) (t : Tree) (v : OffsetDateTime) (bytes : List ℕ) (same : steps_shape d ≡ t)
-    (written : text_of greatest_year v t ≡ Ok bytes) where
+    (written : text_of 35 greatest_year v t ≡ Ok bytes) where
   abbrev text : List ℕ
   text = whole_text v (pieces t)
 
@@ -174,7 +174,7 @@ module _ (d : List Step) (t : Tree) (v : OffsetDateTime) (bytes : List ℕ) (sam
       sym (ap (λ refused. if refused then Err negative_fraction else Ok (said v (length bytes))) none)
 
 tree_says : (format : Reading) (defaults : Defaults) (t : Tree) (v : OffsetDateTime) (bytes : List ℕ)
-    → ReadsTree format defaults t v → text_of greatest_year v t ≡ Ok bytes → SaysAll format defaults v bytes
+    → ReadsTree format defaults t v → text_of 35 greatest_year v t ≡ Ok bytes → SaysAll format defaults v bytes
 tree_says (Reading.Described d) defaults t v bytes (same, says) e =
     (Ok (said v (length bytes)), (Ok v, outcome d t v bytes same e defaults says, refl), refl)
 tree_says (Reading.Complete d) defaults t v bytes (same, says) e =
@@ -192,7 +192,7 @@ described_is text (Ok bytes) e =
 described_is text (Err why) e = absurd cc
 
 pub described_back : (format : Reading) (defaults : Defaults) (t : Tree) (v : OffsetDateTime) (text : Items)
-    → ReadsTree format defaults t v → Ok text ≡ described (text_of greatest_year v t)
+    → ReadsTree format defaults t v → Ok text ≡ described (text_of 35 greatest_year v t)
     → SaysAll format defaults v text.items
 described_back format defaults t v text all e =
-    tree_says format defaults t v text.items all (described_is text (text_of greatest_year v t) e)
+    tree_says format defaults t v text.items all (described_is text (text_of 35 greatest_year v t) e)

@@ -54,10 +54,11 @@ IsNamedText Named.Iso8601 digits v result =
     (text : Result Items Unwritable) × Writes (unwritable_3339 v) (moment_text 9 v) text × (result ≡ written text)
 IsNamedText (Named.Count unit) digits v result = IsCounted unit v result
 
--- the text of a moment by an output format, named or described, or the first reason why it has no text
+-- The text of a moment by an output format, or the first reason why it has no text. By a description it has at most
+-- 35 bytes.
 abbrev pub IsWrittenBy : Writing → FractionDigits → OffsetDateTime → Result Items Reason → Type 0
 IsWrittenBy (Writing.Named named) digits v result = IsNamedText named digits v result
-IsWrittenBy (Writing.Described d) digits v result = result ≡ described (text_of greatest_year v (shape d))
+IsWrittenBy (Writing.Described d) digits v result = result ≡ described (text_of 35 greatest_year v (shape d))
 
 -- the text of a moment that is first converted to a clock; or the reason why it can't be converted or has no text
 abbrev pub IsWrittenOn : Writing → FractionDigits → Clock → OffsetDateTime → Result Items Reason → Type 0

@@ -257,9 +257,10 @@ fn write_described<E: FromReason>(
     let Some(shown) = clock.show(moment) else {
         return Err(E::from_reason(clock.conversion_error()));
     };
-    match format(shown, description.steps()) {
+    match format::<35>(shown, description.steps()) {
         Ok(found) => {
-            *text = found;
+            text.clear();
+            text.append(found.as_slice());
             Ok(())
         }
         Err(why) => Err(E::from_reason(Reason::Unformattable(why))),
@@ -268,7 +269,7 @@ fn write_described<E: FromReason>(
 
 /// Converts the moment to the form's clock, and replaces `text` by its text. The error, as an `E`, is
 /// [`Reason::OutOfRange`] or [`Reason::OutsideZoneRange`] if it can't be converted, [`Reason::OutOfRange`] if it has no
-/// count, and otherwise [`Reason::Unwritable`] or [`Reason::Unformattable`].
+/// count, and otherwise [`Reason::Unwritable`], or for a description [`Reason::Unformattable`].
 #[inline(always)]
 pub fn write_to<E: FromReason>(
     moment: OffsetDateTime,

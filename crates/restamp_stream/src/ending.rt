@@ -18,7 +18,7 @@ pub fn status(tally: &Tally, stop: Option<Stop>, strict: bool) -> u8
     if tally.rewritten > 0 { 0 } else { 1 }
 }
 
-/// Why the work stopped before the end of the input.
+/// Why the work stopped before it was done.
 #[derive(Clone, Copy, Debug, PartialEq, Eq)]
 pub enum Stop {
     /// A read failed, or the input didn't end within 18446744073709551615 reads.

@@ -131,7 +131,7 @@ impl<W: Sink, L: Sink> Stream<W, L> {
         }
     }
 
-    // Writes the buffered bytes to the writer, which it doesn't flush, and flushes the log.
+    // Writes the buffered bytes to the writer, which it doesn't flush. Then flushes the log, unless the write failed.
     pub(crate) fn flush_all(&mut self) -> Result<(), Unwritten>
         ensures written { OnOk result (Flushes (buffered_state W.contents L.contents self.old) (state_of W.contents L.contents self.new)) }
         ensures none { OnOk result (self.new.out.buffer.items ≡ []) }

@@ -94,7 +94,7 @@ pub enum Group {
     List,
 }
 
-/// A step of a parsed description. Each item is stored as one step, followed by the other steps that belong to it.
+/// A step of a parsed description. An item is stored as a component, as a literal's bytes, or as a group and its items.
 #[derive(Clone, Copy, Debug, PartialEq, Eq)]
 pub enum Step {
     /// The first byte of a literal.

@@ -100,7 +100,7 @@ IsNoText n tree no_text.TooLong = HasText tree × (n < length (tree_text tree))
 
 -- ---- Laws of texts of descriptions
 
--- Some text of version 2 describes a tree exactly if `is_described` is true for it.
+-- Some text of version 2 describes a tree if and only if `is_described` is true for it.
 abbrev pub DescribedTrees : Type 0
 DescribedTrees = (tree : Tree) → (is_described tree ≡ true) ↔ HasText tree
 

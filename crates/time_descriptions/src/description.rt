@@ -47,7 +47,7 @@ pub(crate) fn version_of(number: usize) -> Version
 /// Parses a description of version 1 or 2: components in brackets, literal bytes, `[optional [..]]`, and
 /// `[first [..] [..]]` with one list or more. A literal `[` is `[[` in version 1; in version 2 a backslash escapes a
 /// bracket or a backslash. The names of components, and the keys and the values of modifiers, are in any ASCII case,
-/// `optional` and `first` in lowercase. An empty text is a description without steps.
+/// `optional` and `first` in lowercase. Lists nest at most 8 deep. An empty text is a description without steps.
 ///
 /// # Errors
 ///

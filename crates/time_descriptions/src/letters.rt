@@ -65,7 +65,7 @@ const SHORTHANDS: [(u8, &[u8]); 11] = [
     (b'%', b"%"),
 ];
 
-/// A flag between the `%` and the letter of a conversion.
+/// A flag between the `%` and the letter of a conversion, such as the `-` of `%-d` or the `:` of `%:z`.
 #[derive(Clone, Copy)]
 pub enum Flag {
     /// The padding of a number: `-` for none, `_` for spaces, `0` for zeros.

@@ -41,7 +41,7 @@ abbrev pub count_of : SubsecondDigits → ℕ → ℕ
 count_of OneOrMore n = max (significant 9 n) 1
 count_of digits n = least_digits digits
 
--- the padding and the value of a component that is written as a number of two digits; `None` for any other component
+-- the padding and the number of a component that is a number without a sign, padded to two digits; otherwise `None`
 abbrev pub number_of : ℕ → OffsetDateTime → Component → Option (Padding × ℕ)
 number_of Y v (component.Day m) = Some (m.padding, Dates.day (offset_date v))
 number_of Y v (component.MonthNumerical m) = Some (m.padding, month_number (Dates.month (offset_date v)))
@@ -58,7 +58,7 @@ number_of Y v (component.OffsetMinute m) = Some (m.padding, unsigned_abs (Offset
 number_of Y v (component.OffsetSecond m) = Some (m.padding, unsigned_abs (Offsets.seconds (offset_of v)))
 number_of Y v _ = None
 
--- the name that a component writes, of a month, a weekday or a half of the day; `None` for any other component
+-- the text of a component that is a name, whole or short, of a month, a weekday or a half of the day; otherwise `None`
 abbrev pub name_of : ℕ → OffsetDateTime → Component → Option (List ℕ)
 name_of Y v (component.MonthShort m) = Some (take 3 (month_name (Dates.month (offset_date v))))
 name_of Y v (component.MonthLong m) = Some (month_name (Dates.month (offset_date v)))
@@ -92,7 +92,7 @@ century_of Y v (component.IsoYearCenturyStandardRange m) =
     let y = iso_year Y (offset_date v) in Some (in_standard_range y (century m.sign_is_mandatory m.padding y))
 century_of Y v _ = None
 
--- the text of a component of none of the tables above, or the error `Ignore` for an `Ignore`
+-- the text of a component of none of the tables above; the error `Ignore` for an `Ignore` and for each one of those
 abbrev pub other_of : ℕ → OffsetDateTime → Component → Result (List ℕ) Unformattable
 other_of Y v (component.Ordinal m) = Ok (padded m.padding 3 (Dates.ordinal (offset_date v)))
 other_of Y v (component.WeekdaySunday m) = Ok ((first_digit m.one_indexed + days_from_sunday (weekday_of Y v)) ∷ [])
@@ -111,17 +111,17 @@ other_of Y v (component.UnixTimestampNanosecond m) = Ok (count_text 1 m.sign_is_
 other_of Y v (component.End m) = Ok []
 other_of Y v _ = Err why.Ignore
 
--- the number in two digits with its padding, if there is one, or else the other text
+-- the text of the number, padded to two digits, if there is a number, or else the other result
 abbrev pub or_number : Option (Padding × ℕ) → Result (List ℕ) Unformattable → Result (List ℕ) Unformattable
 or_number (Some x) other = Ok (padded x.0 2 x.1)
 or_number None other = other
 
--- the name, if there is one, or else the other text
+-- the name, if there is one, or else the other result
 abbrev pub or_name : Option (List ℕ) → Result (List ℕ) Unformattable → Result (List ℕ) Unformattable
 or_name (Some name) other = Ok name
 or_name None other = other
 
--- the text or the error of a year, if there is one, or else the other text
+-- the text or the error of a year, if there is a year, or else the other result
 abbrev pub or_year : Option (Result (List ℕ) Unformattable) → Result (List ℕ) Unformattable
     → Result (List ℕ) Unformattable
 or_year (Some text) other = text
@@ -135,7 +135,7 @@ component_text Y v c =
 
 -- ---- The values that components have for a moment, and what may follow their texts. `Y` is the greatest year.
 
--- n nanoseconds, truncated to the first k of their nine digits
+-- n nanoseconds, with 0 in place of each of their nine digits after the first k
 abbrev pub kept : ℕ → ℕ → ℕ
 kept k n = n / 10 ^ (9 - k) * 10 ^ (9 - k)
 
@@ -192,13 +192,13 @@ value_of Y v (component.UnixTimestampMicrosecond m) = units_value 1000 (offset_i
 value_of Y v (component.UnixTimestampNanosecond m) = units_value 1 (offset_instant Y v)
 value_of Y v (component.End m) = nothing
 
--- The rest may follow a number with that padding: without padding, it doesn't begin with a digit.
+-- The rest may follow a number with that padding: for `None` it doesn't begin with a digit; else it may be any rest.
 abbrev pub PaddedStops : Padding → List ℕ → Type 0
 PaddedStops padding.None rest = NoDigitFirst rest
 PaddedStops p rest = Unit {0}
 
--- The rest may follow a century n without a sign: padded with spaces, n is at least 10; without padding, the rest
--- doesn't begin with a digit.
+-- The rest may follow a century n without a sign: for `Space` n is at least 10, and the rest is any; for `None` the
+-- rest doesn't begin with a digit; for `Zero` it is any.
 abbrev pub BareStops : Padding → ℕ → List ℕ → Type 0
 BareStops padding.Space n rest = 10 ≤ n
 BareStops p n rest = PaddedStops p rest
@@ -208,7 +208,7 @@ abbrev pub SignedStops : List ℕ → (List ℕ → Type 0) → (List ℕ → Ty
 SignedStops [] behind alone = alone
 SignedStops (c ∷ sign) behind alone = behind
 
--- The rest may follow a year of the extended range: with a sign or without padding, it doesn't begin with a digit.
+-- The rest may follow a year of the extended range: if that has a sign or no padding, no digit begins the rest.
 abbrev pub YearStops : Bool → Padding → ℤ → List ℕ → Type 0
 YearStops sign_is_mandatory p y = SignedStops (year_sign sign_is_mandatory y) NoDigitFirst (PaddedStops p)
 
@@ -217,13 +217,13 @@ abbrev pub CenturyStops : (List ℕ → Type 0) → Bool → Padding → ℤ →
 CenturyStops behind sign_is_mandatory p y =
     SignedStops (year_sign sign_is_mandatory y) behind (BareStops p (unsigned_abs y / 100))
 
--- The rest may follow a fraction: if that has no fixed length, the rest doesn't begin with a digit.
+-- The rest may follow a fraction: for `OneOrMore` it doesn't begin with a digit; otherwise it may be any rest.
 abbrev pub FractionStops : SubsecondDigits → List ℕ → Type 0
 FractionStops OneOrMore rest = NoDigitFirst rest
 FractionStops digits rest = Unit {0}
 
--- The rest may follow the component's text, so that all of the text is parsed as the component's value. Nothing may
--- follow an `End`, and any rest may follow a component that isn't listed.
+-- The rest may follow the component's text: a parser then reads all of that text, as the moment's value. Only an
+-- empty rest may follow an `End`, and any rest may follow a component that isn't listed below.
 abbrev pub Stops : ℕ → OffsetDateTime → Component → List ℕ → Type 0
 Stops Y v (component.Day m) = PaddedStops m.padding
 Stops Y v (component.MonthNumerical m) = PaddedStops m.padding

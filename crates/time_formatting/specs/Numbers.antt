@@ -10,7 +10,7 @@ use Rattle.time_digits.specs.declared.Padding.TheVariants as padding
 use Rattle.time_formatting.specs.declared.walk.Unformattable.{Unformattable}
 use Rattle.time_formatting.specs.declared.walk.Unformattable.TheVariants.{Year}
 
--- the text that replaces a zero in front of a number: `0`, a space, or nothing
+-- the text that replaces a leading zero: `0` for `Zero`, a space for `Space`, and nothing for `None`
 abbrev pub filler : Padding → List ℕ
 filler padding.Zero = codes "0"
 filler padding.Space = codes " "
@@ -22,11 +22,11 @@ filled fill [] = []
 filled fill (c ∷ []) = c ∷ []
 filled fill (c ∷ d ∷ ds) = if c == 48 then fill ++ filled fill (d ∷ ds) else c ∷ d ∷ ds
 
--- a number in k digits, with the padding's text in place of each leading zero but the last digit
+-- the last k digits of n, with the padding's text in place of each leading zero; the last digit is never replaced
 abbrev pub padded : Padding → ℕ → ℕ → List ℕ
 padded p k n = filled (filler p) (fixed k n)
 
--- `-` in front of a number below 0, and `+` in front of another if a sign is mandatory, or else nothing
+-- `-` if `is_behind`, otherwise `+` if `is_mandatory`, and otherwise nothing
 abbrev pub sign_text : Bool → Bool → List ℕ
 sign_text is_behind is_mandatory = if is_behind then codes "-" else if is_mandatory then codes "+" else []
 
@@ -53,16 +53,16 @@ year_of_thursday Y y day =
 unfoldable pub iso_year : ℕ → Date → ℤ
 iso_year Y d = year_of_thursday Y (Dates.year d) (thursday_of (Dates.day_number Y d))
 
--- the number of the date's ISO week: how many Thursdays the ISO week year has, up to that of the week
+-- the number of the date's ISO week: how many Thursdays its ISO year has up to the one of that week, inclusive
 unfoldable pub iso_week : ℕ → Date → ℕ
 iso_week Y d =
     weekdays_in 3 (year_start Y (iso_year Y d)) (thursday_of (Dates.day_number Y d) + 1 - year_start Y (iso_year Y d))
 
--- four digits with the padding, or five or six if the number has as many
+-- four digits with the padding for a number below 10000, five below 100000, and otherwise the last six
 abbrev pub year_digits : Padding → ℕ → List ℕ
 year_digits p n = if nat_lt n 10_000 then padded p 4 n else if nat_lt n 100_000 then fixed 5 n else fixed 6 n
 
--- two digits with the padding, or three or four if the number has as many
+-- two digits with the padding for a number below 100, three below 1000, and otherwise the last four
 abbrev pub century_digits : Padding → ℕ → List ℕ
 century_digits p n = if nat_lt n 100 then padded p 2 n else if nat_lt n 1000 then fixed 3 n else fixed 4 n
 

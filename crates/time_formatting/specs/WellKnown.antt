@@ -21,7 +21,7 @@ use Rattle.time_formatting.specs.declared.parts.FractionDigits.TheVariants.{Auto
 use Rattle.time_formatting.specs.declared.parts.Unwritable.{Unwritable}
 use Rattle.time_formatting.specs.declared.parts.Unwritable.TheVariants.{Year, OffsetHour, OffsetSecond}
 
--- how many of the nine digits of n nanoseconds are written: those up to the last that isn't 0, or k, but at most nine
+-- how many of the nine digits of n nanoseconds are written: for `Auto` those up to the last that isn't 0; else k or 9
 abbrev pub count_of : FractionDigits → ℕ → ℕ
 count_of Auto n = significant 9 n
 count_of (Exactly k) n = min k 9
@@ -96,7 +96,7 @@ short_weekday w = take 3 (weekday_name w)
 abbrev pub short_month : Month → List ℕ
 short_month m = take 3 (month_name m)
 
--- a text such as `Sat, 02 Jan 2021 03:04:05 +0607`, with that weekday
+-- the moment's text by RFC 2822, such as `Sat, 02 Jan 2021 03:04:05 +0607`, but with the weekday w
 abbrev pub mail_text : Weekday → OffsetDateTime → List ℕ
 mail_text w v =
     short_weekday w ++ codes ", " ++ fixed 2 (Dates.day (offset_date v)) ++ codes " "

@@ -27,8 +27,8 @@ fn hour_12(hour: u8) -> u8
     if hour % 12 == 0 { 12 } else { hour % 12 }
 }
 
-// The padding and the value of a component that is written as a number of two digits, or `None` for any other
-// component.
+// The padding and the number of a component that is a number without a sign, padded to two digits. `None` for any
+// other component.
 fn number(value: &OffsetDateTime, component: Component) -> Option<(Padding, u8)>
     ensures { result ≡ number_of greatest_year value.now component }
 {
@@ -77,7 +77,7 @@ fn count(digits: SubsecondDigits, nanosecond: u32) -> usize
     }
 }
 
-// The first of a nanosecond's nine ASCII digits, as many as `digits` selects. Leading zeros count.
+// The first ASCII digits of a nanosecond written in nine digits with leading zeros, as many as `digits` selects.
 fn subsecond(digits: SubsecondDigits, nanosecond: u32) -> Text
     requires { nanosecond < 1_000_000_000 }
     ensures { result.items ≡ take (components.count_of digits nanosecond) (fixed 9 nanosecond) }
@@ -87,8 +87,8 @@ fn subsecond(digits: SubsecondDigits, nanosecond: u32) -> Text
     text
 }
 
-// The hours of an offset in two digits with the padding. The sign is `-` if a part of the offset is below 0, and
-// otherwise `+` if a sign is mandatory.
+// A sign, and the hours of an offset in two digits with the padding. The sign is `-` if the hours, minutes or seconds
+// are below 0, otherwise `+` if a sign is mandatory, and otherwise absent.
 fn offset_hour(sign_is_mandatory: bool, padding: Padding, offset: UtcOffset) -> Text
     ensures { result.items ≡ numbers.sign_text (is_behind offset) sign_is_mandatory
         ++ numbers.padded padding 2 (unsigned_abs (Offsets.hours offset)) }
@@ -124,8 +124,8 @@ fn timestamp(value: &OffsetDateTime, unit: u128, sign_is_mandatory: bool) -> Tex
     count_of_units(value.unix_timestamp_nanos(), unit, sign_is_mandatory)
 }
 
-// The text of a component that isn't a two-digit number, a name, a year or a century, or the error `Ignore` for an
-// `ignore`.
+// The text of a component for which `number`, `name`, `year_text` and `century_text` return `None`. The error is
+// `Ignore`, for an `ignore` and for each component that one of those calls writes.
 fn other(value: &OffsetDateTime, component: Component) -> Result<Text, Unformattable>
     ensures { bytes_of result ≡ other_of greatest_year value.now component }
 {

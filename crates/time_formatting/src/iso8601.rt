@@ -18,8 +18,8 @@ use time_values::{Date, OffsetDateTime, Time, UtcOffset};
 /// `2021-01-02T03:04:05.520000000+06:07`. An offset of 0 is `Z`.
 ///
 /// The error is the first that applies: [`Unwritable::Year`] if the year is outside 0 to 9999,
-/// [`Unwritable::OffsetHour`] if the hours of the offset are outside -23 to 23, or [`Unwritable::OffsetSecond`] if its
-/// seconds aren't 0.
+/// [`Unwritable::OffsetHour`] if the hours of the offset are outside -23 to 23, or [`Unwritable::OffsetSecond`] if the
+/// seconds of the offset aren't 0.
 pub fn text_8601(value: OffsetDateTime) -> Result<Text, Unwritable>
     ensures { Writes (unwritable_3339 value) (moment_text 9 value) result }
 {
@@ -63,7 +63,7 @@ fn basic_clock(time: &Time) -> [u8; 7]
     [b'T', h1, h2, m1, m2, s1, s2]
 }
 
-// The basic text of a moment whose year is 0 to 9999, without the fraction and the seconds of its offset.
+// The basic text of a moment whose year is 0 to 9999. Omits the fraction of the second, and the offset's seconds.
 fn write(value: OffsetDateTime) -> Text
     requires { IsBetween (pos 0) (pos 9999) (Dates.year (offset_date value)) }
     ensures { result.items ≡ basic_text value }
@@ -79,8 +79,8 @@ fn write(value: OffsetDateTime) -> Text
 /// second. An offset of 0 is `Z`.
 ///
 /// The error is the first that applies: [`Unwritable::Year`] if the year is outside 0 to 9999,
-/// [`Unwritable::OffsetHour`] if the hours of the offset are outside -23 to 23, or [`Unwritable::OffsetSecond`] if its
-/// seconds aren't 0.
+/// [`Unwritable::OffsetHour`] if the hours of the offset are outside -23 to 23, or [`Unwritable::OffsetSecond`] if the
+/// seconds of the offset aren't 0.
 pub fn text_8601_basic(value: OffsetDateTime) -> Result<Text, Unwritable>
     ensures { Writes (unwritable_3339 value) (basic_text value) result }
 {

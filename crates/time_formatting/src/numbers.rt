@@ -13,7 +13,7 @@ use time_values::names::{month_name, weekday_name};
 use time_values::text::Text;
 use time_values::{OffsetDateTime, Weekday};
 
-// The text that replaces a zero in front of a number: `0`, a space, or nothing.
+// The text that replaces a leading zero: `0` for `Zero`, a space for `Space`, and nothing for `None`.
 fn filler(padding: Padding) -> &'static [u8]
     ensures bytes { result.now ≡ numbers.filler padding }
     ensures bound { length result.now ≤ 1 }
@@ -107,7 +107,7 @@ pub(crate) fn count_of_units(nanoseconds: i128, unit: u128, sign_is_mandatory: b
     text
 }
 
-// `AM` for an hour below 12, and otherwise `PM`; in lower case unless `is_uppercase`.
+// `AM` for an hour below 12, and otherwise `PM`. In lower case, `am` or `pm`, if `is_uppercase` is false.
 fn period_name(hour: u8, is_uppercase: bool) -> &'static [u8]
     ensures name { result.now ≡ names.period_name is_uppercase (half_of hour) }
     ensures most { length result.now ≤ 2 }
@@ -127,8 +127,8 @@ pub(crate) fn weekday(value: &OffsetDateTime) -> Weekday
     value.date().weekday()
 }
 
-/// The text of a component that is the English name of a month or a weekday, whole or its first three letters, or the
-/// text `AM` or `PM`, in lower case unless the component is in upper case. `None` for any other component.
+/// The text of a component that is the English name of the month or the weekday, whole or its first three letters, or a
+/// half of the day: `AM` or `PM` if `is_uppercase`, and else `am` or `pm`. `None` for any other component.
 pub(crate) fn name(value: &OffsetDateTime, component: Component) -> Option<&'static [u8]>
     ensures name { option_map (λ n. n.now) result ≡ name_of greatest_year value.now component }
     ensures most { IfSome result (λ n. length n.now ≤ 9) }

@@ -130,7 +130,7 @@ pub enum FractionDigits {
 }
 
 impl FractionDigits {
-    // The number of digits of the fraction with that nanosecond, 0 to 9.
+    // How many digits of a fraction of that many nanoseconds are written, 0 to 9.
     #[inline(always)]
     pub(crate) fn count(self, nanosecond: u32) -> usize
         ensures count { result ≡ count_of self nanosecond }
@@ -148,7 +148,7 @@ impl FractionDigits {
 pub enum Unwritable {
     /// The year is outside 0 to 9999, or for RFC 2822 outside 1900 to 9999.
     Year,
-    /// The hours of the offset are outside -23 to 23. RFC 2822 has no such error.
+    /// The hours of the offset are outside -23 to 23. `text_2822` never returns this error.
     OffsetHour,
     /// The seconds of the offset aren't 0.
     OffsetSecond,

@@ -23,7 +23,7 @@ fn weekday_and_day(weekday: Weekday, date: &Date) -> [u8; 12]
     [w1, w2, w3, b',', b' ', d1, d2, b' ', m1, m2, m3, b' ']
 }
 
-// The text of a moment whose year is 0 to 9999, without the fraction and the seconds of its offset.
+// The text of a moment whose year is 0 to 9999. Omits the fraction of the second, and the offset's seconds.
 #[inline(always)]
 fn write(value: OffsetDateTime) -> Text
     requires { IsBetween (pos 0) (pos 9999) (Dates.year (offset_date value)) }
@@ -39,7 +39,7 @@ fn write(value: OffsetDateTime) -> Text
     text
 }
 
-// Why the moment has no text: `Year` outside 1900 to 9999, or else `OffsetSecond`. `None` if it has a text.
+// `Year` for a year outside 1900 to 9999, or else `OffsetSecond` for an offset with seconds, or else `None`.
 fn reason(value: OffsetDateTime) -> Option<Unwritable>
     ensures { result ≡ unwritable_2822 value }
 {

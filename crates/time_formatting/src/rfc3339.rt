@@ -73,8 +73,8 @@ pub(crate) fn reason(value: OffsetDateTime) -> Option<Unwritable>
 /// digits of the fraction it has. An offset of 0 is `Z`.
 ///
 /// The error is the first that applies: [`Unwritable::Year`] if the year is outside 0 to 9999,
-/// [`Unwritable::OffsetHour`] if the hours of the offset are outside -23 to 23, or [`Unwritable::OffsetSecond`] if its
-/// seconds aren't 0.
+/// [`Unwritable::OffsetHour`] if the hours of the offset are outside -23 to 23, or [`Unwritable::OffsetSecond`] if the
+/// seconds of the offset aren't 0.
 pub fn text_3339(value: OffsetDateTime, digits: FractionDigits) -> Result<Text, Unwritable>
     ensures { Writes (unwritable_3339 value)
         (moment_text (count_of digits (Times.nanosecond (offset_time value))) value) result }

@@ -21,8 +21,8 @@ pub fn law_one_mail_date()
         → OneForm (rfc2822.PlaceSyntax check_ranges) rfc2822.places rfc2822.nothing_read bytes }
 {}
 
-/// With range checks a text of RFC 3339 or a mail date matches exactly if it does without them and its numbers are in
-/// range.
+/// With range checks a text of RFC 3339 or a mail date matches if and only if it does without them and its numbers are
+/// in range.
 #[tactic(auto, using(crate::proofs::RangedForms::ranged_forms, crate::proofs::RangedMail::ranged_mail))]
 pub fn law_ranged_forms()
     ensures rfc3339 { RangedForms (rfc3339.HasForm true) (rfc3339.HasForm false) rfc3339.InRanges }

@@ -4,15 +4,16 @@ ghost use Rattle.time_components.specs.Tree.{steps_shape};
 ghost use Rattle.time_formatting.specs.Texts.{text_of};
 ghost use Rattle.time_values.specs.Calendar.{greatest_year};
 
+use arrayvec::ArrayVec;
 use std::test::Fail;
 use time_components::{Component, Step, modifier};
-use time_formatting::{Text, format};
+use time_formatting::format;
 use time_values::{Date, OffsetDateTime, Time, UtcOffset};
 
 /// The text of a moment by a description, if it has one.
-pub fn text_by(value: OffsetDateTime, steps: &[Step]) -> Option<Text>
-    ensures some { IfSome result (λ text. text_of greatest_year value (steps_shape steps.now) ≡ Ok text.items) }
-    ensures none { IfNone result (IsErr (text_of greatest_year value (steps_shape steps.now))) }
+pub fn text_by(value: OffsetDateTime, steps: &[Step]) -> Option<ArrayVec<u8, 35>>
+    ensures some { IfSome result (λ text. text_of 35 greatest_year value (steps_shape steps.now) ≡ Ok text.items) }
+    ensures none { IfNone result (IsErr (text_of 35 greatest_year value (steps_shape steps.now))) }
 {
     match format(value, steps) {
         Ok(text) => Some(text),
@@ -30,15 +31,16 @@ fn day_and_hour(rt: HostRuntime) -> Result<(), Fail> {
     let Some(text) = text_by(value, &[day, Step::Literal(b' '), hour]) else {
         return Err("no text".into());
     };
-    assert!(rt; text.as_bytes() == b"02 03".as_slice());
+    assert!(rt; text.as_slice() == b"02 03".as_slice());
     Ok(())
 }
 
 // Moments by descriptions, as text or as an error.
 mod moments {
+    use arrayvec::ArrayVec;
     use time_components::Step;
     use time_descriptions::parse_borrowed;
-    use time_formatting::{Text, Unformattable, format};
+    use time_formatting::{Unformattable, format};
     use time_values::error::ComponentRange;
     use time_values::{Date, OffsetDateTime, Time, UtcOffset};
 
@@ -56,11 +58,11 @@ mod moments {
 
     /// Whether the text was written, or rejected for that reason.
     pub fn is_answer(
-        answer: Result<Text, Unformattable>,
+        answer: Result<ArrayVec<u8, 35>, Unformattable>,
         expected: Result<&[u8], Unformattable>,
     ) -> bool {
         match (answer, expected) {
-            (Ok(text), Ok(bytes)) => text.as_bytes() == bytes,
+            (Ok(text), Ok(bytes)) => text.as_slice() == bytes,
             (Err(why), Err(reason)) => why == reason,
             _ => false,
         }
@@ -443,7 +445,7 @@ mod moments {
             Ok(())
         }
 
-        // A text has at most 35 bytes.
+        // A text has at most as many bytes as the caller allows: 35.
         #[test]
         fn lengths(rt: HostRuntime) -> Result<(), Fail> {
             let value = moment((2021, 100), (0, 0, 0, 0), (0, 0, 0))?;
@@ -484,7 +486,7 @@ mod moments {
                 "The ignore component cannot be formatted into the requested format."
             );
             let text = format!(in rt.alloc(); "{}", Unformattable::TooLong)?;
-            assert_eq!(rt; text.as_str(), "The text has more than 35 bytes.");
+            assert_eq!(rt; text.as_str(), "The text is too long.");
             Ok(())
         }
     }

@@ -33,7 +33,7 @@ IsPart part = (part ≢ []) × (part ≢ codes ".") × (part ≢ codes "..")
 abbrev pub IsZoneName : List ℕ → Type 0
 IsZoneName name = All IsPart (slice_split (λ b. b == 47) name)
 
--- the place that a name specifies: UTC, or the file of that name in the folder; none if a part of it is invalid
+-- the place of a name: UTC for `UTC`, or else the file of that name in the folder; none if a part of it is invalid
 abbrev pub IsPlaceOfName : List ℕ → Option Place → Type 0
 IsPlaceOfName name None = (name ≢ codes "UTC") × (¬ (IsZoneName name))
 IsPlaceOfName name (Some PlaceUtc) = name ≡ codes "UTC"
@@ -66,7 +66,7 @@ IsRule text (Some (PlaceRule rule)) = tz_view rule ≡ text
 IsRule text (Some (InFolder below)) = ⊥
 IsRule text (Some (AtPath at)) = ⊥
 
--- the place is the rule that the text parses as, if it is one, and else that of the text as a path or a name
+-- the place is that rule, the one that the text parses as; without a rule it is that of the text as a path or a name
 abbrev pub IsRuleOrPath : Option TzText → List ℕ → Option Place → Type 0
 IsRuleOrPath (Some rule) text place = IsRule rule place
 IsRuleOrPath None text place = IsPlaceOfPath text place
@@ -83,7 +83,7 @@ abbrev pub IsLocal : Option (List ℕ) → Option Place → Type 0
 IsLocal None place = IsFileAt (codes "/etc/localtime") place
 IsLocal (Some setting) place = IsPlaceOfSetting setting place
 
--- the place that a name specifies: for `local`, that of the system's zone by the value of TZ, which is none if unset
+-- the place that a name specifies: that of the system's zone for `local`, by the value of TZ if TZ is set
 abbrev pub IsRequestedPlace : Option (List ℕ) → List ℕ → Option Place → Type 0
 IsRequestedPlace setting name place =
     ((name ≡ codes "local") × IsLocal setting place) ⊎ ((name ≢ codes "local") × IsPlaceOfName name place)
@@ -108,8 +108,8 @@ name_of Named.Utc = Some (codes "UTC")
 name_of (Named.Rule rule) = None
 name_of (Named.Table table) = tzif_name table
 
--- reading the path may give bytes that parse as this table, which has that name or none, and whose rule, if any, agrees
--- with its last row
+-- reading the path may give bytes that parse as this table; its rule, if it has one, agrees with its last row; and its
+-- name is that name, or the table has no name if that is none
 pub record HasTable (Gives : Giving) (path : List ℕ) (name : Option (List ℕ)) (table : Table) : Type 0 where
   pub bytes : List ℕ
   pub given : Gives path (Ok bytes)
@@ -117,8 +117,8 @@ pub record HasTable (Gives : Giving) (path : List ℕ) (name : Option (List ℕ)
   pub agrees : RuleAgrees table
   pub named : tzif_name table ≡ name
 
--- the possible results of reading the zone of the file at a path, with that name or none for its table; memory may run
--- out at any time
+-- the possible results of reading the file at a path as a table with that name, or without a name if that is none;
+-- OutOfMemory is always possible
 abbrev pub ReadsTo : Giving → List ℕ → Option (List ℕ) → Result NamedZone ZoneFault → Type 0
 ReadsTo Gives path name (Ok Named.Utc) = ⊥
 ReadsTo Gives path name (Ok (Named.Rule rule)) = ⊥
@@ -140,8 +140,8 @@ IsFoundAt Gives folder (Some (Place.Rule rule)) r = r ≡ Ok (Named.Rule rule)
 IsFoundAt Gives folder (Some (Place.InFolder below)) r = ReadsTo Gives (folder ++ 47 ∷ below.now) (Some below.now) r
 IsFoundAt Gives folder (Some (Place.AtPath path)) r = ReadsTo Gives path.now None r
 
--- the possible results of finding the zone of a name, with that path of the folder of zones and that value of TZ, or
--- none
+-- the possible results of finding the zone of a name, by the path of the folder of zones and the value of TZ, which is
+-- none if TZ isn't set
 abbrev pub IsFound : Giving → List ℕ → Option (List ℕ) → List ℕ → Result NamedZone ZoneFault → Type 0
 IsFound Gives folder setting name r =
     (place : Option Place) × IsRequestedPlace setting name place × IsFoundAt Gives folder place r
@@ -169,7 +169,7 @@ pub record IsInserted (old new : Zones) (name : List ℕ) (zone : NamedZone) : T
 abbrev pub IsFoundIn : Giving → List ℕ → List ℕ → Result NamedZone ZoneFault → Type 0
 IsFoundIn Gives folder name r = (place : Option Place) × IsPlaceOfName name place × IsFoundAt Gives folder place r
 
--- no zone in the folder has the name: finding it may return an error other than OutOfMemory
+-- finding the zone of the name in the folder may return an error other than OutOfMemory
 abbrev pub IsOfNone : Giving → List ℕ → List ℕ → Type 0
 IsOfNone Gives folder name = (fault : ZoneFault) × (fault ≢ Fault.OutOfMemory) × IsFoundIn Gives folder name (Err fault)
 
@@ -179,8 +179,8 @@ AddsFound Gives folder name old new =
     ((zone : NamedZone) × IsFoundIn Gives folder name (Ok zone) × IsInserted old new name zone)
     ⊎ (IsOfNone Gives folder name × ((other : List ℕ) → SameNamed old new other))
 
--- UTC and the zones of these names: each was found by its name in the folder, and finding a name without a zone may
--- fail with an error other than OutOfMemory
+-- the map has UTC, and no zone of another name than UTC and these; each may be found by its name in the folder; for
+-- each of these names without a zone in the map, finding it may return an error other than OutOfMemory
 pub record AreZonesOf (Gives : Giving) (folder : List ℕ) (names : List (List ℕ)) (zones : Zones) : Type 0 where
   pub utc : zone_named zones (codes "UTC") ≡ Some Utc
   pub found : (name : List ℕ) (zone : NamedZone) → zone_named zones name ≡ Some zone

@@ -22,7 +22,7 @@ pub record HasOffset (zone : TimeZone) (reading s : ℤ) : Type 0 where
   pub told : IsTimestampNanos (reading -ℤ nanos_of_seconds s)
   pub same : Zone.offset_at zone (reading -ℤ nanos_of_seconds s) ≡ s
 
--- the greatest and the least are offsets at which the zone shows the reading
+-- the greatest and the least are offsets at which the zone shows the reading, and the least is at most the greatest
 pub record IsSpread (zone : TimeZone) (reading : ℤ) (w : Spread) : Type 0 where
   pub greatest : HasOffset zone reading w.greatest.seconds
   pub least : HasOffset zone reading w.least.seconds
@@ -33,7 +33,7 @@ abbrev pub Covers : Option Spread → ℤ → Type 0
 Covers None s = ⊥
 Covers (Some w) s = IsBetween w.least.seconds w.greatest.seconds s
 
--- the only offset of the result, or either offset of its gap or fold
+-- s, in seconds, is the only offset if that is unambiguous, and otherwise either offset of the gap or the fold
 abbrev pub IsSide : AmbiguousOffset → ℤ → Type 0
 IsSide (Unambiguous offset) s = s ≡ offset.seconds
 IsSide (Gap before after) s = (s ≡ before.seconds) ⊎ (s ≡ after.seconds)
@@ -59,7 +59,7 @@ IsOfRule (Some rule) s = (s ≡ rule.std_seconds) ⊎ IsOfDst rule.dst s
 
 -- ---- The offset that a table has between two of its rows, or a rule at each moment
 
--- the seconds from begin to end lie between two adjacent rows, and the first row sets the offset
+-- the seconds from begin to end are at or after a row and before the next one, and the earlier row sets the offset
 pub record IsRowOffset (rows : List Transition) (begin end : ℤ) (o : Offset) : Type 0 where
   pub place : ℕ
   pub last : Transition

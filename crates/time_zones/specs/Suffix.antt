@@ -53,7 +53,7 @@ IsTimeZoneName name = All IsTimeZonePart (slice_split (λ b. b == 47) name)
 abbrev pub two_digits : ℕ → List ℕ
 two_digits n = (48 + n / 10) ∷ (48 + n % 10) ∷ []
 
--- time-hour ":" time-minute, from 00:00 to 23:59, with their seconds
+-- time-hour ":" time-minute, from 00:00 to 23:59, and their sum in seconds
 pub record IsHourMinute (text : List ℕ) (seconds : ℕ) : Type 0 where
   pub hour : ℕ
   pub minute : ℕ
@@ -92,7 +92,7 @@ IsSuffixValue value = (value ≢ []) × AllPass is_ascii_alphanumeric value
 abbrev pub AreSuffixValues : List ℕ → Type 0
 AreSuffixValues text = All IsSuffixValue (slice_split (λ b. b == 45) text)
 
--- the contents of the brackets, after the critical-flag "!" if there is one
+-- the contents of the brackets: the text, after the critical-flag "!" if the first argument is true
 abbrev pub flagged : Bool → List ℕ → List ℕ
 flagged false text = text
 flagged true text = 33 ∷ text
@@ -158,7 +158,7 @@ abbrev pub WrittenIsSuffix : Type 0
 WrittenIsSuffix = (text : List ℕ) (z : Zone) → IsZoneText text z
     → IsSuffix (bracketed false text) (Some (record { is_critical = false; zone = z })) []
 
--- a text is a suffix of at most one zone, or none, and at most one list of tags
+-- if a text is a suffix in two ways, their zones are equal or both have none, and their lists of tags are equal
 abbrev pub OneSuffix : Type 0
 OneSuffix = (text : List ℕ) (zone zone' : Option ZoneTag) (tags tags' : List Tag) → IsSuffix text zone tags
     → IsSuffix text zone' tags' → (zone ≡ zone') × (tags ≡ tags')
@@ -215,7 +215,7 @@ abbrev pub compared : ℤ → ℤ → Checked
 compared own zone = if int_eq own zone then Ok tt else Err OtherOffset
 
 -- the result of comparing a moment's offset with that of a zone at its instant, or OutsideZoneRange if the moment is
--- outside the range of zones; zone has the offset in seconds at each instant
+-- outside the range of zones; `zone` maps each instant to the zone's offset in seconds
 abbrev pub HasItsOffset : OffsetDateTime → (ℤ → ℤ) → Checked → Type 0
 HasItsOffset m zone result =
     ((¬ (IsInZoneRange m)) × (result ≡ Err OutsideZoneRange))
@@ -235,8 +235,8 @@ AgreesWithZone zones tells m (at_offset o) result =
     MatchBool tells (result ≡ compared (offset_seconds (offset_of m)) (offset_seconds o)) (result ≡ Ok tt)
 
 -- The result of checking a moment against a suffix that has that zone and that critical key. No key is known here, so
--- each critical key is an error. Without a critical key and a zone it is success. Offsets are compared only if `tells`,
--- whether the moment's text specified a local offset.
+-- each critical key is an error. With neither a critical key nor a zone it is success. Offsets are compared only if
+-- `tells`, whether the moment's text specified a local offset.
 abbrev pub AgreesWith : Zones → Bool → OffsetDateTime → Option ZoneTag → Option (List ℕ) → Checked → Type 0
 AgreesWith zones tells m z (Some key) result = result ≡ Err CriticalKey
 AgreesWith zones tells m None None result = result ≡ Ok tt

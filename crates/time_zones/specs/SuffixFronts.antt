@@ -19,7 +19,7 @@ pub record BeginsBracketed (text : List ℕ) (is_critical : Bool) (inside rest :
   pub whole : text ≡ bracketed is_critical inside ++ rest
   pub are_bracket_chars : AllPass is_bracket_char inside
 
--- the text is a zone in brackets, or nothing, followed by the rest
+-- the text is that zone in brackets, followed by the rest; or without a zone, the rest alone
 pub record BeginsWithZone (text : List ℕ) (zone : Option ZoneTag) (rest : List ℕ) : Type 0 where
   pub front : List ℕ
   pub whole : text ≡ front ++ rest

@@ -94,7 +94,7 @@ abbrev pub IsAnswer : TimeZone → PlainDateTime → Result OffsetDateTime NotOn
 IsAnswer zone clock (Ok m) = IsOnlyMoment zone clock m
 IsAnswer zone clock (Err why) = IsNotOne zone clock why
 
--- the result is a moment at the same instant, or a fold whose first and last moment enclose that instant or equal it
+-- the result is a moment at m's instant, or a fold in which that instant is from the first to the last, inclusive
 abbrev pub RoundTrips : OffsetDateTime → Result OffsetDateTime NotOne → Type 0
 RoundTrips m (Ok back) = offset_instant greatest_year back ≡ offset_instant greatest_year m
 RoundTrips m (Err Gap) = ⊥

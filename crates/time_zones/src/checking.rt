@@ -15,7 +15,7 @@ use time_values::{OffsetDateTime, UtcOffset};
 /// Why a suffix doesn't agree with the moment in front of it.
 #[derive(Clone, Copy, Debug, PartialEq, Eq)]
 pub enum SuffixFault {
-    /// The suffix has a critical tag, such as `[!u-ca=gregory]`. This crate knows no keys, so it rejects each of them.
+    /// The suffix has a critical tag, such as `[!u-ca=gregory]`. This crate knows no keys, so it rejects each such tag.
     CriticalKey,
     /// The suffix names a zone that the map of zones doesn't contain.
     UnknownZone,

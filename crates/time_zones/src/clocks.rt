@@ -45,7 +45,7 @@ pub fn offset_at(zone: &TimeZone<'_>, moment: OffsetDateTime) -> Option<UtcOffse
     Some(offset_from(zone.to_offset(stamp)))
 }
 
-/// The instant of the moment, at the zone's offset at that instant. `None` if [`offset_at`] returns `None`.
+/// The moment at its own instant, but with the zone's offset at that instant. `None` if [`offset_at`] returns `None`.
 pub fn checked_to_zone(moment: OffsetDateTime, zone: &TimeZone<'_>) -> Option<OffsetDateTime>
     ensures told { IsSome result ↔ IsInZoneRange moment }
     ensures instant { IfSome result (λ v. offset_instant greatest_year v ≡ offset_instant greatest_year moment) }

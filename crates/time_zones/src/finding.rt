@@ -50,7 +50,7 @@ impl NamedZone {
     }
 }
 
-// Reads the zone file at the path. `name` becomes the name of its table. `Unknown` stores the path of a missing file.
+// Reads the zone file at the path, as a table with the name `name`. A missing file is the error `Unknown` of its path.
 fn table_at<F: ZoneFiles>(
     alloc: Global,
     files: &F,
@@ -113,8 +113,8 @@ pub(crate) fn find_at<F: ZoneFiles>(
 }
 
 /// The zone of the name: `UTC`; `local`, which is the zone that `setting`, a value of `TZ`, specifies, or the file
-/// /etc/localtime if it is `None`; or else the file of that name below `folder`. Reads at most one file. [`find_zone`]
-/// describes the values of `TZ`.
+/// /etc/localtime if `setting` is `None`; or else the file of that name below `folder`. Reads at most one file.
+/// [`find_zone`] describes the values of `TZ`.
 pub fn find_zone_in<F: ZoneFiles>(
     alloc: Global,
     files: &F,

@@ -9,8 +9,8 @@ use crate::clocks::{NotOne, assume_zone, checked_to_zone};
 use jiff_tz::TimeZone;
 use time_values::{OffsetDateTime, PlainDateTime};
 
-/// The local time of a moment in a zone resolves to the moment's instant again, or to a fold that contains it. `None`
-/// if the moment is outside the range of zones.
+/// The local time of a moment in a zone resolves to the moment's instant again, or to a fold whose first moment isn't
+/// after it and whose last isn't before it. `None` if the moment is outside the range of zones.
 pub fn law_read_back(
     moment: OffsetDateTime,
     zone: &TimeZone<'_>,

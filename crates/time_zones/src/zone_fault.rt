@@ -7,7 +7,7 @@ use std::{fmt, io};
 /// Why a zone wasn't found.
 #[derive(Debug, Drop, PartialEq, Eq)]
 pub enum ZoneFault {
-    /// The name, or that in `TZ`, has an empty, `.` or `..` part between slashes.
+    /// A part of the name, or of the name in `TZ`, is empty, `.` or `..`. Slashes separate the parts.
     NotAName,
     /// The variable `TZ` or `TZDIR` isn't UTF-8.
     NotText,

@@ -97,8 +97,8 @@ fn add<F: ZoneFiles>(
 }
 
 /// `UTC`, and the zones in the files of a folder that have these names. Skips a name that is invalid, or whose file is
-/// missing, unreadable or no zone file. If a name occurs twice, its file is read twice, and the last zone that was read
-/// remains. An error only if memory runs out.
+/// missing, unreadable or not a zone file. If a name occurs twice, its file is read twice, and the last zone that was
+/// read remains. An error only if memory runs out.
 pub fn find_zones_in<F: ZoneFiles>(
     alloc: Global,
     files: &F,

@@ -27,7 +27,7 @@ const HALF_YEAR: i64 = 15_778_476;
 // The greatest number of seconds that an offset is ahead of UTC or behind it: 25:59:59.
 const FURTHEST: i64 = 93_599;
 
-// The offset that row `place - 1` sets, if it isn't after `begin` and row `place` is after `end`. `None` otherwise.
+// The offset that row `place - 1` sets, if that row isn't after `begin` and row `place` is after `end`; else `None`.
 #[inline(always)]
 fn offset_before(rows: &[Transition], place: usize, begin: i64, end: i64) -> Option<Offset>
     ensures { IfSome result (IsRowOffset rows.now begin end) }
@@ -71,8 +71,8 @@ fn rule_offset(rule: &posix::TimeZone) -> Option<Offset>
     }
 }
 
-// The offset of a table after all of its rows. `None` if a rule with daylight saving time follows. Without rows and a
-// rule it is the table's first offset.
+// The offset of a table after all of its rows. `None` if a rule with daylight saving time follows. With neither rows
+// nor a rule it is the table's first offset.
 #[tactic(auto, using(crate::proofs::ZoneLemmas::behind_rows, crate::proofs::ZoneLemmas::if_some))]
 fn offset_behind(table: &Tzif) -> Option<Offset>
     ensures { IfSome result (λ o. (n : ℤ) → count_at table.now (floor_second n) ≡ vec_len table.now.transitions
@@ -126,8 +126,8 @@ pub(super) fn offset_within(zone: &TimeZone<'_>, begin: i64, end: i64) -> Option
     }
 }
 
-/// The only moment of the local date and time in the zone, if `offset_within` finds one offset from 25:59:59 before it
-/// to 25:59:59 after it. `None` means only that no short cut applies.
+/// The only moment of the local date and time in the zone, if `offset_within` finds one offset from 25:59:59 before to
+/// 25:59:59 after the date and time, read as UTC. `None` means only that no short cut applies.
 #[inline(always)]
 pub(super) fn only_moment(clock: PlainDateTime, zone: &TimeZone<'_>) -> Option<OffsetDateTime>
     ensures { IfSome result (IsOnlyMoment zone.now clock) }

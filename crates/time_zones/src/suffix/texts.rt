@@ -38,7 +38,7 @@ pub(super) fn is_zone_char(byte: u8) -> bool
     is_zone_initial(byte) || byte.is_ascii_digit() || matches!(byte, b'-' | b'+')
 }
 
-// Whether the text isn't empty and its bytes are those of a part of a zone's name, at the start and after it.
+// Whether the text is a byte that may begin a part of a zone's name, and then any number that may continue it.
 fn is_zone_word(text: &[u8]) -> bool
     ensures { IsTrue result ↔ IsWord suffix.is_zone_initial suffix.is_zone_char text.now }
 {
@@ -199,7 +199,7 @@ fn time_of(seconds: u32) -> Option<[u8; 5]>
     Some([hour_tens, hour_ones, b':', minute_tens, minute_ones])
 }
 
-// The offset as a suffix has it: `+hh:mm`, also for 0, or `-hh:mm`. `None` if it has seconds or a day or more.
+// The offset as a suffix has it: `+hh:mm`, also for 0, or `-hh:mm`. `None` if it has seconds, or is a day or more.
 fn offset_text(offset: UtcOffset) -> Option<[u8; 6]>
     ensures some { IfSome result (λ text. IsNumOffset text offset) }
     ensures none { IfNone result ((text : List ℕ) → IsNumOffset text offset → ⊥) }
@@ -210,7 +210,7 @@ fn offset_text(offset: UtcOffset) -> Option<[u8; 6]>
     Some([sign, h1, h2, colon, m1, m2])
 }
 
-// The text between `[` and `]`, without a flag. Fails only if memory runs out.
+// `[`, the text, and `]`, without a critical flag. Fails only if memory runs out.
 fn bracketed(alloc: Global, text: &[u8]) -> Result<Vec<u8>, AllocError>
     ensures { IfOk result (λ suffix. suffix.items ≡ bracketed false text.now) }
 {
@@ -221,9 +221,9 @@ fn bracketed(alloc: Global, text: &[u8]) -> Result<Vec<u8>, AllocError>
     Ok(suffix)
 }
 
-/// The suffix that specifies the zone, which isn't critical: `[Europe/Berlin]` or `[+05:30]`. `None` if RFC 9557,
-/// section 4.1, has no text for it: the name isn't one by its grammar, or the offset has seconds or a day or more. An
-/// error only if memory runs out.
+/// The suffix that specifies the zone, without the critical flag: `[Europe/Berlin]` or `[+05:30]`. `None` if RFC 9557,
+/// section 4.1, has no text for the zone: the name doesn't follow its grammar, or the offset has seconds, or is a day
+/// or more. An error only if memory runs out.
 pub fn write_suffix(alloc: Global, zone: ZoneText<'_>) -> Result<Option<Vec<u8>>, AllocError>
     ensures some { IfOk result (λ written. IfSome written (λ suffix.
         (text : List ℕ) × IsZoneText text (zone_of zone.entry) × (suffix.items ≡ bracketed false text))) }

@@ -25,63 +25,63 @@ after_fewer (step.More b) behind = omega (arith, length-drop (length (further be
 after_fewer (step.Component c) behind = omega arith
 after_fewer (step.Group k len) behind = omega (arith, length-drop len behind)
 
-module _ (Y : ℕ) (v : OffsetDateTime) (before : List ℕ) (x : Step) (behind : List Step) where
+module _ (most Y : ℕ) (v : OffsetDateTime) (before : List ℕ) (x : Step) (behind : List Step) where
   -- the first item has been written
   pub texts_on : (new : List ℕ) (n : ℕ) (left : List Step) → left ≡ x ∷ behind → length left ≤ n
-      → ((m : ℕ) → length behind ≤ m → text_after Y v before (tree_at (trees_in m) x behind) ≡ WalkingOk new)
+      → ((m : ℕ) → length behind ≤ m → text_after most Y v before (tree_at (trees_in m) x behind) ≡ WalkingOk new)
       → (m : ℕ) × (length (steps_after x behind) ≤ m)
-      × (texts_after Y v before (trees_in n left) ≡ texts_after Y v new (trees_in m (steps_after x behind)))
+      × (texts_after most Y v before (trees_in n left) ≡ texts_after most Y v new (trees_in m (steps_after x behind)))
   unfolding trees_in
   texts_on new zero left is fits written = absurd (omega (arith, ap length is))
   texts_on new (suc m) left is fits written = (
     m,
     omega (arith, ap length is, after_fewer x behind),
-    ap (λ l. texts_after Y v before (trees_in (suc m) l)) is
-        ∙ ap (λ r. and_then r (λ bytes. texts_after Y v bytes (trees_in m (steps_after x behind)))) (written m (omega (arith, ap length is))),
+    ap (λ l. texts_after most Y v before (trees_in (suc m) l)) is
+        ∙ ap (λ r. and_then r (λ bytes. texts_after most Y v bytes (trees_in m (steps_after x behind)))) (written m (omega (arith, ap length is))),
   )
 
   -- the first item has no text
   pub texts_refused : (why : Unformattable) (n : ℕ) (left : List Step) → left ≡ x ∷ behind → length left ≤ n
-      → ((m : ℕ) → length behind ≤ m → text_after Y v before (tree_at (trees_in m) x behind) ≡ WalkingErr why)
-      → texts_after Y v before (trees_in n left) ≡ WalkingErr why
+      → ((m : ℕ) → length behind ≤ m → text_after most Y v before (tree_at (trees_in m) x behind) ≡ WalkingErr why)
+      → texts_after most Y v before (trees_in n left) ≡ WalkingErr why
   unfolding trees_in
   texts_refused why zero left is fits refused = absurd (omega (arith, ap length is))
   texts_refused why (suc m) left is fits refused =
-      ap (λ l. texts_after Y v before (trees_in (suc m) l)) is
-      ∙ ap (λ r. and_then r (λ bytes. texts_after Y v bytes (trees_in m (steps_after x behind)))) (refused m (omega (arith, ap length is)))
+      ap (λ l. texts_after most Y v before (trees_in (suc m) l)) is
+      ∙ ap (λ r. and_then r (λ bytes. texts_after most Y v bytes (trees_in m (steps_after x behind)))) (refused m (omega (arith, ap length is)))
 
   -- the first item of a choice
   pub first_is : (n : ℕ) (left : List Step) → left ≡ x ∷ behind → length left ≤ n
       → (m : ℕ) × (length behind ≤ m)
-      × (first_after Y v before (trees_in n left) ≡ text_after Y v before (tree_at (trees_in m) x behind))
+      × (first_after most Y v before (trees_in n left) ≡ text_after most Y v before (tree_at (trees_in m) x behind))
   unfolding trees_in
   first_is zero left is fits = absurd (omega (arith, ap length is))
-  first_is (suc m) left is fits = (m, omega (arith, ap length is), ap (λ l. first_after Y v before (trees_in (suc m) l)) is)
+  first_is (suc m) left is fits = (m, omega (arith, ap length is), ap (λ l. first_after most Y v before (trees_in (suc m) l)) is)
 
 -- no step is left
-texts_end : (Y : ℕ) (v : OffsetDateTime) (before : List ℕ) (n : ℕ) (left : List Step) → length left ≤ 0
-    → texts_after Y v before (trees_in n left) ≡ WalkingOk before
+texts_end : (most Y : ℕ) (v : OffsetDateTime) (before : List ℕ) (n : ℕ) (left : List Step) → length left ≤ 0
+    → texts_after most Y v before (trees_in n left) ≡ WalkingOk before
 unfolding trees_in
-texts_end Y v before zero [] none = refl
-texts_end Y v before (suc n) [] none = refl
-texts_end Y v before n (s ∷ left) none = absurd (omega arith)
+texts_end most Y v before zero [] none = refl
+texts_end most Y v before (suc n) [] none = refl
+texts_end most Y v before n (s ∷ left) none = absurd (omega arith)
 
-first_end : (Y : ℕ) (v : OffsetDateTime) (before : List ℕ) (n : ℕ) (left : List Step) → length left ≤ 0
-    → first_after Y v before (trees_in n left) ≡ WalkingOk before
+first_end : (most Y : ℕ) (v : OffsetDateTime) (before : List ℕ) (n : ℕ) (left : List Step) → length left ≤ 0
+    → first_after most Y v before (trees_in n left) ≡ WalkingOk before
 unfolding trees_in
-first_end Y v before zero [] none = refl
-first_end Y v before (suc n) [] none = refl
-first_end Y v before n (s ∷ left) none = absurd (omega arith)
+first_end most Y v before zero [] none = refl
+first_end most Y v before (suc n) [] none = refl
+first_end most Y v before n (s ∷ left) none = absurd (omega arith)
 
 pub write_first-returns-in_default : goal.write_first-returns-in_default
 write_first-returns-in_default t c = λ n fits.
-    first_end greatest_year c.args.value.now c.args.text.now.items n c.args.steps.now (omega arith)
+    first_end t.row.CAP greatest_year c.args.value.now c.args.text.now.items n c.args.steps.now (omega arith)
 
 pub write_first-returns-in-Ok : goal.write_first-returns-in-Ok
 write_first-returns-in-Ok t c = λ n fits.
     let steps = c.args.steps.now in
     let x = c.step-item.result in
-    let first = first_is greatest_year c.args.value.now c.args.text.now.items x (behind_first steps) n steps
+    let first = first_is t.row.CAP greatest_year c.args.value.now c.args.text.now.items x (behind_first steps) n steps
     (row_is steps x (omega arith) c.step-item.is) fits in
     first.2 ∙ c.in-Ok.ensures.text first.0 first.1
 
@@ -89,7 +89,7 @@ pub write_first-returns-in-Err : goal.write_first-returns-in-Err
 write_first-returns-in-Err t c = λ n fits.
     let steps = c.args.steps.now in
     let x = c.step-item.result in
-    let first = first_is greatest_year c.args.value.now c.args.text.now.items x (behind_first steps) n steps
+    let first = first_is t.row.CAP greatest_year c.args.value.now c.args.text.now.items x (behind_first steps) n steps
     (row_is steps x (omega arith) c.step-item.is) fits in
     first.2 ∙ c.in-Err.ensures.text first.0 first.1
 
@@ -98,7 +98,7 @@ write_steps-returns-in-Err t c = λ n fits.
     let left = c.loop-left.left.now in
     let x = c.step-item.result in
     let kept = c.loop-left.invariant.0 n fits in
-    kept.2 ∙ texts_refused greatest_year c.args.value.now c.loop-left.text.items x (behind_first left) _ kept.0 left
+    kept.2 ∙ texts_refused t.row.CAP greatest_year c.args.value.now c.loop-left.text.items x (behind_first left) _ kept.0 left
     (row_is left x (omega arith) c.step-item.is) kept.1 c.in-Err.ensures.text
 
 pub write_steps-loop-left-preserved : goal.write_steps-loop-left-preserved
@@ -108,11 +108,11 @@ write_steps-loop-left-preserved t c =
     let new = c.write_item.new.text.items in (
       λ n fits.
           let kept = c.loop-left.invariant.0 n fits in
-          let on = texts_on greatest_year c.args.value.now c.loop-left.text.items x (behind_first left) new kept.0 left
+          let on = texts_on t.row.CAP greatest_year c.args.value.now c.loop-left.text.items x (behind_first left) new kept.0 left
           (row_is left x (omega arith) c.step-item.is) kept.1 c.in-Ok.ensures.text in (
             on.0,
             omega (arith, on.1, ap length c.in-Ok.ensures.after),
-            kept.2 ∙ on.2 ∙ ap (λ l. texts_after greatest_year c.args.value.now new (trees_in on.0 l)) (sym c.in-Ok.ensures.after),
+            kept.2 ∙ on.2 ∙ ap (λ l. texts_after t.row.CAP greatest_year c.args.value.now new (trees_in on.0 l)) (sym c.in-Ok.ensures.after),
           ),
       omega (arith, c.in-Ok.ensures.fewer, length-take (length left - 1) (drop 1 left), length-drop 1 left),
     )
@@ -120,4 +120,4 @@ write_steps-loop-left-preserved t c =
 pub write_steps-returns : goal.write_steps-returns
 write_steps-returns t c = λ n fits.
     let kept = c.loop-left.invariant.0 n fits in
-    kept.2 ∙ texts_end greatest_year c.args.value.now c.loop-left.text.items kept.0 c.loop-left.left.now (omega arith)
+    kept.2 ∙ texts_end t.row.CAP greatest_year c.args.value.now c.loop-left.text.items kept.0 c.loop-left.left.now (omega arith)

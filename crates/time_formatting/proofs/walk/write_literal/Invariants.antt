@@ -4,11 +4,11 @@ use Rattle.time_formatting.specs.Texts.{joined}
 use Rattle.time_formatting.proofs.walk.write_literal.Given as goal
 
 abbrev pub invariant-loop-left : goal.invariant-loop-left
-invariant-loop-left l =
-    (joined l.fn.text.items (l.first ∷ further l.steps) ≡ joined l.text.items (further l.left))
+invariant-loop-left g l =
+    (joined g.row.CAP l.fn.text.items (l.first ∷ further l.steps) ≡ joined g.row.CAP l.text.items (further l.left))
     × (drop (length (further l.left)) l.left ≡ drop (length (further l.steps)) l.steps)
     × (length l.left ≤ length l.steps)
-    × (length l.text.items ≤ 35)
+    × (length l.text.items ≤ g.row.CAP)
 
 abbrev pub decreases-loop-left : goal.decreases-loop-left
-decreases-loop-left l = length l.left
+decreases-loop-left g l = length l.left

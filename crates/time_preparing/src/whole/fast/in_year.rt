@@ -85,8 +85,8 @@ fn year_of(known: &Parsed) -> Option<i32>
     Some(year)
 }
 
-// A month by its short name, and a day, 1 to 31, with this byte between them, at the front of the input, and the rest.
-// `None` if there are none.
+// The month of a short name and the day, 1 to 31, at the front of the input, with this byte between them, and the rest
+// after them. `None` if the input begins otherwise.
 #[inline(always)]
 fn month_and_day(between: u8, input: &[u8]) -> Option<((Month, NonZero<u8>), &[u8])>
     ensures { IfSome result (λ f. (r : Record) → ReadsAll greatest_year (leaves (month_day_parts between))

@@ -104,7 +104,7 @@ fn basic_first_sixteen(input: &[u8]) -> Option<FirstSixteen<'_>>
     })
 }
 
-// The numbers of the pairs of digits of these bytes, with separators: the two of the year, the month, the day, the
+// The numbers of the pairs of digits of bytes such as `2025-01-31T08:42`: the two of the year, the month, the day, the
 // hour, and the minute three times.
 #[inline(always)]
 fn extended_pairs(bytes: &[u8; 16]) -> [u8; 8]
@@ -117,7 +117,7 @@ fn extended_pairs(bytes: &[u8; 16]) -> [u8; 8]
     (tens * u8x8::splat(10) + ones).to_array()
 }
 
-// The numbers of the pairs of digits of these bytes, without separators: the two of the year, the month, the day, the
+// The numbers of the pairs of digits of bytes such as `20250131T084259Z`: the two of the year, the month, the day, the
 // hour, and the minute three times.
 #[inline(always)]
 fn basic_pairs(bytes: &[u8; 16]) -> [u8; 8]

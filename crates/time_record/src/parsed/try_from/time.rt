@@ -60,8 +60,8 @@ pub(super) fn time_with(
     }
 }
 
-// The hour of the day, 0 to 23: as set, or else computed from the hour of the half day and its half. `None` if these
-// two aren't both set either.
+// The hour of the day, 0 to 23: as set, or else computed from the hour of the half day and its half, AM or PM. `None`
+// if it isn't set and these two aren't both set.
 #[inline(always)]
 fn hour_of_day(parsed: &Parsed) -> Option<u8>
     ensures { result ≡ hour_of parsed.now }

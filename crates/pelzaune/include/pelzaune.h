@@ -89,8 +89,9 @@ enum {
     PELZAUNE_NOT_SUPPORTED,     /* what no description supports, such as %Z */
     PELZAUNE_TOO_LONG,          /* it has more than 64 steps */
     PELZAUNE_UNKNOWN_SYNTAX,    /* no syntax of descriptions has that number */
-    /* error of a moment that is written: */
-    PELZAUNE_NO_TEXT            /* the format can't write the component */
+    /* errors of a moment that is written: */
+    PELZAUNE_NO_TEXT,           /* the format or the description can't write the component */
+    PELZAUNE_TEXT_TOO_LONG      /* the text by a description has more than 1024 bytes */
 };
 #define PELZAUNE_KIND(status) ((status) & 0xffu)
 #define PELZAUNE_COMPONENT(status) ((status) >> 8)
@@ -224,6 +225,21 @@ size_t pelzaune_read_column(uint32_t syntax, const uint8_t *description, size_t 
  * seconds. */
 pelzaune_status pelzaune_format_moment(uint32_t format, const pelzaune_moment *moment, uint8_t *buffer, size_t capacity, size_t *length);
 
+/* The longest text of a moment by a description. */
+#define PELZAUNE_DESCRIBED_TEXT 1024u
+
+/* Does so by a parsed description. The text has all optional items and the first item of each choice, and names are
+ * written in their usual case. A fraction without a fixed number of digits has those up to the last that isn't 0, and at
+ * least one; a count from 1970 is rounded down. PELZAUNE_NO_TEXT names the year, where a component of the standard range
+ * has one outside -9999 to 9999, or an `ignore`, which has no text. A longer text than PELZAUNE_DESCRIBED_TEXT is
+ * PELZAUNE_TEXT_TOO_LONG. */
+pelzaune_status pelzaune_described_format_moment(const pelzaune_description *description, const pelzaune_moment *moment,
+    uint8_t *buffer, size_t capacity, size_t *length);
+
+/* Does so by the text of a description, or returns its error as pelzaune_check_description does. */
+pelzaune_status pelzaune_read_format_moment(uint32_t syntax, const uint8_t *description, size_t description_length,
+    const pelzaune_moment *moment, uint8_t *buffer, size_t capacity, size_t *length);
+
 /* Writes the text of a status over the start of the buffer, truncated to its `capacity` and without a 0 at its end.
  * Returns the length of the whole text, which is 0 for PELZAUNE_OK and for an unknown kind. */
 size_t pelzaune_write_text(pelzaune_status status, uint8_t *buffer, size_t capacity);
@@ -251,6 +267,7 @@ static inline const char *pelzaune_text(pelzaune_status status)
     case PELZAUNE_NOT_SUPPORTED: return "that is not supported in a description";
     case PELZAUNE_TOO_LONG: return "the description is too long";
     case PELZAUNE_UNKNOWN_SYNTAX: return "no syntax of descriptions has that number";
+    case PELZAUNE_TEXT_TOO_LONG: return "the text has more than 1024 bytes";
     default: break;
     }
     switch (status) {

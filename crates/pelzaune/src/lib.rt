@@ -6,7 +6,7 @@
 //!
 //! The formats are 1 for RFC 3339, 2 for RFC 2822, 3 for ISO 8601, and 4 for RFC 3339 with only `T`, `t` or a space
 //! between the date and the time. The syntaxes of descriptions are 1 and 2 for those versions of the syntax in
-//! brackets, and 3 for strftime. The status of an error is the number of its kind, 1 to 18, plus 256 times the number
+//! brackets, and 3 for strftime. The status of an error is the number of its kind, 1 to 19, plus 256 times the number
 //! of the component that it names (0 for none).
 #![tactic(auto)]
 
@@ -14,10 +14,11 @@ ghost use Rattle.std.specs.Prelude.{◌≡◌, length};
 ghost use Rattle.time_values.specs.Calendar.{greatest_year};
 ghost use Rattle.time_record.specs.Resolution.{IsDated, IsTimed, IsOffset, IsPlain, IsUtcMoment};
 ghost use Rattle.pelzaune_ffi.specs.Described.{Checks, StoresByDescription, syntax_of};
-ghost use Rattle.pelzaune_ffi.specs.Results.{format_of, StoresValue, StoresCount, StoresParts, IsStored, IsCountStored, ArePartsStored, HasDate, HasTime, HasOffset, HasPlain, HasUtc, HasMoment, HasInstant, over_empty, of_record, of_moment, StoresText};
+ghost use Rattle.pelzaune_ffi.specs.Results.{format_of, StoresValue, StoresCount, StoresParts, IsStored, IsCountStored, ArePartsStored, HasDate, HasTime, HasOffset, HasPlain, HasUtc, HasMoment, HasInstant, over_empty, of_record, of_moment};
 ghost use Rattle.pelzaune_ffi.specs.Status.{laid_over, status_text};
 
 mod described;
+mod formatting;
 
 use pelzaune_ffi::descriptions::check;
 use pelzaune_ffi::moments::{count_by, local_by, moment_by};
@@ -26,7 +27,6 @@ use pelzaune_ffi::parts::{
 };
 use pelzaune_ffi::results::{count_read, parts_by, parts_read, store_value_by, store_value_read};
 use pelzaune_ffi::text::{lay, pieces_of};
-use pelzaune_ffi::writing::format_moment;
 use time_values::{Date, OffsetDateTime, PlainDateTime, Time, UtcDateTime, UtcOffset};
 
 /// The version of this interface, 256 * major + minor, as `PELZAUNE_VERSION` in the header.
@@ -39,7 +39,7 @@ pub extern "C" fn pelzaune_version() -> u32
 
 /// Writes the text of a status over the start of the buffer, truncated to the buffer's length. The rest of the buffer
 /// is unchanged. Returns the length of the whole text, which is 0 for a status whose remainder by 256, its kind, is 0
-/// or above 18.
+/// or above 19.
 #[unsafe(no_mangle)]
 pub extern "C" fn pelzaune_write_text(status: u32, buffer: &mut [u8]) -> usize
     ensures length { result ≡ length (status_text status) }
@@ -140,23 +140,6 @@ pub extern "C" fn pelzaune_parse_parts(format: u32, text: &[u8], out: &mut Parts
     ensures { StoresParts (format_of format) text.now result out.old out.new }
 {
     parts_by(format, text, out)
-}
-
-/// Writes the text of a moment, in the format with this number, over the start of the buffer, truncated to the buffer's
-/// length. The rest of the buffer is unchanged. Stores the length of the whole text in `count`.
-///
-/// Returns 0, or the status of the error and leaves `buffer` and `count` unchanged: that of a part that is out of range
-/// or that the format can't write, or 8 for an unknown format.
-#[unsafe(no_mangle)]
-pub extern "C" fn pelzaune_format_moment(
-    format: u32,
-    moment: &MomentParts,
-    buffer: &mut [u8],
-    count: &mut usize,
-) -> u32
-    ensures { StoresText (format_of format) moment.now result buffer.old buffer.new count.old count.new }
-{
-    format_moment(format, moment, buffer, count)
 }
 
 /// Checks a description in the syntax with this number. Returns 0; or the status of its first fault, and stores that

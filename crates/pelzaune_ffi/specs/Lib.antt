@@ -1,5 +1,6 @@
 pub mod Columns
 pub mod Described
+pub mod Formatted
 pub mod IsoFronts
 pub mod Places
 pub mod Results

@@ -36,7 +36,7 @@ fn component_name(number: u32) -> &'static str
 }
 
 /// The text of a status, in three pieces that are to be joined. The status is its kind plus 256 times the number of the
-/// component that the text names (0 for none). All pieces are empty for the kind 0 or an unknown kind, above 18. A text
+/// component that the text names (0 for none). All pieces are empty for the kind 0 or an unknown kind, above 19. A text
 /// that names a component has an empty name for a number outside 1 to 23.
 pub fn pieces_of(status: u32) -> [&'static str; 3]
     ensures text { Status.text_of result ≡ Status.status_text status }
@@ -74,6 +74,7 @@ pub fn pieces_of(status: u32) -> [&'static str; 3]
         16 => ["the description is too long", "", ""],
         17 => ["no syntax of descriptions has that number", "", ""],
         18 => ["the '", name, "' component has no text in that format"],
+        19 => ["the text has more than 1024 bytes", "", ""],
         _ => ["", "", ""],
     }
 }

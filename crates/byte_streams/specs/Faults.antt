@@ -21,6 +21,6 @@ HasGiven result before now = MatchResult result (λ n. now ≡ count_more before
 abbrev pub IsCutOff : ℕ → ℕ → ℕ → Type 0
 IsCutOff before now given = Rises before now ⊎ (2 ^ 64 - 1 ≤ given)
 
--- By the counts before and after, no call failed and at least one byte was read, or a call failed.
+-- A call failed; or none failed, and at least one byte was read or the count of bytes is 2^64 - 1 or more.
 abbrev pub HasProgressed : ℕ → ℕ → ℕ → ℕ → Type 0
 HasProgressed faults faults' given given' = ((faults' ≡ faults) × (count_more given 1 ≤ given')) ⊎ Rises faults faults'

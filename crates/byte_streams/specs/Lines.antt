@@ -14,12 +14,12 @@ ended text = record { text = text; ending = 10 ∷ [] }
 abbrev pub unended : List ℕ → Line
 unended text = record { text = text; ending = [] }
 
--- the lines, with the byte b before the first line's text; if there are none, one line of b without LF
+-- the lines, with the byte b before the first line's text; if there are no lines, one line of b without LF
 abbrev pub onto_first : ℕ → List Line → List Line
 onto_first b [] = unended (b ∷ []) ∷ []
 onto_first b (line ∷ lines) = record { text = b ∷ line.text; ending = line.ending } ∷ lines
 
--- The lines of a text, which end with LF. The bytes after the last LF are a line, unless there are none.
+-- The lines of a text. Each line ends with LF, except that any bytes after the last LF are a line without LF.
 abbrev pub lines_of : List ℕ → List Line
 lines_of [] = []
 lines_of (b ∷ bytes) = if b == 10 then ended [] ∷ lines_of bytes else onto_first b (lines_of bytes)

@@ -11,14 +11,14 @@ use std::io::{ErrorKind, Write};
 use std::marker::Model;
 
 /// A buffer of at most `N` bytes in an array. It allocates nothing, and clearing it costs nothing. Its `write`
-/// appends the bytes that fit, and returns how many.
+/// appends as many of the bytes as fit after the buffered ones, and returns how many it appended.
 #[derive(Drop)]
 pub struct ArrayBuf<const N: usize> {
-    /// The buffered bytes, from `start` to before `end`.
+    /// The array. Its bytes from `start` to before `end` are buffered.
     pub(crate) array: [u8; N],
     /// The index of the first buffered byte.
     pub(crate) start: usize,
-    /// The index after the last buffered byte. The bytes from here are free.
+    /// The index after the last buffered byte. Appended bytes are stored from this index on.
     pub(crate) end: usize,
 }
 
@@ -74,7 +74,7 @@ impl<const N: usize> ArrayBuf<N> {
         self.end = 0;
     }
 
-    /// Removes all bytes but the last `n`. The buffer must contain that many.
+    /// Removes all bytes but the last `n`. The buffer must contain at least `n` bytes.
     pub fn keep_last(&mut self, n: usize)
         requires { n ≤ length self.old.items }
         ensures { self.new.items ≡ drop (length self.old.items - n) self.old.items }
@@ -116,8 +116,8 @@ impl<const N: usize> ArrayBuf<N> {
         self.start = 0;
     }
 
-    // Reads once, into the free bytes at the end of the array. Returns how many bytes were read: 0 at the end of the
-    // input.
+    // Reads once, into the free bytes at the end of the array, of which there must be some. Returns how many bytes were
+    // read: 0 at the end of the input.
     fn read_behind<R: Source>(&mut self, input: &mut R) -> io::Result<usize>
         requires { 0 < self.old.room }
         ensures read { MatchResult result

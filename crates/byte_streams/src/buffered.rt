@@ -13,12 +13,12 @@ use std::io::Write;
 // How many bytes fit in the buffer of a sink.
 const CAPACITY: usize = 65536;
 
-// How many bytes of a printed value fit in its array: more than most values have.
+// How many bytes the array holds into which `write_fmt` first prints a value: more than most printed values have.
 const LONGEST: usize = 128;
 
-/// A sink with a buffer of up to 65536 bytes that are still to be written to it. Later writes and
-/// [`flush_buffer`](BufferedSink::flush_buffer) write them, but neither `flush` nor dropping does. It allocates
-/// nothing.
+/// A sink with a buffer of up to 65536 bytes that aren't written yet. [`flush_buffer`](BufferedSink::flush_buffer)
+/// writes them, and a later write does if its bytes don't fit in the buffer, but neither `flush` nor dropping writes
+/// them. It allocates nothing.
 #[derive(Drop)]
 pub struct BufferedSink<W> {
     /// The sink that the buffered bytes are written to.
@@ -56,8 +56,8 @@ impl<W> BufferedSink<W> {
 }
 
 impl<W: Sink> BufferedSink<W> {
-    /// Writes the buffered bytes to the sink, and doesn't flush the sink. After an error they are still buffered,
-    /// although some may have been written.
+    /// Writes the buffered bytes to the sink, and empties the buffer. Doesn't flush the sink. After an error all bytes
+    /// are still buffered, although some may have been written.
     #[inline(never)]
     pub fn flush_buffer(&mut self) -> Result<(), Unwritten>
         ensures written { OnOk result (Keeps (append_known (W.contents self.old.sink) self.old.buffer.items) (W.contents self.new.sink)) }
@@ -122,8 +122,8 @@ impl<W: Sink> BufferedSink<W> {
         self.write_all(&bytes[end..])
     }
 
-    /// Writes `bytes` with `text` in place of those from `begin` to before `end`. Returns an error if a write to the
-    /// sink failed; then some of these bytes may have been written.
+    /// Writes `bytes`, with `text` in place of the bytes from index `begin` to before `end`. Returns an error if a
+    /// write to the sink failed; some of the result may then be written or buffered.
     #[inline(always)]
     pub fn write_spliced(
         &mut self,
@@ -180,7 +180,7 @@ impl<W: Sink> Sink for BufferedSink<W> {
         }
     }
 
-    // Leaves the bytes buffered: a flush mustn't change the contents, and after a failed write they aren't known.
+    // Flushes only the sink: a flush keeps the contents, and a failed write of the buffered bytes leaves them unknown.
     fn flush(&mut self) -> Result<(), Unwritten> {
         self.sink.flush()
     }

@@ -43,7 +43,7 @@ impl<T> Counted<T> {
         &self.inner
     }
 
-    /// The wrapped reader or writer, and the last error of a write or a flush, or `None` if none failed.
+    /// The wrapped reader or writer, and the last error of a write or a flush. The error is `None` if none failed.
     pub fn into_parts(self) -> (T, Option<io::Error>)
         ensures inner { result.0 ≡ self.inner }
         ensures error { result.1 ≡ self.error }
@@ -64,7 +64,7 @@ impl<T> Counted<T> {
         self.faults > 0 || self.given == u64::MAX
     }
 
-    /// `count`, a number of readers that were cut off, plus one if this reader was: one of its calls has failed, or its
+    /// `count`, a number of readers that were cut off, plus one if this one was cut off: a call of it failed, or its
     /// reads have returned 18446744073709551615 bytes or more. The result is at most 18446744073709551615.
     pub fn count_cut_off(&self, count: u64) -> u64
         ensures cut_off { IsCutOff 0 self.now.faults self.now.given → Rises count result }

@@ -8,7 +8,7 @@ use std::io;
 use std::io::{ErrorKind, Write};
 
 /// A borrowed writer of std. Like [`Counted`](crate::Counted) it counts the failed calls, and keeps the last error. The
-/// writer contains what was written when the borrow ends.
+/// bytes go directly to that writer, which still contains them when the borrow has ended.
 #[derive(Drop)]
 pub struct Lent<'a, W> {
     inner: &'a mut W,

@@ -22,8 +22,8 @@ pub fn whole_line(bytes: &[u8]) -> Option<(&[u8], &[u8])>
     }
 }
 
-/// The first line, without its LF, and the bytes after that LF. Without an LF, all bytes are the line, and none are
-/// after it. The bytes must not be empty.
+/// The first line, without its LF, and the bytes after that LF. If the bytes have no LF, the line is all of them, and
+/// the second slice is empty. The bytes must not be empty.
 #[inline(always)]
 pub fn first_line(bytes: &[u8]) -> (&[u8], &[u8])
     requires { 0 < length bytes.now }

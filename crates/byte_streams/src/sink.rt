@@ -9,7 +9,7 @@ use std::fmt::Display;
 #[derive(Clone, Copy, Debug, PartialEq, Eq)]
 pub struct Unwritten;
 
-/// A writer. A method returns an error if and only if a call to the underlying writer failed while the method ran.
+/// A writer. A method returns an error if and only if a call that it made to the underlying writer failed.
 pub trait Sink {
     // The bytes that it contains, if they are known.
     ghost contents: { Self → Option (List ℕ) };

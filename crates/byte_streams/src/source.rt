@@ -7,7 +7,7 @@ ghost use Rattle.byte_streams.specs.Faults.{HasCause, HasGiven};
 use std::io;
 use std::io::Read;
 
-/// A reader. `read` returns an error if and only if a call to the underlying reader failed while it ran.
+/// A reader. `read` returns an error if and only if a call that it made to the underlying reader failed.
 pub trait Source {
     // The unread bytes, if they are known.
     ghost remaining: { Self → Option (List ℕ) };

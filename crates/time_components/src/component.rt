@@ -36,7 +36,7 @@ fn full_year<const MOST: u8>(
     }
 }
 
-// Parses the hours of an offset, two digits with the padding, negative after `-`. The bool is whether the sign is `-`.
+// Parses an offset's hours, two digits with the padding after any sign, negative after `-`. The bool is true for `-`.
 #[inline(always)]
 fn offset_hour(
     input: &[u8],
@@ -237,8 +237,8 @@ pub fn parse_iso_year_last_two(
     two_places(input, padding)
 }
 
-/// Parses the first three letters of a month's English name, in this case (`Jan`) if `case_sensitive`, otherwise in any
-/// ASCII case. Returns `None` if the input doesn't begin with them.
+/// Parses the first three letters of a month's English name: exactly such as `Jan` if `case_sensitive`, otherwise in
+/// any ASCII case. Returns `None` if the input doesn't begin with such letters.
 #[inline(always)]
 pub fn parse_month_short(
     input: &[u8],
@@ -253,8 +253,8 @@ pub fn parse_month_short(
     }
 }
 
-/// Parses a month's whole English name, in this case (`January`) if `case_sensitive`, otherwise in any ASCII case.
-/// Returns `None` if the input doesn't begin with one.
+/// Parses a month's whole English name: exactly such as `January` if `case_sensitive`, otherwise in any ASCII case.
+/// Returns `None` if the input doesn't begin with such a name.
 #[inline]
 pub fn parse_month_long(
     input: &[u8],
@@ -324,8 +324,8 @@ pub fn parse_week_number_monday(
     two_places(input, padding)
 }
 
-/// Parses the first three letters of a weekday's English name, in this case (`Mon`) if `case_sensitive`, otherwise in
-/// any ASCII case. Returns `None` if the input doesn't begin with them.
+/// Parses the first three letters of a weekday's English name: exactly such as `Mon` if `case_sensitive`, otherwise in
+/// any ASCII case. Returns `None` if the input doesn't begin with such letters.
 #[inline(always)]
 pub fn parse_weekday_short(
     input: &[u8],
@@ -340,8 +340,8 @@ pub fn parse_weekday_short(
     }
 }
 
-/// Parses a weekday's whole English name, in this case (`Monday`) if `case_sensitive`, otherwise in any ASCII case.
-/// Returns `None` if the input doesn't begin with one.
+/// Parses a weekday's whole English name: exactly such as `Monday` if `case_sensitive`, otherwise in any ASCII case.
+/// Returns `None` if the input doesn't begin with such a name.
 #[inline]
 pub fn parse_weekday_long(
     input: &[u8],
@@ -464,8 +464,8 @@ pub fn parse_period(input: &[u8], modifiers: modifier::Period) -> Option<ParsedI
 }
 
 /// Parses the digits of a fraction of a second, without a separator, as nanoseconds, 0 to 999999999. The text is
-/// exactly the given number of ASCII digits. With `OneOrMore` it is all leading digits, at most 32, and those after the
-/// ninth are dropped. Returns `None` if the input begins with too few digits.
+/// exactly the given number of ASCII digits. With `OneOrMore` it is all leading digits up to 32, and those after the
+/// ninth don't change the value. Returns `None` if the input begins with too few digits.
 pub fn parse_subsecond(input: &[u8], modifiers: modifier::Subsecond) -> Option<ParsedItem<'_, u32>>
     ensures { Finds (Spells false (component.Subsecond modifiers)) number input.now result }
 {

@@ -164,7 +164,7 @@ pub enum FormatDescriptionV3Inner<'a> {
     BorrowedCompound(&'a [Self]),
     /// An optional item.
     BorrowedOptional {
-        /// Whether a formatter writes the item. Parsers ignore it.
+        /// Whether a formatter should write the item. This crate only prints the flag, by `Debug`.
         format: bool,
         /// The item.
         item: &'a Self,
@@ -177,7 +177,7 @@ pub enum FormatDescriptionV3Inner<'a> {
     OwnedCompound(Vec<Self>),
     /// An optional item.
     OwnedOptional {
-        /// Whether a formatter writes the item. Parsers ignore it.
+        /// Whether a formatter should write the item. This crate only prints the flag, by `Debug`.
         format: bool,
         /// The item.
         item: Box<Self>,
@@ -209,7 +209,7 @@ fn write_field<T: Debug, W: fmt::Write>(
     f.debug_tuple(name).field(value).finish()
 }
 
-// Writes the variant of an optional item, as a derived `Debug` would: `Optional(item)`.
+// Writes the variant of an optional item, as a derived `Debug` would without `#`: `Optional(item)`.
 #[cycle(debug_borrowed)]
 fn write_borrowed_optional<W: fmt::Write>(
     item: &BorrowedFormatItem<'_>,
@@ -220,7 +220,7 @@ fn write_borrowed_optional<W: fmt::Write>(
     f.write_str(")")
 }
 
-// Writes a variant that has a list of items, as a derived `Debug` would: `Name([item, item])`.
+// Writes a variant that has a list of items, as a derived `Debug` would without `#`: `Name([item, item])`.
 #[cycle(debug_borrowed)]
 fn write_borrowed_list<W: fmt::Write>(
     name: &str,
@@ -281,7 +281,7 @@ impl Debug for FormatDescriptionV3Inner<'_> {
     }
 }
 
-// Writes a variant that has a list of items, as a derived `Debug` would: `Name([item, item])`.
+// Writes a variant that has a list of items, as a derived `Debug` would without `#`: `Name([item, item])`.
 #[cycle(debug_v3)]
 fn write_v3_list<W: fmt::Write>(
     name: &str,
@@ -299,7 +299,7 @@ fn write_v3_list<W: fmt::Write>(
     f.write_str("])")
 }
 
-// Writes a variant of an optional item, as a derived `Debug` would: `Name { format: true, item: .. }`.
+// Writes a variant of an optional item, as a derived `Debug` would without `#`: `Name { format: true, item: .. }`.
 #[cycle(debug_v3)]
 fn write_v3_optional<W: fmt::Write>(
     name: &str,

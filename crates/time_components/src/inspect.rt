@@ -5,7 +5,7 @@ ghost use Rattle.time_components.specs.Tree.{borrowed_shape, further, owned_shap
 
 use crate::{BorrowedFormatItem, Component, FormatDescriptionV3Inner, OwnedFormatItem};
 
-/// The kind of a description's item and its parts, which are items of type `I`.
+/// An item of a description by its kind, with its bytes, its component, or the items in it, which have the type `I`.
 #[derive_where(Clone, Copy)]
 pub enum Node<'a, I> {
     /// Literal bytes, or the bytes of a literal text.
@@ -118,7 +118,7 @@ impl Default for Step {
 }
 
 /// How many steps of `behind`, the steps after `step`, belong to it: for a `Literal` or a `More`, the leading `More`
-/// steps; for a component, none; for a group, as many as it counts, or all of `behind` if that is fewer.
+/// steps; for a component, none; for a group, as many as it counts, or all of `behind` if those are fewer.
 #[inline(always)]
 pub fn item_len(step: &Step, behind: &[Step]) -> usize
     ensures len { result ≡ spec.item_length step.now behind.now }
@@ -149,7 +149,7 @@ pub fn steps_after<'s>(step: &Step, behind: &'s [Step]) -> &'s [Step]
     }
 }
 
-// The steps after the leading `More` steps. Not inlined, so that a loop over leaves needs fewer registers.
+// The steps after the leading `More` steps. Not inlined, so that a loop over a row of steps needs fewer registers.
 #[inline(never)]
 fn after_further(steps: &[Step]) -> &[Step]
     ensures after { result.now ≡ drop (length (further steps.now)) steps.now }

@@ -67,8 +67,8 @@ AreFirstAndLast zone clock first last =
     × (offset_instant greatest_year first <ℤ offset_instant greatest_year last)
     × AtEach zone clock (IsBetween (offset_instant greatest_year first) (offset_instant greatest_year last))
 
--- why a date and time isn't exactly one moment in the zone: it is nonexistent, and in the range of zones at each
--- offset; it has a first and a last moment, which differ; or it is nonexistent, and not in the range at each offset
+-- why a date and time isn't exactly one moment in the zone: for `Fold` its first and its last moment differ; else it is
+-- nonexistent, for `Gap` in the range of zones at each offset, and for `OutsideZoneRange` not in it at each offset
 abbrev pub IsNotOne : TimeZone → PlainDateTime → NotOne → Type 0
 IsNotOne zone clock Gap = IsNonexistent zone clock × IsInZoneRangeAtEachOffset clock
 IsNotOne zone clock (Fold earlier later) = AreFirstAndLast zone clock earlier later

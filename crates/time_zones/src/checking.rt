@@ -87,9 +87,9 @@ fn check_zone_text(
 }
 
 /// Checks that the suffix agrees with the moment, by RFC 9557, sections 3.3, 3.4 and 4.1: it has no critical tag, since
-/// no key is known; `zones` has the zone that it names; and the moment has the offset of the suffix's zone. Returns the
-/// error of the first check that fails. `Z` and `-00:00` specify no local offset: for them `has_local_offset` is false,
-/// and offsets aren't compared. A zone is checked whether or not the flag `!` marks it as critical.
+/// no key is known; `zones` has the zone, if the suffix names one; and the moment has the offset of the suffix's zone,
+/// if it has one. Returns the error of the first check that fails. Offsets aren't compared without `has_local_offset`:
+/// pass false for `Z` and `-00:00`. A zone is checked whether or not the flag `!` marks it as critical.
 pub fn check_suffix(
     suffix: &Suffixed<'_>,
     moment: OffsetDateTime,

@@ -59,7 +59,7 @@ fn put_first(array: &mut [u8; CAPACITY], at: usize, bytes: &[u8], count: usize)
     array[at..at + count].copy_from_slice(&bytes[..count]);
 }
 
-// Writes a text at index `at`. Called for fewer than 16 bytes or more than 32, which are rare.
+// Writes a text at index `at`. `put_text` calls it for fewer than 16 bytes or more than 32, which are rare.
 #[inline(always)]
 fn put_rare(array: &mut [u8; CAPACITY], at: usize, bytes: &[u8])
     requires { at + length bytes.now ≤ CAPACITY }
@@ -83,8 +83,8 @@ fn put_text(array: &mut [u8; CAPACITY], at: usize, bytes: &[u8])
     }
 }
 
-/// Appends `bytes` with `text` in place of those from `begin` to before `end`. Returns `None`, with the buffer
-/// unchanged, unless all of `bytes` and `text` would fit together.
+/// Appends `bytes`, with `text` in place of the bytes from index `begin` to before `end`. If the free bytes are fewer
+/// than those of `bytes` and `text` together, returns `None` and leaves the buffer unchanged.
 #[inline(always)]
 pub(super) fn splice(
     buffer: &mut ArrayBuf<CAPACITY>,

@@ -97,8 +97,8 @@ fn short_fraction(input: &[u8]) -> Option<ParsedItem<'_, u32>>
     Some(ParsedItem(rest, nanoseconds))
 }
 
-// Parses the first three letters of a month's English name, in exactly this case (`Jan`), whether or not the case
-// matters. Returns `None` for another text.
+// Parses the first three letters of a month's English name, only as a capital and two small letters (`Jan`), whatever
+// `case_sensitive` is. Returns `None` for another text.
 #[inline(always)]
 pub(super) fn month_short(input: &[u8], case_sensitive: bool) -> Option<ParsedItem<'_, Month>>
     ensures { IfSome result (λ found. Cut (HasMappedValue month (IsShortOf case_sensitive Names.month_name))
@@ -111,8 +111,8 @@ pub(super) fn month_short(input: &[u8], case_sensitive: bool) -> Option<ParsedIt
     Some(ParsedItem(rest, month))
 }
 
-// Parses the first three letters of a weekday's English name, in exactly this case (`Mon`), whether or not the case
-// matters. Returns `None` for another text.
+// Parses the first three letters of a weekday's English name, only as a capital and two small letters (`Mon`),
+// whatever `case_sensitive` is. Returns `None` for another text.
 #[inline(always)]
 pub(super) fn weekday_short(input: &[u8], case_sensitive: bool) -> Option<ParsedItem<'_, Weekday>>
     ensures { IfSome result (λ found. Cut (HasMappedValue weekday (IsShortOf case_sensitive Names.weekday_name))
@@ -125,7 +125,7 @@ pub(super) fn weekday_short(input: &[u8], case_sensitive: bool) -> Option<Parsed
     Some(ParsedItem(rest, weekday))
 }
 
-/// The month whose English name begins with these letters, in exactly this case (`Jan`). Returns `None` for others.
+/// The month whose English name begins with exactly these letters, such as `Jan` but not `jan`; otherwise `None`.
 #[inline(always)]
 pub fn month_name(letters: [u8; 3]) -> Option<Month>
     ensures { IfSome result (λ v. letters ≡ take 3 (Names.month_name v)) }
@@ -147,7 +147,7 @@ pub fn month_name(letters: [u8; 3]) -> Option<Month>
     }
 }
 
-/// The weekday whose English name begins with these letters, in exactly this case (`Mon`). Returns `None` for others.
+/// The weekday whose English name begins with exactly these letters, such as `Mon` but not `mon`; otherwise `None`.
 #[inline(always)]
 pub fn weekday_name(letters: [u8; 3]) -> Option<Weekday>
     ensures { IfSome result (λ v. letters ≡ take 3 (Names.weekday_name v)) }
@@ -164,8 +164,8 @@ pub fn weekday_name(letters: [u8; 3]) -> Option<Weekday>
     }
 }
 
-// Parses `AM` or `PM`, if the modifiers accept capitals: with `is_uppercase`, or if the case doesn't matter. Returns
-// `None` for another text.
+// Parses `AM` or `PM`, if the modifiers accept capitals: with `is_uppercase`, or without `case_sensitive`. Otherwise
+// returns `None`, also for `am` and `pm`.
 #[inline(always)]
 pub(super) fn period(input: &[u8], modifiers: modifier::Period) -> Option<ParsedItem<'_, Period>>
     ensures { IfSome result (λ found. Cut (HasMappedValue Spelling.period (IsNameOf modifiers.case_sensitive (period_name modifiers.is_uppercase)))

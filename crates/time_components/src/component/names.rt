@@ -31,7 +31,7 @@ pub(super) fn weekday_short(input: &[u8], case_sensitive: bool) -> Option<Parsed
 }
 
 // Parses any three bytes, and returns them in ASCII lower case. If the case matters, they must be a capital and two
-// small ASCII letters; otherwise they need be no letters.
+// small ASCII letters; otherwise they need not be letters.
 #[inline(always)]
 fn three_letters(input: &[u8], case_sensitive: bool) -> Option<ParsedItem<'_, [u8; 3]>>
     ensures { Finds (IsTitleCase case_sensitive) (λ v. v) input.now result }
@@ -59,7 +59,7 @@ fn is_title_case(letters: [u8; 3]) -> bool
     first.is_ascii_uppercase() && second.is_ascii_lowercase() && third.is_ascii_lowercase()
 }
 
-// The month whose name begins with these letters, which are given in lower case. Returns `None` for other letters.
+// The month whose name, in lower case, begins with exactly these letters. Returns `None` if no month's name does.
 #[inline(always)]
 fn month_of(letters: [u8; 3]) -> Option<Month>
     ensures { IsWithLetters month_name letters result }
@@ -81,7 +81,7 @@ fn month_of(letters: [u8; 3]) -> Option<Month>
     }
 }
 
-// The weekday whose name begins with these letters, which are given in lower case. Returns `None` for other letters.
+// The weekday whose name, in lower case, begins with exactly these letters. Returns `None` if no weekday's name does.
 #[inline(always)]
 fn weekday_of(letters: [u8; 3]) -> Option<Weekday>
     ensures { IsWithLetters weekday_name letters result }
@@ -204,7 +204,7 @@ pub(super) fn period(input: &[u8], modifiers: modifier::Period) -> Option<Parsed
     Some(ParsedItem(letters.0, period_of(letters.1, upper)?))
 }
 
-// The half of the day of the letters `AM` or `PM` if `upper`, otherwise of `am` or `pm`. `None` for other letters.
+// The half of the day that the letters name: `AM` or `PM` if `upper`, otherwise `am` or `pm`. Else returns `None`.
 #[inline]
 fn period_of(letters: [u8; 2], upper: bool) -> Option<Period>
     ensures { MatchOption result

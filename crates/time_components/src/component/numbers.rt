@@ -44,7 +44,7 @@ pub(super) fn two_digits(input: &[u8], padding: Padding) -> Option<ParsedItem<'_
     }
 }
 
-// Parses a space and a digit, as that digit, 0 to 9. The input doesn't begin with two digits, as the contract requires.
+// Parses a space and a digit, as that digit, 0 to 9. Otherwise `None`. The input must not begin with two digits.
 #[inline(always)]
 #[tactic(auto, using(time_digits::proofs::Runs::no_spaced_digit))]
 fn spaced_digit(input: &[u8]) -> Option<ParsedItem<'_, u8>>
@@ -148,8 +148,8 @@ pub(super) fn century<const MOST: u8>(
     Some(ParsedItem(found.0, signed_century(found.1.0, found.1.1)))
 }
 
-// Parses a time since 1970-01-01T00:00:00Z in 1 to `MOST` digits, with or without a sign, in units of `unit`
-// nanoseconds, and returns it in nanoseconds, negative after `-`.
+// Parses a count of units of `unit` nanoseconds since 1970-01-01T00:00:00Z, in 1 to `MOST` digits with an optional or
+// mandatory sign, and returns it in nanoseconds, negative after `-`.
 #[inline]
 pub(super) fn timestamp<const MOST: u8>(
     input: &[u8],
@@ -238,7 +238,7 @@ fn signed_nanoseconds(sign: Sign, nanoseconds: u128) -> i128
     }
 }
 
-// Parses exactly `N` digits of a fraction of a second, 1 to 9 digits, as nanoseconds. A further digit begins the rest.
+// Parses exactly `N` digits, 1 to 9, of a fraction of a second, as nanoseconds. Any further digits begin the rest.
 #[inline]
 pub(super) fn fraction<const N: u8>(input: &[u8]) -> Option<ParsedItem<'_, u32>>
     requires least { 1 ≤ N }

@@ -42,8 +42,8 @@ fn offset_before(rows: &[Transition], place: usize, begin: i64, end: i64) -> Opt
     Some(last.after.offset)
 }
 
-// The offset of the row before `begin` to `end`, if they lie between two rows; `last` is the last row's second. The
-// search first tries the row at the index that two rows a year would give, and the one after it.
+// The offset of the last row up to `end`, if `begin` isn't before that row and another row follows. `last` is the last
+// row's second. First tries the index of the following row that two rows a year would give, and the next index.
 #[inline(always)]
 fn offset_between(rows: &[Transition], last: i64, begin: i64, end: i64) -> Option<Offset>
     requires near { (neg_ℤ (pos 377_705_023_201) ≤ℤ end) × (end <ℤ last) × (last ≤ℤ pos 253_402_207_200) }

@@ -77,14 +77,13 @@ unknown_syntax = 17
 abbrev pub text_too_long : ℕ
 text_too_long = 19
 
--- The text of a status of this kind that names that component; empty for a kind outside 1 to 19. For the kinds of parse
--- errors, 1 to 6, it is the error's text.
+-- The text of a status of this kind, which isn't 4, that names that component; empty for a kind outside 1 to 19. For
+-- the kinds of parse errors, 1 to 6, it is the error's text.
 abbrev pub kind_text : ℕ → List ℕ → List ℕ
 kind_text kind name =
     if nat_eq kind 1 then refusal_text literal else
     if nat_eq kind 2 then refusal_text (component name) else
     if nat_eq kind 3 then refusal_text trailing else
-    if nat_eq kind 4 then refusal_text insufficient else
     if nat_eq kind 5 then refusal_text (range name false) else
     if nat_eq kind 6 then refusal_text (range name true) else
     if nat_eq kind 7 then codes "the instant is out of range of 64 bits of nanoseconds" else
@@ -102,9 +101,21 @@ kind_text kind name =
     if nat_eq kind 19 then codes "the text has more than 1024 bytes" else
     []
 
+-- What a text lacks, by the component's number: AM or PM for 13, the offset for 14, otherwise the component.
+abbrev pub missing_name : ℕ → List ℕ
+missing_name number =
+    if nat_eq number 13 then codes "AM or PM" else
+    if nat_eq number 14 then codes "offset" else component_name number
+
+-- The text of the status 4 with a component of this number; for 0, the text of the error that names no component.
+abbrev pub missing_text : ℕ → List ℕ
+missing_text number = if nat_eq number 0 then refusal_text insufficient else codes "missing " ++ missing_name number
+
 -- The text of a status: of the kind `status % 256` and the component with the number `status / 256`.
 abbrev pub status_text : ℕ → List ℕ
-status_text status = kind_text (status % 256) (component_name (status / 256))
+status_text status =
+    if nat_eq (status % 256) 4 then missing_text (status / 256) else
+    kind_text (status % 256) (component_name (status / 256))
 
 -- The concatenation of pieces.
 abbrev pub text_of : List (Bor (List ℕ)) → List ℕ

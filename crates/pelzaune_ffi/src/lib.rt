@@ -23,6 +23,7 @@ pub mod descriptions;
 pub mod formatting;
 mod lines;
 pub mod locating;
+pub mod missing;
 pub mod moments;
 pub mod parts;
 pub mod results;

@@ -35,6 +35,23 @@ fn component_name(number: u32) -> &'static str
     }
 }
 
+// The text of the status 4 with a component of this number, in three pieces that are to be joined.
+fn missing_pieces(number: u32) -> [&'static str; 3]
+    ensures text { Status.text_of result ≡ Status.missing_text number }
+    ensures bound { length (Status.missing_text number) ≤ 128 }
+{
+    match number {
+        0 => [
+            "the `Parsed` struct did not include enough information",
+            " to construct the type",
+            "",
+        ],
+        13 => ["missing ", "AM or PM", ""],
+        14 => ["missing ", "offset", ""],
+        _ => ["missing ", component_name(number), ""],
+    }
+}
+
 /// The text of a status, in three pieces that are to be joined. The status is its kind plus 256 times the number of the
 /// component that the text names (0 for none). All pieces are empty for the kind 0 or an unknown kind, above 19. A text
 /// that names a component has an empty name for a number outside 1 to 23.
@@ -51,11 +68,7 @@ pub fn pieces_of(status: u32) -> [&'static str; 3]
             "",
             "",
         ],
-        4 => [
-            "the `Parsed` struct did not include enough information",
-            " to construct the type",
-            "",
-        ],
+        4 => missing_pieces(status / 256),
         5 => ["", name, " is out of range"],
         6 => ["", name, " is out of range for the other components"],
         7 => [

@@ -1,0 +1,181 @@
+//! Finds the component that a text lacks for a value.
+ghost use Rattle.std.specs.Prelude.{◌≡◌, tt};
+ghost use Rattle.pelzaune_ffi.specs.Described as Described;
+ghost use Rattle.pelzaune_ffi.specs.Described.{StoresByDescription, StoresBySteps};
+ghost use Rattle.pelzaune_ffi.specs.Missing as spec;
+ghost use Rattle.pelzaune_ffi.specs.Results as Formats;
+ghost use Rattle.pelzaune_ffi.specs.Results.{IsResultStored, StoresBy, of_record};
+
+use crate::descriptions::{fault_status, read_description, syntax_of};
+use crate::status::{Format, UNKNOWN_FORMAT, UNKNOWN_SYNTAX, format_of, status_of};
+use crate::stored::StoredDescription;
+use time_parsing::{Iso8601, Parsable, Rfc2822, Rfc3339, Rfc3339Strict};
+use time_record::Parsed;
+
+// Whether the record has a year, or its century and its last two digits.
+fn has_year(parsed: &Parsed) -> bool
+    ensures { result ≡ spec.has_year parsed.now }
+{
+    parsed.year().is_some() || (parsed.year_century().is_some() && parsed.year_last_two().is_some())
+}
+
+// Whether the record has an ISO 8601 week year, or its century and its last two digits.
+fn has_iso_year(parsed: &Parsed) -> bool
+    ensures { result ≡ spec.has_iso_year parsed.now }
+{
+    parsed.iso_year().is_some()
+        || (parsed.iso_year_century().is_some() && parsed.iso_year_last_two().is_some())
+}
+
+// Whether the record has a day of a year: its number in the year, a month and a day, or a weekday and the number of a
+// week that starts on Sunday or Monday.
+fn has_day(parsed: &Parsed) -> bool
+    ensures { result ≡ spec.has_day parsed.now }
+{
+    parsed.ordinal().is_some()
+        || (parsed.month().is_some() && parsed.day().is_some())
+        || (parsed.weekday().is_some()
+            && (parsed.sunday_week_number().is_some() || parsed.monday_week_number().is_some()))
+}
+
+// Whether the record has a day of an ISO 8601 week year: a week number and a weekday.
+fn has_iso_day(parsed: &Parsed) -> bool
+    ensures { result ≡ spec.has_iso_day parsed.now }
+{
+    parsed.iso_week_number().is_some() && parsed.weekday().is_some()
+}
+
+// The status of what a record lacks for a date, the day or the year; 0 if it lacks nothing.
+fn missing_for_date(parsed: &Parsed) -> u32
+    ensures { result ≡ spec.missing_status (spec.missing_for_date parsed.now) }
+{
+    let (day, iso_day) = (has_day(parsed), has_iso_day(parsed));
+    if (has_year(parsed) && day) || (has_iso_year(parsed) && iso_day) {
+        0
+    } else if day || iso_day {
+        4 + 256
+    } else {
+        4 + 256 * 3
+    }
+}
+
+// The status of what a record lacks for an hour of the day, the half of the day or the hour; 0 if it lacks nothing.
+fn missing_for_hour(parsed: &Parsed) -> u32
+    ensures { result ≡ spec.missing_status (spec.missing_for_hour parsed.now) }
+{
+    if parsed.hour_24().is_some() {
+        return 0;
+    }
+    match (parsed.hour_12(), parsed.hour_12_is_pm()) {
+        (Some(_), Some(_)) => 0,
+        (Some(_), None) => 4 + 256 * 13,
+        (None, _) => 4 + 256 * 8,
+    }
+}
+
+// The status of what a record lacks between its hour and its smallest part, a minute or a second; 0 for no such gap.
+fn missing_below_hour(parsed: &Parsed) -> u32
+    ensures { result ≡ spec.missing_status (spec.missing_below_hour parsed.now) }
+{
+    match (parsed.minute(), parsed.second(), parsed.subsecond()) {
+        (None, Some(_), _) | (None, None, Some(_)) => 4 + 256 * 9,
+        (Some(_), None, Some(_)) => 4 + 256 * 10,
+        _ => 0,
+    }
+}
+
+// The status of what a record lacks for a time; 0 if it lacks nothing.
+fn missing_for_time(parsed: &Parsed) -> u32
+    ensures { result ≡ spec.missing_status (spec.missing_for_time parsed.now) }
+{
+    match missing_for_hour(parsed) {
+        0 => missing_below_hour(parsed),
+        status => status,
+    }
+}
+
+// The status of what a record lacks for an offset: its hour; 0 if it lacks nothing.
+fn missing_for_offset(parsed: &Parsed) -> u32
+    ensures { result ≡ spec.missing_status (spec.missing_for_offset parsed.now) }
+{
+    if parsed.offset_hour().is_some() {
+        0
+    } else {
+        4 + 256 * 14
+    }
+}
+
+// The status of what a record lacks for the values that `needs` selects; 0 if it lacks nothing.
+fn missing_for(needs: u32, parsed: &Parsed) -> u32
+    ensures { result ≡ spec.missing_status (spec.missing_for needs parsed.now) }
+{
+    if needs % 8 == 7 && parsed.unix_timestamp_nanos().is_some() {
+        return 0;
+    }
+    if needs % 2 == 1 {
+        let status = missing_for_date(parsed);
+        if status != 0 {
+            return status;
+        }
+    }
+    if needs / 2 % 2 == 1 {
+        let status = missing_for_time(parsed);
+        if status != 0 {
+            return status;
+        }
+    }
+    if needs / 4 % 2 == 1 {
+        missing_for_offset(parsed)
+    } else {
+        0
+    }
+}
+
+// The status of what a text lacks, by the format, for the values that `needs` selects; 0 if it lacks nothing. If the
+// whole text isn't parsed, the error's status.
+fn missing<F: Parsable>(format: &F, needs: u32, text: &[u8]) -> u32
+    ensures { IsResultStored (spec.IsMissing needs)
+        (of_record (F.path format.now) (F.reads format.now) (F.refuses format.now) text.now) result tt tt }
+{
+    match format.parse_internal(text, None) {
+        Ok(parsed) => missing_for(needs, &parsed),
+        Err(error) => status_of(error),
+    }
+}
+
+/// The status of what a text lacks, by the format with this number, for some values: 4 plus 256 times the component's
+/// number, or 0 if it lacks nothing. `needs` selects the values: it is the sum of 1 for a date, 2 for a time and 4 for
+/// an offset, and a Unix timestamp gives all three. Of several missing components the date's is reported first, then
+/// the time's.
+///
+/// If the whole text isn't parsed, returns the error's status, or [`UNKNOWN_FORMAT`] for an unknown number.
+#[inline(never)]
+pub fn missing_by(needs: u32, format: u32, text: &[u8]) -> u32
+    ensures { StoresBy (spec.IsMissing needs) of_record (Formats.format_of format) text.now result tt tt }
+{
+    match format_of(format) {
+        Some(Format::Rfc3339) => missing(&Rfc3339, needs, text),
+        Some(Format::Rfc2822) => missing(&Rfc2822, needs, text),
+        Some(Format::Iso8601) => missing(&Iso8601, needs, text),
+        Some(Format::Rfc3339Strict) => missing(&Rfc3339Strict, needs, text),
+        None => UNKNOWN_FORMAT,
+    }
+}
+
+/// As [`missing_by`], by a description in the syntax with this number. A malformed description or an unknown syntax has
+/// the status that [`check`](crate::descriptions::check) returns.
+#[inline(never)]
+pub fn missing_read(needs: u32, syntax: u32, description: &[u8], text: &[u8]) -> u32
+    ensures { StoresByDescription (spec.IsMissing needs) of_record (Described.syntax_of syntax) description.now
+        text.now result tt tt }
+{
+    by_description!(syntax, description, found => missing(&found, needs, text))
+}
+
+/// As [`missing_by`], by a stored description.
+#[inline(never)]
+pub fn missing_stored(needs: u32, description: &StoredDescription, text: &[u8]) -> u32
+    ensures { StoresBySteps (spec.IsMissing needs) of_record description.now text.now result tt tt }
+{
+    missing(description, needs, text)
+}

@@ -112,6 +112,16 @@ pelzaune_status pelzaune_parse_offset(uint32_t format, const uint8_t *text, size
 pelzaune_status pelzaune_parse_instant(uint32_t format, const uint8_t *text, size_t length, pelzaune_instant *out);
 pelzaune_status pelzaune_parse_nanoseconds(uint32_t format, const uint8_t *text, size_t length, int64_t *out);
 
+/* What a value needs: a sum of these. `local` needs a date and a time, and `moment` all three. */
+#define PELZAUNE_NEEDS_DATE 1u
+#define PELZAUNE_NEEDS_TIME 2u
+#define PELZAUNE_NEEDS_OFFSET 4u
+
+/* After PELZAUNE_INSUFFICIENT, which component a text lacks: PELZAUNE_INSUFFICIENT + 256 * component, whose text is such as
+ * "missing year" or "missing offset". PELZAUNE_OK if it lacks nothing; or the error of a text that isn't parsed. Of
+ * several the date's is first, then the time's. A Unix timestamp gives all three. */
+pelzaune_status pelzaune_missing(uint32_t needs, uint32_t format, const uint8_t *text, size_t length);
+
 /* The date, the time and the offset of a text. Each has a status of its own: PELZAUNE_OK, or the error with which it is
  * rejected, such as PELZAUNE_INSUFFICIENT. A rejected part is unchanged. */
 typedef struct pelzaune_parts {
@@ -158,6 +168,10 @@ pelzaune_status pelzaune_read_nanoseconds(uint32_t syntax, const uint8_t *descri
 pelzaune_status pelzaune_read_parts(uint32_t syntax, const uint8_t *description, size_t description_length,
     const uint8_t *text, size_t length, pelzaune_parts *out);
 
+/* What a text lacks, as by pelzaune_missing. */
+pelzaune_status pelzaune_read_missing(uint32_t needs, uint32_t syntax, const uint8_t *description, size_t description_length,
+    const uint8_t *text, size_t length);
+
 /* A parsed description, for many texts. It has no pointers, so it may be copied as any struct, and nothing has to be
  * freed. Its numbers are internal to the library. Any numbers are a valid description, so a call by them is safe. */
 typedef struct pelzaune_description {
@@ -177,6 +191,9 @@ pelzaune_status pelzaune_described_offset(const pelzaune_description *descriptio
 pelzaune_status pelzaune_described_instant(const pelzaune_description *description, const uint8_t *text, size_t length, pelzaune_instant *out);
 pelzaune_status pelzaune_described_nanoseconds(const pelzaune_description *description, const uint8_t *text, size_t length, int64_t *out);
 pelzaune_status pelzaune_described_parts(const pelzaune_description *description, const uint8_t *text, size_t length, pelzaune_parts *out);
+
+/* What a text lacks, as by pelzaune_missing. */
+pelzaune_status pelzaune_described_missing(uint32_t needs, const pelzaune_description *description, const uint8_t *text, size_t length);
 
 /* Where a text fails: at the start of the expected component, even of a truncated one, at the first byte that doesn't
  * match a literal, or at the first byte too many. */
@@ -252,10 +269,12 @@ static inline const char *pelzaune_text(pelzaune_status status)
     case PELZAUNE_RANGE + 256u * number: return name " is out of range"; \
     case PELZAUNE_RANGE_OF_OTHERS + 256u * number: return name " is out of range for the other components"; \
     case PELZAUNE_NO_TEXT + 256u * number: return "the '" name "' component has no text in that format";
+#define PELZAUNE_NAMED(number, name) \
+    PELZAUNE_TEXTS(number, name) \
+    case PELZAUNE_INSUFFICIENT + 256u * number: return "missing " name;
     switch (PELZAUNE_KIND(status)) {
     case PELZAUNE_INVALID_LITERAL: return "a character literal was not valid";
     case PELZAUNE_TRAILING: return "unexpected trailing characters; the end of input was expected";
-    case PELZAUNE_INSUFFICIENT: return "the `Parsed` struct did not include enough information to construct the type";
     case PELZAUNE_TOO_WIDE: return "the instant is out of range of 64 bits of nanoseconds";
     case PELZAUNE_UNKNOWN_FORMAT: return "no format has that number";
     case PELZAUNE_UNCLOSED_BRACKET: return "an opening bracket is not closed";
@@ -271,32 +290,36 @@ static inline const char *pelzaune_text(pelzaune_status status)
     default: break;
     }
     switch (status) {
+    case PELZAUNE_INSUFFICIENT: return "the `Parsed` struct did not include enough information to construct the type";
     PELZAUNE_TEXTS(0u, "")
-    PELZAUNE_TEXTS(1u, "year")
-    PELZAUNE_TEXTS(2u, "month")
-    PELZAUNE_TEXTS(3u, "day")
-    PELZAUNE_TEXTS(4u, "ordinal")
-    PELZAUNE_TEXTS(5u, "weekday")
-    PELZAUNE_TEXTS(6u, "week")
-    PELZAUNE_TEXTS(7u, "week number")
-    PELZAUNE_TEXTS(8u, "hour")
-    PELZAUNE_TEXTS(9u, "minute")
-    PELZAUNE_TEXTS(10u, "second")
-    PELZAUNE_TEXTS(11u, "nanosecond")
-    PELZAUNE_TEXTS(12u, "subsecond")
+    PELZAUNE_NAMED(1u, "year")
+    PELZAUNE_NAMED(2u, "month")
+    PELZAUNE_NAMED(3u, "day")
+    PELZAUNE_NAMED(4u, "ordinal")
+    PELZAUNE_NAMED(5u, "weekday")
+    PELZAUNE_NAMED(6u, "week")
+    PELZAUNE_NAMED(7u, "week number")
+    PELZAUNE_NAMED(8u, "hour")
+    PELZAUNE_NAMED(9u, "minute")
+    PELZAUNE_NAMED(10u, "second")
+    PELZAUNE_NAMED(11u, "nanosecond")
+    PELZAUNE_NAMED(12u, "subsecond")
     PELZAUNE_TEXTS(13u, "period")
+    case PELZAUNE_INSUFFICIENT + 256u * 13u: return "missing AM or PM";
     PELZAUNE_TEXTS(14u, "offset hour")
-    PELZAUNE_TEXTS(15u, "offset minute")
-    PELZAUNE_TEXTS(16u, "offset second")
-    PELZAUNE_TEXTS(17u, "hours")
-    PELZAUNE_TEXTS(18u, "minutes")
-    PELZAUNE_TEXTS(19u, "seconds")
-    PELZAUNE_TEXTS(20u, "timestamp")
-    PELZAUNE_TEXTS(21u, "unix_timestamp")
-    PELZAUNE_TEXTS(22u, "separator")
-    PELZAUNE_TEXTS(23u, "ignore")
+    case PELZAUNE_INSUFFICIENT + 256u * 14u: return "missing offset";
+    PELZAUNE_NAMED(15u, "offset minute")
+    PELZAUNE_NAMED(16u, "offset second")
+    PELZAUNE_NAMED(17u, "hours")
+    PELZAUNE_NAMED(18u, "minutes")
+    PELZAUNE_NAMED(19u, "seconds")
+    PELZAUNE_NAMED(20u, "timestamp")
+    PELZAUNE_NAMED(21u, "unix_timestamp")
+    PELZAUNE_NAMED(22u, "separator")
+    PELZAUNE_NAMED(23u, "ignore")
     default: return "";
     }
+#undef PELZAUNE_NAMED
 #undef PELZAUNE_TEXTS
 }
 

@@ -19,6 +19,7 @@ ghost use Rattle.pelzaune_ffi.specs.Status.{laid_over, status_text};
 
 mod described;
 mod formatting;
+mod missing;
 
 use pelzaune_ffi::descriptions::check;
 use pelzaune_ffi::moments::{count_by, local_by, moment_by};

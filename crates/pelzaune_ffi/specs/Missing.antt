@@ -1,5 +1,5 @@
 -- What a text lacks for a value.
-use Rattle.std.specs.Prelude.{◌≡◌, ℕ, ◌+◌, ◌*◌, ◌/◌, ◌%◌, nat_eq, List, Bool, not, ◌&&◌, ◌||◌, is_some, if◌then◌else◌, Option, Some, None, Ok, Err, Unit, codes}
+use Rattle.std.specs.Prelude.{◌≡◌, ℕ, ◌+◌, ◌*◌, ◌/◌, ◌%◌, nat_eq, List, Bool, not, ◌&&◌, ◌||◌, is_some, if◌then◌else◌, Option, Some, None, Ok, Err, codes}
 use Rattle.time_record.specs.Record.{Record}
 use Rattle.pelzaune_ffi.specs.Results.{Storing}
 use Rattle.pelzaune_ffi.specs.Status.{component_number, status_of}

@@ -1,5 +1,5 @@
 //! Finds the component that a text lacks for a value.
-ghost use Rattle.std.specs.Prelude.{◌≡◌, tt};
+ghost use Rattle.std.specs.Prelude.{◌≡◌};
 ghost use Rattle.pelzaune_ffi.specs.Described as Described;
 ghost use Rattle.pelzaune_ffi.specs.Described.{StoresByDescription, StoresBySteps};
 ghost use Rattle.pelzaune_ffi.specs.Missing as spec;

@@ -1,0 +1,48 @@
+//! Reports what a text lacks for a value.
+ghost use Rattle.pelzaune_ffi.specs.Described as Described;
+ghost use Rattle.pelzaune_ffi.specs.Described.{StoresByDescription, StoresBySteps};
+ghost use Rattle.pelzaune_ffi.specs.Missing.{IsMissing};
+ghost use Rattle.pelzaune_ffi.specs.Results.{format_of, of_record, StoresBy};
+
+use pelzaune_ffi::missing::{missing_by, missing_read, missing_stored};
+use pelzaune_ffi::stored::StoredDescription;
+
+/// Returns the status of what a text lacks, by the format with this number, for some values: 4 plus 256 times the
+/// component's number, or 0 if it lacks nothing. `needs` selects the values: it is the sum of 1 for a date, 2 for a
+/// time and 4 for an offset, and a Unix timestamp gives all three. Of several missing components the date's is reported
+/// first, then the time's.
+///
+/// If the whole text isn't parsed, returns the error's status, or 8 for an unknown format.
+#[unsafe(no_mangle)]
+pub extern "C" fn pelzaune_missing(needs: u32, format: u32, text: &[u8]) -> u32
+    ensures { StoresBy (IsMissing needs) of_record (format_of format) text.now result tt tt }
+{
+    missing_by(needs, format, text)
+}
+
+/// As `pelzaune_missing`, by a description in the syntax with this number. A malformed description has its error's
+/// status, and an unknown syntax 17.
+#[unsafe(no_mangle)]
+pub extern "C" fn pelzaune_read_missing(
+    needs: u32,
+    syntax: u32,
+    description: &[u8],
+    text: &[u8],
+) -> u32
+    ensures { StoresByDescription (IsMissing needs) of_record (Described.syntax_of syntax) description.now text.now
+        result tt tt }
+{
+    missing_read(needs, syntax, description, text)
+}
+
+/// As `pelzaune_missing`, by a stored description.
+#[unsafe(no_mangle)]
+pub extern "C" fn pelzaune_described_missing(
+    needs: u32,
+    description: &StoredDescription,
+    text: &[u8],
+) -> u32
+    ensures { StoresBySteps (IsMissing needs) of_record description.now text.now result tt tt }
+{
+    missing_stored(needs, description, text)
+}

@@ -217,8 +217,7 @@ pelzaune_status pelzaune_read_locate(uint32_t syntax, const uint8_t *description
  * there are entries. Stores in *refused how many of these lines are rejected. An entry without a line is unchanged.
  *
  * Returns how many lines the whole text has, so a call without entries, which may be NULL then, counts the lines. A line
- * ends with LF, which is optional after the last one. CR isn't part of a line end: a line that ends with it is
- * rejected. */
+ * ends with LF, which is optional after the last one, and with an optional CR before it. */
 size_t pelzaune_column(uint32_t format, const uint8_t *text, size_t length, int64_t *entries, size_t capacity, size_t *refused);
 
 /* Does so by a parsed description. */

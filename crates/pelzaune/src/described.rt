@@ -210,8 +210,8 @@ pub extern "C" fn pelzaune_read_locate(
 /// becomes the number of rejected lines that have an entry. A line is also rejected if its instant doesn't fit 64 bits,
 /// and each line if no format has this number. An entry without a line is unchanged.
 ///
-/// A line ends with LF, which is optional after the last one. Without its LF, it is parsed as by
-/// `pelzaune_parse_nanoseconds`; a CR before the LF belongs to the line.
+/// A line ends with LF, which is optional after the last one. Without its LF, and without a CR at its end, it is parsed
+/// as by `pelzaune_parse_nanoseconds`.
 #[unsafe(no_mangle)]
 pub extern "C" fn pelzaune_column(
     format: u32,

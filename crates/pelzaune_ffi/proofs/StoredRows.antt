@@ -24,7 +24,7 @@ use Rattle.time_record.specs.WalkSteps.{Resumes}
 use Rattle.time_record.proofs.WalkSteps.{behind_is, first_item}
 use Rattle.byte_streams.specs.Lines.{line_texts}
 use Rattle.byte_streams.proofs.LinesLemmas.{line_texts-found, line_texts-none}
-use Rattle.pelzaune_ffi.specs.Columns.{Counting, IsColumn, no_count, one_if_refused}
+use Rattle.pelzaune_ffi.specs.Columns.{Counting, IsColumn, no_count, one_if_refused, without_cr}
 use Rattle.pelzaune_ffi.specs.declared.parts.Nanoseconds.{Nanoseconds}
 use Rattle.pelzaune_ffi.specs.Described.{step_of, kinds, kind_in, padding_of, padding_number, digits_of, digits_number, trailing_of, trailing_number, is_set, skipping}
 use Rattle.pelzaune_ffi.specs.declared.steps.StoredStep.{StoredStep}
@@ -37,7 +37,7 @@ Ends stores all initial lines old before refused =
 
 -- one more line is stored
 pub Ends-more : (stores : Counting) (all : List (List ℕ)) (initial entries : List Nanoseconds) (line : List ℕ) (others : List (List ℕ))
-    (index status refused : ℕ) (entry : Nanoseconds) → index < length entries → stores line status no_count entry
+    (index status refused : ℕ) (entry : Nanoseconds) → index < length entries → stores (without_cr line) status no_count entry
     → Ends stores all initial (line ∷ others) (drop index entries) (take index entries) refused
     → Ends stores all initial others (drop (index + 1) (set entries index entry)) (take (index + 1) (set entries index entry))
     (refused + one_if_refused status)
@@ -80,7 +80,7 @@ pub IsColumn-map : (P Q : Counting)
 IsColumn-map P Q f [] old new refused h = h
 IsColumn-map P Q f (line ∷ lines) [] new refused h = h
 IsColumn-map P Q f (line ∷ lines) (entry ∷ old) new refused h =
-    (h.0, h.1, f line h.0 no_count h.1 h.2, h.3, h.4, IsColumn-map P Q f lines old h.3 h.4 h.5, h.6, h.7)
+    (h.0, h.1, f (without_cr line) h.0 no_count h.1 h.2, h.3, h.4, IsColumn-map P Q f lines old h.3 h.4 h.5, h.6, h.7)
 
 -- ---- The index of the first LF, by the mask of the first bytes
 

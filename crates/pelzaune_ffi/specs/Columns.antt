@@ -1,5 +1,5 @@
 -- Columns: the lines of a text, each as the nanoseconds of its moment.
-use Rattle.std.specs.Prelude.{◌≡◌, ℕ, ◌+◌, ◌<◌, nat_eq, List, [], ◌∷◌, length, Ok, pos, neg_ℤ, if◌then◌else◌}
+use Rattle.std.specs.Prelude.{◌≡◌, ℕ, ◌+◌, ◌-◌, ◌<◌, nat_eq, List, [], ◌∷◌, length, get_or, take, Ok, pos, neg_ℤ, if◌then◌else◌}
 use Rattle.byte_streams.specs.Lines.{line_texts}
 use Rattle.time_components.specs.Tree.{Tree}
 use Rattle.pelzaune_ffi.specs.Described.{StoresByTree}
@@ -23,17 +23,21 @@ rejecting reason line status old new = (status ≡ reason) × (new ≡ old)
 abbrev pub no_count : Nanoseconds
 no_count = record { count = neg_ℤ (pos 9_223_372_036_854_775_808) }
 
+-- The line without the CR at its end, if there is one.
+abbrev pub without_cr : List ℕ → List ℕ
+without_cr line = if nat_eq (get_or line (length line - 1) 0) 13 then take (length line - 1) line else line
+
 -- 0 for the status 0, and 1 for any other, which is an error's.
 abbrev pub one_if_refused : ℕ → ℕ
 one_if_refused status = if nat_eq status 0 then 0 else 1
 
--- The entry at a line's index is what `stores` makes of `no_count` for the line, for as many lines as there are
--- entries. `refused` is the number of those lines that are rejected. An entry without a line is unchanged.
+-- The entry at a line's index is what `stores` makes of `no_count` for the line without its CR, for as many lines as
+-- there are entries. `refused` is the number of those lines that are rejected. An entry without a line is unchanged.
 abbrev pub IsColumn : Counting → List (List ℕ) → List Nanoseconds → List Nanoseconds → ℕ → Type 0
 IsColumn stores [] old new refused = (new ≡ old) × (refused ≡ 0)
 IsColumn stores (line ∷ lines) [] new refused = (new ≡ []) × (refused ≡ 0)
 IsColumn stores (line ∷ lines) (entry ∷ old) new refused =
-    (status : ℕ) × (first : Nanoseconds) × stores line status no_count first
+    (status : ℕ) × (first : Nanoseconds) × stores (without_cr line) status no_count first
     × (others : List Nanoseconds) × (later : ℕ) × IsColumn stores lines old others later
     × (new ≡ first ∷ others) × (refused ≡ one_if_refused status + later)
 

@@ -64,6 +64,17 @@ impl Count for RejectAll {
     }
 }
 
+// The line without the CR at its end, if there is one.
+#[inline(always)]
+fn without_cr(line: &[u8]) -> &[u8]
+    ensures { result.now ≡ spec.without_cr line.now }
+{
+    match line {
+        [text @ .., b'\r'] => text,
+        _ => line,
+    }
+}
+
 // 0 for the status 0, and 1 for any other, which is an error's.
 #[inline(always)]
 fn one_if_refused(status: u32) -> usize
@@ -92,7 +103,7 @@ fn column<C: Count>(
     while index < entries.len() && !rest.is_empty() {
         let mut entry = Nanoseconds { count: i64::MIN };
         let (line, after) = first_line(rest);
-        rejected += one_if_refused(counting.count_line(line, &mut entry));
+        rejected += one_if_refused(counting.count_line(without_cr(line), &mut entry));
         entries[index] = entry;
         index += 1;
         rest = after;
@@ -109,8 +120,8 @@ fn column<C: Count>(
 /// becomes the number of rejected lines that have an entry. A line is also rejected if its instant doesn't fit 64 bits,
 /// and each line if no format has this number. An entry without a line is unchanged.
 ///
-/// A line ends with LF, which is optional after the last one. Without its LF, it is parsed as by [`count_by`]; a CR
-/// before the LF belongs to the line.
+/// A line ends with LF, which is optional after the last one. Without its LF, and without a CR at its end, it is parsed
+/// as by [`count_by`].
 #[inline(always)]
 pub fn column_by(
     format: u32,

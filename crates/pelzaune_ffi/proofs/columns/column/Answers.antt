@@ -20,7 +20,7 @@ loop-index-preserved g c =
     (c.loop-index.rejected + spec.one_if_refused status) =
     Ends-more (g.C.Count.stores c.args.counting.now) (line_texts c.args.text.now) c.args.entries.now c.loop-index.entries
     first.result.0.now (line_texts first.result.1.now) c.loop-index.index status c.loop-index.rejected
-    counted.new.entry c.loop-index-test.true counted.ensures (rw split at so_far.4) in (
+    counted.new.entry c.loop-index-test.true (rw c.without_cr.ensures at counted.ensures) (rw split at so_far.4) in (
       grind (arith, common_steps, c.loop-index-test.true),
       omega (arith, so_far.1, c.one_if_refused-rejected.ensures.bound),
       grind (arith, common_steps, split, so_far.2),

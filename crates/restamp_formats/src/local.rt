@@ -59,8 +59,8 @@ impl Fold {
 }
 
 impl Clocks<'_> {
-    /// The moment that has, in the zone, the local date and time that `shown` has at its own offset, chosen by `fold` if
-    /// that is ambiguous. The error is `Nonexistent`, `Ambiguous` or `OutsideZoneRange`.
+    /// The moment with the local date and time of `shown`, but in the zone; chosen by `fold` if that local time is
+    /// ambiguous there. The error is `Nonexistent`, `Ambiguous` or `OutsideZoneRange`.
     pub fn moment_when(&self, shown: OffsetDateTime) -> Result<OffsetDateTime, Reason>
         ensures { spec.IsMomentWhen self.now shown (erased result) }
     {

@@ -34,7 +34,8 @@ abbrev mutual
   -- The bytes written so far, followed by the texts of all trees in turn; or the first error of a tree.
   pub texts_after : ℕ → ℕ → OffsetDateTime → List ℕ → Trees → Result (List ℕ) Unformattable
   texts_after most Y v before none = Ok before
-  texts_after most Y v before (tree_more t ts) = and_then (text_after most Y v before t) (λ bytes. texts_after most Y v bytes ts)
+  texts_after most Y v before (tree_more t ts) =
+      and_then (text_after most Y v before t) (λ bytes. texts_after most Y v bytes ts)
 
   -- The bytes written so far, followed by the text of the first tree, if there is a tree; or that tree's first error.
   pub first_after : ℕ → ℕ → OffsetDateTime → List ℕ → Trees → Result (List ℕ) Unformattable

@@ -22,7 +22,7 @@ pub record HasOffset (zone : TimeZone) (reading s : ℤ) : Type 0 where
   pub told : IsTimestampNanos (reading -ℤ nanos_of_seconds s)
   pub same : Zone.offset_at zone (reading -ℤ nanos_of_seconds s) ≡ s
 
--- the greatest and the least are offsets at which the zone shows the reading, and the least is at most the greatest, and the least is at most the greatest
+-- the greatest and the least are offsets at which the zone shows the reading, and the least is at most the greatest
 pub record IsSpread (zone : TimeZone) (reading : ℤ) (w : Spread) : Type 0 where
   pub greatest : HasOffset zone reading w.greatest.seconds
   pub least : HasOffset zone reading w.least.seconds

@@ -19,7 +19,8 @@ decreases-write_item g l = 4 * length l.behind.now + 2
 abbrev pub invariant-write_steps-loop-left : goal.invariant-write_steps-loop-left
 invariant-write_steps-loop-left g l =
     ((n : ℕ) → length l.steps ≤ n → (m : ℕ) × (length l.left ≤ m)
-    × (texts_after g.row.CAP greatest_year l.value l.fn.text.items (trees_in n l.steps) ≡ texts_after g.row.CAP greatest_year l.value l.text.items (trees_in m l.left)))
+    × (texts_after g.row.CAP greatest_year l.value l.fn.text.items (trees_in n l.steps)
+    ≡ texts_after g.row.CAP greatest_year l.value l.text.items (trees_in m l.left)))
     × (length l.left ≤ length l.steps)
 
 abbrev pub decreases-write_steps-loop-left : goal.decreases-write_steps-loop-left

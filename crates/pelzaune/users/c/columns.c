@@ -20,7 +20,10 @@ static void test_columns(void)
     EXPECT(pelzaune_column(PELZAUNE_RFC3339, FOUR, NULL, 0, &refused) == 4 && refused == 0);
     EXPECT(pelzaune_column(PELZAUNE_RFC3339, NULL, 0, entries, 6, &refused) == 0 && refused == 0 && entries[2] == 7);
     EXPECT(pelzaune_column(PELZAUNE_RFC3339, TEXT("\n"), entries, 6, &refused) == 1 && refused == 1 && entries[0] == PELZAUNE_NO_COUNT);
-    EXPECT(pelzaune_column(PELZAUNE_RFC3339, TEXT("\n\n1970-01-01T00:00:01Z\r\n"), entries, 6, &refused) == 3 && refused == 3);
+    EXPECT(pelzaune_column(PELZAUNE_RFC3339, TEXT("\n\r\n1970-01-01T00:00:01Z\r\n"), entries, 6, &refused) == 3 && refused == 2);
+    EXPECT(entries[0] == PELZAUNE_NO_COUNT && entries[1] == PELZAUNE_NO_COUNT && entries[2] == 1000000000);
+    EXPECT(pelzaune_column(PELZAUNE_RFC3339, TEXT("1970-01-01T00:00:02Z\r\r\n1970-01-01T00:00:03Z\r"), entries, 6, &refused) == 2
+        && refused == 1 && entries[0] == PELZAUNE_NO_COUNT && entries[1] == INT64_C(3000000000));
     EXPECT(pelzaune_column(5, FOUR, entries, 6, &refused) == 4 && refused == 4 && entries[3] == PELZAUNE_NO_COUNT);
     EXPECT(pelzaune_column(PELZAUNE_RFC3339_STRICT, TEXT("1970-01-02_00:00:00Z\n1970-01-02 00:00:00Z\n"), entries, 6, &refused) == 2
         && refused == 1 && entries[0] == PELZAUNE_NO_COUNT && entries[1] == four_counts[0]);

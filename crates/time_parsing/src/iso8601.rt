@@ -1,7 +1,7 @@
 //! The format of ISO 8601, parsed over a record.
 //!
-//! For a date and time, or a moment, without defaults, `fast` is tried first: it makes the value directly from the
-//! numbers of a whole text. A text that `fast` doesn't parse is parsed over the record.
+//! For a `PlainDateTime` or an `OffsetDateTime` without defaults, `fast` is tried first: it makes the value directly
+//! from the numbers of a whole text. A text that `fast` doesn't parse is parsed over an empty record.
 ghost use Rattle.std.specs.Prelude.{◌≡◌, MatchOption, MatchResult, Some, None, false, true, Ok, Err};
 ghost use Rattle.time_values.specs.Calendar.{greatest_year};
 ghost use Rattle.time_values.specs.Refusal.{refusal_of_description};
@@ -31,26 +31,26 @@ use time_values::{OffsetDateTime, PlainDateTime};
 /// year of four digits, or of a sign and six digits. It is of the calendar, as `2021-01-02`, by the day of the year, as
 /// `2021-002`, or by the week, as `2020-W53-6`. A time has an hour, and may have a minute and a second, of two digits
 /// each. The last of them may have a fraction of one or more digits, after `.` or `,`, which determines the omitted
-/// parts; without it they are 0. A fraction of a second is rounded half up to nanoseconds, and must not round to 1; any
-/// other is truncated to nanoseconds. After a date a time requires its `T`. An offset is `Z`, or a sign and two digits
-/// of an hour, 00 to 25, as `-05`, which may have a minute; a numeric offset leaves the offset's second of the defaults
-/// unchanged. After a date an offset requires a time before it. `T`, `W` and `Z` are uppercase.
+/// parts; without a fraction they are 0. A fraction of a second is rounded half up to nanoseconds, and must not round
+/// to 1 second; any other is truncated to nanoseconds. After a date a time must begin with `T`, and else it may. An
+/// offset is `Z`, or a sign, an hour 00 to 25 and an optional minute, as `-05`; a numeric one keeps the second of the
+/// defaults' offset. After a date an offset requires a time between them. `T`, `W` and `Z` are uppercase.
 ///
-/// A second of 60 is a leap second. In a moment it is replaced by the last nanosecond before it, which must end a month
-/// in UTC. [`Parsable::parse_time`] and [`Parsable::parse_plain_date_time`] reject it.
+/// A second of 60 is a leap second. As `OffsetDateTime`, `UtcDateTime` or `Timestamp` it is the last nanosecond before,
+/// which must end a month in UTC. [`Parsable::parse_time`] and [`Parsable::parse_plain_date_time`] reject it.
 ///
-/// A text is basic, without separators, or extended, with them. The first part that shows which one it is determines it
-/// for the parts after it: in a basic text no colon is read, and in an extended one the colon before a minute may still
-/// be omitted. A part that can't be parsed determines nothing, and leaves the record unchanged.
+/// A text is basic, without `-` and `:` between numbers, or extended, with them. The first part that shows which kind
+/// the text has determines the kind of the later parts: in a basic text no colon is read, and in an extended one the
+/// colon before a minute is optional. A part that can't be parsed determines nothing, and leaves the record unchanged.
 ///
-/// If none of the three can be parsed, the error is the date's: an invalid component `year`, `month`, `day`, `ordinal`,
-/// `week` or `weekday`, or an invalid literal, if a `-` is missing. A day above 31, an ordinal above 366 or a week
-/// above 53 rejects the date, and then no other form of a date is tried.
+/// If neither date, time nor offset can be parsed, the error is the date's: an invalid component `year`, `month`,
+/// `day`, `ordinal`, `week` or `weekday`, or an invalid literal if a `-` is missing. A day above 31, an ordinal above
+/// 366 or a week above 53 rejects the date. Then no other form of a date is tried, but a time and an offset still are.
 #[derive(Clone, Copy, Debug, PartialEq, Eq)]
 pub struct Iso8601;
 
-// Stores a date's numbers in turn, up to the first that is out of its range. Returns the error of that one, an invalid
-// component `year`, `day`, `ordinal` or `week`. After an error the record may have changed.
+// Stores a date's numbers in turn until one is out of its range. Returns the error of that number, an invalid component
+// `year`, `day`, `ordinal` or `week`. After an error the record may have changed.
 #[inline(always)]
 fn store_date(numbers: DateNumbers, parsed: &mut Parsed) -> Result<(), ParseFromDescription>
     ensures { MatchResult result
@@ -128,8 +128,8 @@ fn put_time(numbers: TimeNumbers, parsed: &mut Parsed) -> Option<()>
     Some(())
 }
 
-// Stores an offset's numbers, with 0 as second for `Z`, and clears the flag of a negative offset. If the hour isn't -25
-// to 25 or the minute isn't -59 to 59, returns `None` and changes nothing.
+// Stores an offset's hour and minute, or for `Z` 0 as hour, minute and second. Clears the flag of a negative offset. If
+// the hour isn't -25 to 25 or the minute isn't -59 to 59, returns `None` and changes nothing.
 #[inline(always)]
 fn put_offset(numbers: OffsetNumbers, parsed: &mut Parsed) -> Option<()>
     ensures { MatchOption result
@@ -157,8 +157,8 @@ fn put_offset(numbers: OffsetNumbers, parsed: &mut Parsed) -> Option<()>
     Some(())
 }
 
-// Parses a date at the start of the input over the record, and returns the rest and the kind after it. If no date
-// matches, or a number of it is out of its range, returns the error; the record is then unchanged.
+// Parses a date at the start of the input over the record, and returns the rest and the kind after the date. If no date
+// matches, or one of its numbers is out of range, returns the date's error; the record is then unchanged.
 #[inline(always)]
 fn date_over<'a>(
     input: &'a [u8],
@@ -180,8 +180,8 @@ fn date_over<'a>(
 }
 
 // Parses a time at the start of the input over the record, and returns the rest and the kind after the time. `kind` is
-// the kind before it, and its `T` is required if `needs_t`, and else optional. `None` if there is no such time; the
-// record is then unchanged.
+// the kind before the time. The time must begin with `T` if `needs_t`, and else may. `None` if no time matches, or one
+// of its numbers is out of range; the record is then unchanged.
 #[inline(always)]
 fn time_over<'a>(
     input: &'a [u8],
@@ -199,8 +199,8 @@ fn time_over<'a>(
     Some((found.rest, found.kind))
 }
 
-// Parses an offset at the start of the input over the record, and returns the rest. `kind` is the kind before it; no
-// later part needs the kind after it. `None` if there is no such offset; the record is then unchanged.
+// Parses an offset at the start of the input over the record, and returns the rest, without the kind after it, since no
+// part follows. `kind` is the kind before the offset. `None` if no offset matches; the record is then unchanged.
 #[inline(always)]
 fn offset_over<'a>(input: &'a [u8], parsed: &mut Parsed, kind: ExtendedKind) -> Option<&'a [u8]>
     ensures { MatchOption result
@@ -213,7 +213,7 @@ fn offset_over<'a>(input: &'a [u8], parsed: &mut Parsed, kind: ExtendedKind) -> 
 }
 
 // Parses an optional offset after a time over the record, and returns the rest. `kind` is the kind after the time. If
-// there is no offset, the rest is all of the input, and the record is unchanged.
+// no offset matches, the rest is all of the input, and the record is unchanged.
 #[inline(always)]
 fn after_time<'a>(input: &'a [u8], parsed: &mut Parsed, kind: ExtendedKind) -> &'a [u8]
     ensures { steps.after_time greatest_year kind input.now parsed.old ≡ (result.now, parsed.new) }
@@ -248,8 +248,8 @@ fn without_date<'a>(
     }
 }
 
-// Parses the parts at the start of the input over the record, and returns the rest after them. If there is no part,
-// returns the date's error.
+// Parses the date, time and offset at the start of the input, as far as they match, over the record. Returns the rest
+// after them. If none of the three matches, returns the date's error.
 #[inline(always)]
 fn read<'a>(input: &'a [u8], parsed: &mut Parsed) -> Result<&'a [u8], ParseFromDescription>
     ensures { MatchResult result

@@ -30,8 +30,8 @@ pub fn law_one_outcome<T: Parsable>(format: &T)
     ensures front { OneFront (IsMoment greatest_year) (T.reads format.now) (T.refuses format.now) }
 {}
 
-/// The direct paths of RFC 3339 and RFC 2822 accept the texts that a parse over an empty record accepts, with the
-/// same date, time and offset.
+/// The direct paths of RFC 3339 and RFC 2822, for a moment without defaults, accept a text if and only if a parse over
+/// an empty record accepts it as a moment, and both return equal dates, times and offsets.
 pub fn law_two_paths()
     ensures rfc3339 { SameMoments greatest_year (Rfc3339.Reads greatest_year) (Rfc3339.Refuses greatest_year)
         (IsDirectRfc3339 greatest_year) }
@@ -45,39 +45,39 @@ pub fn law_strict_texts()
     ensures { Strict.StrictTexts greatest_year }
 {}
 
-/// A list of items that joins two lists parses as the first, and then as the second on the rest and the record after
-/// the first. It is rejected exactly if the first is, or the second is there, with that error. The record is then
-/// unchanged, even by the first list.
+/// A list of items that joins two lists parses as the first list, and then as the second on the rest and the record
+/// after the first. It has an error if and only if the first list has it, or the second has it on that rest and record.
+/// After an error the record is unchanged, even by the first list.
 pub fn law_joined_lists()
     ensures reads { JoinedReads greatest_year }
     ensures refuses { JoinedRefuses greatest_year }
     ensures leaves { JoinedLeaves greatest_year }
 {}
 
-/// Flattening a list inside a list changes no reading and no error.
+/// Replacing a list inside a list by its items changes no rest, no record and no error.
 #[tactic(auto, using(crate::proofs::TreeLemmas::flattens))]
 pub fn law_flattened()
     ensures { Flattens greatest_year }
 {}
 
-/// An optional item parses as a choice of it and the empty list, and neither is ever rejected.
+/// An optional item parses as a choice of the item and then the empty list, so it never has an error.
 #[tactic(auto, using(crate::proofs::TreeLemmas::optional_as_first))]
 pub fn law_optional_as_first()
     ensures { OptionalAsFirst greatest_year }
 {}
 
-/// Two items of one shape, whatever their types, give the same results, and leave the same record.
+/// Two items of one shape, whatever their types, give equal results for each input and record, and leave equal records.
 pub fn law_equal_shapes<I: AnyFormatItem, J: AnyFormatItem>(item: &I, other: &J)
     ensures { HaveEqualResults greatest_year (I.shape item.now) (J.shape other.now) }
 {}
 
-/// A description that was parsed from a text and an item of its shape give the same results, and leave the same record.
+/// A description that was parsed from a text and an item of its shape give equal results, and leave equal records.
 pub fn law_equal_described<const N: usize, I: AnyFormatItem>(description: &Description<N>, item: &I)
     ensures { HaveEqualResults greatest_year (shape description.now) (I.shape item.now) }
 {}
 
-/// A version-3 description parses as the same description of another type, if no `Ignore` that is visited ends inside a
-/// character. Their trees differ only in the marks that a version-3 description has on its components.
+/// A version-3 description parses an input as a description of another type does whose tree differs only in the marks
+/// of version 3 on components, if no `Ignore` that is visited on that input ends inside a UTF-8 character.
 #[tactic(auto, using(crate::proofs::OneOutcome::whole_characters))]
 pub fn law_whole_characters()
     ensures { WholeCharacters greatest_year }
@@ -90,10 +90,10 @@ pub fn law_suffix()
 {}
 
 /// The text that [`text_3339`](time_formatting::text_3339) writes of a moment parses back by
-/// [`Rfc3339`](crate::Rfc3339) and [`Rfc3339Strict`](crate::Rfc3339Strict) as that moment except for the digits that
-/// aren't written, without defaults, directly and over a record. As many digits as the fraction has, or nine, keep all
-/// of it. The canonical text, which [`text_3339`] of this module writes, parses back by [`Rfc3339`](crate::Rfc3339) as
-/// the whole moment.
+/// [`Rfc3339`](crate::Rfc3339) and [`Rfc3339Strict`](crate::Rfc3339Strict) as that moment with 0 for each digit of the
+/// fraction that isn't written, both directly without defaults and over an empty record. `Auto` and nine digits keep
+/// all of the fraction. The canonical text, which [`text_3339`] of this module writes, parses back by
+/// [`Rfc3339`](crate::Rfc3339) as the whole moment.
 pub fn law_read_back()
     ensures text { ReadsBack greatest_year (direct (RefusesRfc3339 greatest_year)) (Rfc3339.Reads greatest_year)
         (Rfc3339.Refuses greatest_year) }
@@ -105,33 +105,33 @@ pub fn law_read_back()
         (Rfc3339.Reads greatest_year) (Rfc3339.Refuses greatest_year) }
 {}
 
-/// Moments with equal texts of RFC 3339 are equal except for the digits that aren't written. If as many digits are
-/// written as each has, they are equal.
+/// Moments with equal texts of RFC 3339 are equal except for the digits of the fraction that aren't written. If both
+/// texts have all digits of the fraction (`Auto`), the moments are equal.
 pub fn law_one_text()
     ensures text { OneText }
     ensures auto { OneShortText }
 {}
 
 /// The text that [`text_2822`](time_formatting::text_2822) writes of a moment parses back by
-/// [`Rfc2822`](crate::Rfc2822) as that moment without its fraction, without defaults, directly and over a record.
+/// [`Rfc2822`](crate::Rfc2822) as that moment with a fraction of 0, directly without defaults and over an empty record.
 pub fn law_mail_read_back()
     ensures { ReadsMailBack greatest_year (direct (RefusesRfc2822 greatest_year)) (Rfc2822.Reads greatest_year)
         (Rfc2822.Refuses greatest_year) }
 {}
 
 /// What [`text_8601`](time_formatting::text_8601) writes of a moment parses back by [`Iso8601`](crate::Iso8601) as that
-/// moment, and what [`text_8601_basic`](time_formatting::text_8601_basic) writes parses back as that moment without its
-/// fraction, without defaults and over a record. The first is the text of RFC 3339 with nine digits of a fraction. With
-/// any number of digits such a text parses back as the moment except for the digits that aren't written.
+/// moment, and what [`text_8601_basic`](time_formatting::text_8601_basic) writes parses back as that moment with a
+/// fraction of 0, without defaults and over an empty record. `text_8601` writes the text of RFC 3339 with nine digits
+/// of a fraction. A text of RFC 3339 with fewer digits parses back with 0 for each digit that isn't written.
 pub fn law_iso_read_back()
     ensures extended { ReadsBack greatest_year over_record (Iso8601.Reads greatest_year) (Iso8601.Refuses greatest_year) }
     ensures basic { ReadsBasicBack greatest_year over_record (Iso8601.Reads greatest_year)
         (Iso8601.Refuses greatest_year) }
 {}
 
-/// The texts of [`law_read_back`], [`law_mail_read_back`] and [`law_iso_read_back`] also parse back as dates and times
-/// in UTC, each as that of the moment except for the digits that aren't written. So the text of `OffsetDateTime::from`
-/// a date and time in UTC parses back as that date and time, except for those digits.
+/// The texts of [`law_read_back`] (but not the canonical one, and not by the strict format), [`law_mail_read_back`] and
+/// [`law_iso_read_back`] also parse as `UtcDateTime`: the moment's date and time in UTC, with 0 for digits that aren't
+/// written. So the text of `OffsetDateTime::from` a `UtcDateTime` parses back as that, with 0 for those digits.
 pub fn law_utc_read_back()
     ensures rfc3339 { ReadsUtcBack greatest_year (Rfc3339.Reads greatest_year) (Rfc3339.Refuses greatest_year) }
     ensures rfc2822 { ReadsMailUtcBack greatest_year (Rfc2822.Reads greatest_year) (Rfc2822.Refuses greatest_year) }
@@ -152,14 +152,14 @@ pub fn law_one_iso_text()
     ensures apart { ExtendedOrBasic }
 {}
 
-/// The wider range of years, -999999 to 999999, keeps these results of the range -9999 to 9999. A text that a
-/// description without an optional item and without a choice accepts is still accepted, with equal rest and record. A
-/// text that [`Rfc3339`](crate::Rfc3339), [`Rfc2822`](crate::Rfc2822) or [`Iso8601`](crate::Iso8601) parses whole is
-/// still parsed whole, with an equal record, and each record of the narrower range is one of the wider. Errors may
-/// differ.
+/// The wider range of years, -999999 to 999999, keeps these results of the narrower range, -9999 to 9999. A text that a
+/// description without an optional item and without a choice accepts by the narrower range is also accepted by the
+/// wider one, with equal rest and record. A text that [`Rfc3339`](crate::Rfc3339), [`Rfc2822`](crate::Rfc2822) or
+/// [`Iso8601`](crate::Iso8601) parses whole by the narrower range is parsed whole by the wider one, with an equal
+/// record. Each record of the narrower range is one of the wider. Errors may differ.
 ///
-/// A choice may parse otherwise: a choice of an extended year and the literal `+012345` parsed the text `+012345` as
-/// the literal, and now parses it as the year.
+/// An optional item or a choice may parse otherwise: the choice of an extended year, then the literal `+012345` parses
+/// the text `+012345` as the literal by the narrower range, and as the year by the wider one.
 pub fn law_kept_readings()
     ensures readings { KeepsReadings 9999 greatest_year }
     ensures rfc3339 { KeepsTexts (Rfc3339.Reads 9999) (Rfc3339.Reads greatest_year) }

@@ -1,8 +1,8 @@
 //! Parses texts into date-time values: whole texts, or a moment at the start of a text.
 #![tactic(auto)]
 
-// Evaluates `$set`, a call of a record's setter with a value in its range, which returns `Some(())`. `unreachable!`
-// shows the compiler that it never returns `None`.
+// Evaluates `$set`, a call of a record's setter. The value must be in the setter's range, so that the call returns
+// `Some(())`. `unreachable!` shows the compiler that the call never returns `None`.
 macro_rules! put {
     ($set:expr) => {
         let Some(()) = $set else { unreachable!() };

@@ -13,8 +13,8 @@ use time_values::{Date, OffsetDateTime, PlainDateTime, Time, Timestamp, UtcDateT
 
 /// A format by which texts can be parsed.
 ///
-/// The calls that parse a text accept defaults for components that it omits, such as the year of `03-04`. The text is
-/// parsed over them, and each of its components replaces its default. `None` means no defaults.
+/// All calls but [`Parsable::parse_into`] accept defaults for components that the text omits, such as the year that
+/// `03-04` omits. The text is parsed over the defaults, and its components replace theirs. `None` means no defaults.
 pub trait Parsable {
     // The format matches a prefix of the bytes, parsed over a record, with this rest and this record after it.
     ghost reads: { Self → Reading };
@@ -161,14 +161,14 @@ pub trait Parsable {
     // The format has at most one reading or one error for a text over a record, and never both.
     ghost exact: { (s : Self) → IsExact (reads s) (refuses s) };
 
-    // Its direct path, if it has one, has at most one error for a text, and none for a text with a moment.
+    // The format's direct path, if it has one, has at most one error for a text, and none for a text with a moment.
     ghost exact_path: { (s : Self) → IsExactPath greatest_year (path s) (reads s) (refuses s) };
 }
 
 /// The record that a parse begins with: the defaults, or an empty one for `None`.
 ///
-/// The empty one is made before the defaults are inspected, since a choice between two records would be made piece by
-/// piece.
+/// The empty record is made before the defaults are inspected. Otherwise the compiler would choose between two records
+/// for each of their pieces.
 #[inline(always)]
 pub fn begin(defaults: Option<Parsed>) -> Parsed
     ensures { result ≡ begun defaults }

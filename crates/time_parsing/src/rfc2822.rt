@@ -20,17 +20,17 @@ use time_values::error::Parse;
 
 /// The format of mail dates, RFC 2822, as `Mon, 02 Jan 2021 03:04:05 +0000`.
 ///
-/// A text needs the date, the time and the offset, whatever value it is parsed as. Blanks and comments may separate its
-/// parts, as [`Place`](time_readers::rfc2822::Place) lists them. The weekday may be missing, and isn't compared with
-/// the date. Names match in any case. The year has four digits, from 1900, or two: 00 to 49 are 2000 to 2049, and 50 to
-/// 99 are 1950 to 1999. The second may be missing. A missing second and the second of a numeric offset are those of the
+/// A text needs the date, the time and the offset, whatever value it is parsed as. Blanks and comments may be where
+/// [`Place`](time_readers::rfc2822::Place) lists blanks. The weekday may be missing, and isn't compared with the date.
+/// Names match in any case. The year has four digits, from 1900, or two: 00 to 49 are 2000 to 2049, and 50 to 99 are
+/// 1950 to 1999. The second may be missing. A missing second and the second of a numeric offset are those of the
 /// defaults, or else 0.
 ///
-/// The offset is a sign and four digits, with an hour of 0 to 25, or a zone name: `GMT`, or `EST`, `EDT`, `CST`, `CDT`,
+/// The offset is a sign, an hour 00 to 25 and a minute 00 to 59, or a zone name: `GMT`, `EST`, `EDT`, `CST`, `CDT`,
 /// `MST`, `MDT`, `PST` or `PDT`; or, if fewer than three bytes remain, `UT` or one letter except `J`, both for UTC.
 ///
-/// A second of 60 is a leap second. In a moment it is replaced by the last nanosecond before it, which must end a month
-/// in UTC. [`Parsable::parse_time`] and [`Parsable::parse_plain_date_time`] reject it.
+/// A second of 60 is a leap second. As `OffsetDateTime`, `UtcDateTime` or `Timestamp` it is the last nanosecond before,
+/// which must end a month in UTC. [`Parsable::parse_time`] and [`Parsable::parse_plain_date_time`] reject it.
 ///
 /// [`Parsable::parse_into`] returns the error of [`place_fault`] for the first of the fifteen places that doesn't match
 /// or whose number is out of its range. But [`Parsable::parse_offset_date_time`] without defaults is

@@ -28,14 +28,14 @@ use time_values::{Date, Month, OffsetDateTime, Time, UtcOffset};
 
 /// The format of RFC 3339, as `1985-04-12T23:20:50.52Z`.
 ///
-/// A text needs the date, the time and the offset, whatever value it is parsed as. Any one byte may separate the date
-/// from the time, and `Z` may be lowercase. The year has four digits. Month, day, hour, minute and second have two, and
+/// A text needs the date, the time and the offset, whatever value it is parsed as. One byte of any value must separate
+/// date and time, and `Z` may be lowercase. The year has four digits. Month, day, hour, minute and second have two, and
 /// so have the hour and the minute of a numeric offset, which is -23:59 to +23:59. The fraction of the second, a point
 /// and one or more digits, may be missing, and its digits after the ninth are dropped. A missing fraction and the
 /// second of a numeric offset are those of the defaults, or else 0.
 ///
-/// A second of 60 is a leap second. In a moment it is replaced by the last nanosecond before it, which must end a month
-/// in UTC. [`Parsable::parse_time`] and [`Parsable::parse_plain_date_time`] reject it.
+/// A second of 60 is a leap second. As `OffsetDateTime`, `UtcDateTime` or `Timestamp` it is the last nanosecond before,
+/// which must end a month in UTC. [`Parsable::parse_time`] and [`Parsable::parse_plain_date_time`] reject it.
 ///
 /// [`Parsable::parse_into`] returns the error of [`place_fault`] for the first of the fifteen places that doesn't match
 /// or whose number is out of its range. But [`Parsable::parse_offset_date_time`] without defaults is
@@ -81,9 +81,9 @@ fn put_time(numbers: Numbers, parsed: &mut Parsed)
     }
 }
 
-// Stores the hour and the minute of the offset in the record, both with its sign. For `Z` these are 0, and the second
-// is set to 0, too; a numeric offset leaves the second unchanged. Clears the flag of a negative offset, which only a
-// description's offset hour sets.
+// Stores the hour and the minute of the offset in the record, both with the offset's sign. For `Z` these are 0, and the
+// offset's second is set to 0, too; a numeric offset leaves it unchanged. Clears the flag of a negative offset, which
+// only a description's offset hour sets.
 #[inline(always)]
 fn put_offset(numbers: Numbers, parsed: &mut Parsed)
     requires hour { numbers.offset_hour ≤ 23 }

@@ -10,8 +10,8 @@ use time_values::error::Parse;
 
 /// The format [`Rfc3339`], but with only `T`, `t` or a space between the date and the time.
 ///
-/// With another byte there, or none, the error is that of the first place of the date that doesn't match, or else an
-/// invalid component `separator`. All other texts have the results of [`Rfc3339`].
+/// With another byte there, or none, the error is that of [`Rfc3339`] for only the first ten bytes: an error of the
+/// date, or else an invalid component `separator`. All other texts have the results of [`Rfc3339`].
 #[derive(Clone, Copy, Debug, PartialEq, Eq)]
 pub struct Rfc3339Strict;
 

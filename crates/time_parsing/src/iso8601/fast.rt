@@ -1,7 +1,7 @@
 //! The commonest texts of ISO 8601, parsed whole and without a record.
 //!
-//! Each function returns the value that parsing over the record would give, or `None`. After `None` the text is parsed
-//! over the record, which may still accept it.
+//! `date_time` and `moment` return the value that a parse over an empty record returns, or `None`. After `None` the
+//! text is parsed over an empty record, and may still be accepted.
 ghost use Rattle.std.specs.Prelude.{◌≡◌, [], IfSome, Some, Ok};
 ghost use Rattle.time_values.specs.Moments.{plain_date, plain_time};
 ghost use Rattle.time_values.specs.Calendar.{greatest_year};
@@ -20,8 +20,8 @@ use time_readers::iso8601::{
 use time_values::{Date, OffsetDateTime, PlainDateTime, Time, UtcOffset};
 
 // The date and time of a whole text, which may have an offset after them; the offset is ignored. `None` if the text
-// doesn't begin with a date by month and day and a time, as in `parts`, or if bytes after these aren't an offset,
-// or if the date doesn't exist, or the second is 60.
+// doesn't begin with a date by month and day that `parts` parses and a time with `T`, or if bytes after these aren't an
+// offset, or if the date doesn't exist, or the second is 60.
 #[inline(always)]
 pub(super) fn date_time(input: &[u8]) -> Option<PlainDateTime>
     ensures { IfSome result (λ p. IsOutcome (IsPlain greatest_year) (Reads greatest_year)
@@ -36,8 +36,8 @@ pub(super) fn date_time(input: &[u8]) -> Option<PlainDateTime>
     Some(plain)
 }
 
-// The date, time and offset of a whole text. `None` if the text isn't a date by month and day and a time, as in
-// `parts`, with an offset up to the end, or if the date doesn't exist, or the second is 60.
+// The date, time and offset of a whole text. `None` if the text isn't a date by month and day that `parts` parses, a
+// time with `T`, and an offset up to the end, or if the date doesn't exist, or the second is 60.
 #[inline(always)]
 pub(super) fn moment(input: &[u8]) -> Option<OffsetDateTime>
     ensures { IfSome result (λ v. IsOutcome (IsMoment greatest_year) (Reads greatest_year)
@@ -79,8 +79,8 @@ fn offset_of(numbers: OffsetNumbers) -> Option<UtcOffset>
     }
 }
 
-// The date at the start of a text, and the time after it if there is one. `None` if its date can't be parsed, or if the
-// text has neither both `-` of `YYYY-MM-DD`, nor the `T` of `YYYYMMDDT` and a month that begins with 0 or 1.
+// The date at the start of a text, and the time after it if there is one. `None` if the text has neither both `-` of
+// `YYYY-MM-DD`, nor the `T` of `YYYYMMDDT` and a month that begins with 0 or 1, or if `date_and_time` returns an error.
 #[inline(always)]
 fn parts(input: &[u8]) -> Option<DateAndTime<'_>>
     ensures { IfSome result (λ p. ReturnsDateAndTime input.now (Ok p)) }
@@ -93,7 +93,7 @@ fn parts(input: &[u8]) -> Option<DateAndTime<'_>>
 }
 
 /// The ISO 8601 offset that is the whole input: `Z`, or a sign, an hour and an optional minute. `kind` is the kind of
-/// the text before it. `None` if the input isn't such an offset, or if the hour is above 25 or the minute above 59.
+/// the text before the offset. `None` if the input isn't an offset, or the hour is above 25 or the minute above 59.
 #[inline(always)]
 pub fn offset_to_the_end(input: &[u8], kind: ExtendedKind) -> Option<UtcOffset>
     ensures { IfSome result (λ o. (n : OffsetNumbers_) × (offset_found kind input.now ≡ Some ([], n)) × IsOffsetOfNumbers n o) }

@@ -61,8 +61,10 @@ missing_for_offset r = if is_some r.offset_hour then None else Some (codes "offs
 -- is.
 abbrev pub needs_date : ℕ → Bool
 needs_date needs = nat_eq (needs % 2) 1
+
 abbrev pub needs_time : ℕ → Bool
 needs_time needs = nat_eq (needs / 2 % 2) 1
+
 abbrev pub needs_offset : ℕ → Bool
 needs_offset needs = nat_eq (needs / 4 % 2) 1
 

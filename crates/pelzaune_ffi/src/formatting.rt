@@ -10,7 +10,7 @@ ghost use Rattle.pelzaune_ffi.specs.Results.{moment_refusal};
 use crate::descriptions::{fault_status, read_description, syntax_of};
 use crate::parts::MomentParts;
 use crate::status::{TEXT_TOO_LONG, UNKNOWN_SYNTAX, status_of_range};
-use crate::stored::{StoredDescription, steps_of, steps_in_use};
+use crate::stored::{StoredDescription, steps_in_use, steps_of};
 use crate::text::lay_bytes;
 use crate::writing::moment_of;
 use time_components::Step;

@@ -309,7 +309,10 @@ mod functions {
 
     #[test]
     fn texts() {
-        are_one(here::formatting::format::<35>, time_formatting::format::<35>);
+        are_one(
+            here::formatting::format::<35>,
+            time_formatting::format::<35>,
+        );
         are_one(here::formatting::text_3339, time_formatting::text_3339);
         are_one(here::formatting::text_2822, time_formatting::text_2822);
         are_one(here::formatting::text_8601, time_formatting::text_8601);

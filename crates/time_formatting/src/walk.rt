@@ -30,10 +30,7 @@ pub fn format<const CAP: usize>(
 }
 
 // Appends bytes, or returns `TooLong` and leaves the text unchanged if it would exceed `CAP` bytes.
-fn put<const CAP: usize>(
-    bytes: &[u8],
-    text: &mut ArrayVec<u8, CAP>,
-) -> Result<(), Unformattable>
+fn put<const CAP: usize>(bytes: &[u8], text: &mut ArrayVec<u8, CAP>) -> Result<(), Unformattable>
     ensures { Puts (joined CAP text.old.items bytes.now) result text.new.items }
 {
     match text.try_extend_from_slice(bytes) {

@@ -59,23 +59,23 @@ missing_for_offset r = if is_some r.offset_hour then None else Some (codes "offs
 
 -- The values that a number selects: a date if it is odd, a time if its half (rounded down) is, an offset if its quarter
 -- is.
-abbrev pub needs_date : ℕ → Bool
-needs_date needs = nat_eq (needs % 2) 1
+abbrev pub selects_date : ℕ → Bool
+selects_date needs = nat_eq (needs % 2) 1
 
-abbrev pub needs_time : ℕ → Bool
-needs_time needs = nat_eq (needs / 2 % 2) 1
+abbrev pub selects_time : ℕ → Bool
+selects_time needs = nat_eq (needs / 2 % 2) 1
 
-abbrev pub needs_offset : ℕ → Bool
-needs_offset needs = nat_eq (needs / 4 % 2) 1
+abbrev pub selects_offset : ℕ → Bool
+selects_offset needs = nat_eq (needs / 4 % 2) 1
 
 -- The component that a record lacks for the values that the number selects: the date's first, then the time's, then the
 -- offset's. A Unix timestamp gives all three.
 abbrev pub missing_for : ℕ → Record → Option (List ℕ)
 missing_for needs r =
     if nat_eq (needs % 8) 7 && is_some r.unix_timestamp_nanos then None else
-    first_of (if needs_date needs then missing_for_date r else None)
-    (first_of (if needs_time needs then missing_for_time r else None)
-    (if needs_offset needs then missing_for_offset r else None))
+    first_of (if selects_date needs then missing_for_date r else None)
+    (first_of (if selects_time needs then missing_for_time r else None)
+    (if selects_offset needs then missing_for_offset r else None))
 
 -- The status of what is missing: 4 plus 256 times the component's number, or 0 if nothing is.
 abbrev pub missing_status : Option (List ℕ) → ℕ

@@ -57,14 +57,15 @@ missing_for_time r = first_of (missing_for_hour r) (missing_below_hour r)
 abbrev pub missing_for_offset : Record → Option (List ℕ)
 missing_for_offset r = if is_some r.offset_hour then None else Some (codes "offset hour")
 
--- The values that a number selects: a date if it is odd, a time if its half (rounded down) is, an offset if its quarter
--- is.
+-- The number selects a date: it is odd.
 abbrev pub selects_date : ℕ → Bool
 selects_date needs = nat_eq (needs % 2) 1
 
+-- The number selects a time: its half, rounded down, is odd.
 abbrev pub selects_time : ℕ → Bool
 selects_time needs = nat_eq (needs / 2 % 2) 1
 
+-- The number selects an offset: its quarter, rounded down, is odd.
 abbrev pub selects_offset : ℕ → Bool
 selects_offset needs = nat_eq (needs / 4 % 2) 1
 

@@ -79,7 +79,7 @@ pub record TempRemovable (aim : Replacement) (done : List Event) : Type 0 where
   pub reached : Reached aim done
   pub safe : Safe aim (Leads aim.temporary None ∷ done)
 
--- The backup's name may be removed, too, while the name points to the old file.
+-- The backup's name may be removed, too, while the file's name points to the old file.
 pub record BackupRemovable (aim : Replacement) (done : List Event) : Type 0 where
   pub removable : TempRemovable aim done
   pub unbacked : IfSome aim.backup (λ second.

@@ -100,7 +100,7 @@ bytes_made Same text = None
 abbrev pub HasSameBytes : List Event → List Event → Option ℕ → Type 0
 HasSameBytes before after file = IfSome file (λ number. stored after number ≡ stored before number)
 
--- A crash leaves under the second name the file to which the first name pointed before, with the bytes of then.
+-- A crash leaves under the second name the file to which the first name pointed before, with its bytes from before.
 abbrev pub IsBackedUp : List Event → List Event → List ℕ → List ℕ → Type 0
 IsBackedUp before after name second =
     (file : Option ℕ) → MayLead after second file → (file ≡ leads before name) × HasSameBytes before after file
@@ -146,7 +146,7 @@ IsEnded Changed before after name backup new = IsReplaced before after name back
 IsEnded Same before after name backup new = IsUntouched before after
 
 -- The result of replacing a file: new bytes, if there are any, are made from the old ones. A crash at any moment leaves
--- the name safe. After a success the file is replaced or untouched, by the result.
+-- the name safe. After a success the file is replaced if the result is `Changed`, and untouched if it is `Same`.
 pub record Replaces (makes : List ℕ → Option (List ℕ) → Type 0) (before : List Event) (after : Option (List Event))
     (name : List ℕ) (backup : Option (List ℕ)) {E : Type 0} (result : Result Made E) : Type 0 where
   pub new : Option (List ℕ)

@@ -27,12 +27,12 @@ pub struct Original {
     pub group: u32,
 }
 
-/// A writer that keeps the error of a failed write.
+/// A writer that keeps the error of the last write or flush that failed.
 pub trait Failing {
-    // The error of the last failed write, if there is one.
+    // The error of the last failed write or flush; `None` if none failed.
     ghost failure: { Self → Option Error };
 
-    /// Returns the error of the last failed write, if there is one, and drops the writer.
+    /// Returns the error of the last failed write or flush, `None` if none failed, and drops the writer.
     fn into_failure(self) -> Option<io::Error>
         ensures { result ≡ failure self };
 }
@@ -67,7 +67,7 @@ pub trait Folder {
             × ((read : List ℕ) × (Self.Old.remaining opened.0 ≡ Some read)
             × IfSome (stored done opened.1.number) (λ bytes. bytes ≡ read)))) };
 
-    /// Whether the name still points to that file, and its state is still `original`.
+    /// Whether the name still points to the file that had the state `original`, and the file still has that state.
     fn is_at(&self, name: &str, original: &Original) -> io::Result<bool>
         ensures { IfOk result (λ is. IfSome (events self.now) (λ done.
             is ≡ true → leads done name.now ≡ Some original.now.number)) };
@@ -79,8 +79,8 @@ pub trait Folder {
         ensures taken { IfErr result (λ e. error_kind e ≡ ErrorKind.AlreadyExists → events self.new ≡ events self.old) }
         ensures empty { IfOk result (λ new. IfSome (events self.old) (λ _. Self.New.contents new ≡ Some [])) };
 
-    /// Closes the new file of that name, and writes its bytes to the disk, with the mode of the old file, and its owner
-    /// and group where those may be set.
+    /// Closes the new file of that name, and writes its bytes to the disk. The file gets the mode of the old one, and
+    /// where permitted, the owner and group of the old one.
     fn store(&mut self, name: &str, new: Self::New, original: &Original) -> io::Result<()>
         ensures { Tries (events self.old) (events self.new) result (Stores name.now (Self.New.contents new)) };
 

@@ -38,8 +38,8 @@ fn write_failed<L: Sink>(
     log.write_all(b"\n")
 }
 
-/// Writes a line to the log: the escaped name of a file, and why it wasn't replaced. For a failed call that is the step
-/// and the error's text, or `out of memory` if no memory can be allocated for that text.
+/// Writes a line to the log: the escaped name of a file, and why it wasn't replaced. For `Failed` that is the step, and
+/// the error's text, or in place of the text `out of memory` if no memory can be allocated for it.
 pub fn write_unreplaced<L: Sink>(
     alloc: Global,
     name: &[u8],
@@ -103,7 +103,7 @@ impl fmt::Display for Step {
     }
 }
 
-/// Why a file wasn't replaced; or for [`Step::Sync`], why a crash may undo its replacement.
+/// Why a file wasn't replaced. But for [`Step::Rename`] it may be; for [`Step::Sync`] it is, but a crash may undo that.
 #[derive(Debug, Drop)]
 pub enum Unreplaced<S: Drop> {
     /// No new bytes could be made, for this reason.

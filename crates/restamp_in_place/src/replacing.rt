@@ -88,7 +88,7 @@ fn rename_linked<F: Folder, S: Drop>(folder: &mut F, plan: &Plan<'_>) -> Result<
     rename(folder, plan)
 }
 
-// Removes the backup again, if the name still points to the unchanged old file. Ignores any failure.
+// Removes the backup again, if the file's own name still points to the unchanged old file. Ignores any failure.
 fn remove_backup<F: Folder>(folder: &mut F, plan: &Plan<'_>, backup: &str)
     ensures { (aim : Replacement) → IsPlanOf aim plan.now → aim.backup ≡ Some backup.now
         → Runs (F.events folder.old) (F.events folder.new) (BackupRemovable aim) (TempRemovable aim) }
@@ -155,7 +155,7 @@ fn install_or_remove<F: Folder, S: Drop>(
     }
 }
 
-// Installs the new file for `Changed`, else removes it. If the maker and a write failed, the error is the write's.
+// Installs the new file for `Changed`, else removes it. A failed maker's error is that of a failed write, or its own.
 fn finish<F: Folder, S: Drop>(
     folder: &mut F,
     plan: &Plan<'_>,
@@ -194,10 +194,10 @@ fn finish<F: Folder, S: Drop>(
 /// replaced.
 ///
 /// It writes the new bytes to a new file beside the old one, stores that on the disk, and renames it. If a backup's
-/// name is given, which must be unused, the old file has that name from then on. The old file is unchanged if the maker
-/// returns `Same`, if another program replaced or changed it meanwhile, and if anything fails: then the new file is
-/// removed, unless that fails too. If a rename fails after it was made, or if only the last write of the folder to the
-/// disk fails, the new file is in place, and the result is an error.
+/// name is given, which must be unused, the old file has that name from then on. The old file isn't replaced if the
+/// maker returns `Same`, if another program replaced or changed it meanwhile, or if a step fails. Then the new file is
+/// removed, unless that fails too. There are two exceptions: if a rename fails after it was made, or if only the last
+/// write of the folder to the disk fails, the new file is in place, and the result is an error.
 ///
 /// A crash at any moment leaves what it might have left before under the name, or the whole new file.
 pub fn replace<F: Folder, M: FileTransform>(

@@ -26,8 +26,8 @@ pub struct Target<'a> {
 /// Replaces a file by its processed lines, unless none of its timestamps is rewritten. Returns the log, the counts of
 /// the file's lines by their actions, and whether the file was replaced.
 ///
-/// The file is unchanged if the work stops at a rejected line, and if anything fails but the last write of the folder
-/// to the disk, or a rename that was made.
+/// The file is unchanged if the work stops at a rejected line, or if a step fails, with two exceptions: if a rename
+/// fails after it was made, or if only the last write of the folder to the disk fails, the new file is in place.
 pub fn replace_file<T: Rewriting, F: Folder, L: Sink + Drop>(
     rewriting: &T,
     settings: Settings<'_>,

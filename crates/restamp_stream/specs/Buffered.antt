@@ -61,7 +61,7 @@ FailedBy Refused fact = ⊥
 abbrev pub ContinuesLine : Option (List ℕ) → Option (List ℕ) → TailAction → List ℕ → Type 0
 ContinuesLine out out' rest bytes = HasNoLf bytes × Appends out out' (passed rest bytes)
 
--- `after` follows the first LF; the bytes through it were written (`Dropping`: dropped). For `Absent` it is all bytes.
+-- Bytes through the first LF were written (`Dropping`: dropped). `after` is the rest; for `Absent`, `after` is all.
 abbrev pub EndsLine : Option (List ℕ) → Option (List ℕ) → TailAction → List ℕ → List ℕ → Type 0
 EndsLine out out' Absent bytes after = (after ≡ bytes) × Keeps out out'
 EndsLine out out' rest bytes after =
@@ -73,6 +73,6 @@ pub record Flushes (before after : State) : Type 0 where
   pub log : Keeps before.log after.log
   pub tally : after.tally ≡ before.tally
 
--- Each of `turns` reads returned at least one byte, or one of them failed.
+-- No read failed, and at least `turns` bytes (or 2^64 - 1) have been read from the source; or a read failed.
 abbrev pub HaveProgressed : ℕ → ℕ → ℕ → ℕ → Type 0
 HaveProgressed turns faults faults' given = ((faults' ≡ faults) × (count_more 0 turns ≤ given)) ⊎ Rises faults faults'

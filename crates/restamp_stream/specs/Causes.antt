@@ -23,6 +23,6 @@ HasWriteCause result before now = MatchResult result (λ _. now ≡ before) (λ 
 
 -- ---- What the exit status reports
 
--- The work stopped, a file wasn't opened or read to its end, or a line was rejected and `strict` is set.
+-- The work stopped, the tally's `unread` isn't 0, or a line was rejected and `strict` is set.
 abbrev pub HasFailed : Tally → Option Stop → Bool → Type 0
 HasFailed tally stop strict = IsSome stop ⊎ ((0 < tally.unread) ⊎ (IsTrue strict × (0 < tally.refused)))

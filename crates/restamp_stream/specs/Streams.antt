@@ -115,13 +115,13 @@ pub record IsLong (job : Job) (before after : State) (text : List ℕ) (rest : T
   pub long : job.limit ≤ length text
   pub processed : Processed job before after (unended text ∷ []) (action ∷ [])
 
--- for `Absent`, no line has started: the text is empty, and the states are equal; otherwise one has (`IsLong`)
+-- for `Absent`, no unended line was processed: the text is empty, and the states are equal; otherwise `IsLong`
 abbrev pub IsStarted : Job → State → State → List ℕ → TailAction → Type 0
 IsStarted job before after text Absent = (text ≡ []) × (before ≡ after)
 IsStarted job before after text rest = IsLong job before after text rest
 
--- The bytes read are lines that end, the text so far of a line that has started, and the bytes `held`. Between the two
--- states all of them but `held` were processed. `rest` is that line's tail action; `Absent` if none has started.
+-- The bytes read are lines that end, the text of a line without LF so far, and the bytes `held`. Between the two states
+-- all but `held` were processed. `rest` is the unended line's tail action; `Absent` if no such line was processed.
 pub record Answered (job : Job) (before after : State) (read : List ℕ) (rest : TailAction) (held : List ℕ) : Type 0
   where
     pub lines : List Line
@@ -158,7 +158,7 @@ pub record RefusedAt (job : Job) (before after : State) (front : List ℕ) : Typ
   pub reported : Appends before.log after.log report
   pub tallied : after.tally ≡ count_action before.tally Refused
 
--- Between the two states those of the lines `all` before a rejected one were processed, and then that one was rejected.
+-- Between the two states the lines of `all` before a rejected one were processed, and then that one stopped the work.
 pub record Stopped (job : Job) (before after : State) (all : List Line) : Type 0 where
   pub lines : List Line
   pub line : Line
@@ -195,7 +195,7 @@ pub record ProcessedBefore (job : Job) (before after : State) (bytes : List ℕ)
 -- ---- Several files, processed one after the other
 
 -- Between the two states a file's lines were processed until a read failed, or the file wasn't opened and no line was
--- processed. The count of failed openings and failed files rose from the one number to the other.
+-- processed. The count of files that failed to open or were cut off rose from `faults` to `faults'`.
 abbrev pub ProcessedCutOff : Job → Option (List ℕ) → ℕ → ℕ → State → State → Type 0
 ProcessedCutOff job bytes faults faults' before after =
     Rises faults faults'
@@ -270,7 +270,7 @@ AreKept (Rewritten begin end text ∷ actions) = ⊥
 AreKept (Dropped ∷ actions) = ⊥
 AreKept (_ ∷ actions) = AreKept actions
 
--- If all lines are written, and no line of an input is rewritten or dropped, the output is the input, byte by byte.
+-- If `output` is `AllLines`, and no line of an input is rewritten or dropped, the output is the input, byte by byte.
 abbrev pub KeptBytes : Job → Type 0
 KeptBytes job =
     (bytes : List ℕ) (before after : State) (actions : List Action) → job.settings.output ≡ AllLines

@@ -29,8 +29,8 @@ pub trait Opening {
         ensures started { IfOk result (λ input. Self.Input.faults input ≡ 0) }
         ensures cause { HasCause result (faults self.old) (faults self.new) }
         ensures same { bytes_of self.new ≡ bytes_of self.old };
-    /// Closes a file that it opened. Counts the file as cut off if one of its calls has failed, or if it has returned
-    /// 18446744073709551615 bytes.
+    /// Closes a file that it opened. Counts the file as cut off if a read of the file has failed, or if the reads have
+    /// returned 18446744073709551615 bytes or more.
     fn close(&mut self, input: Self::Input)
         ensures cut_off { IsCutOff 0 (Self.Input.faults input) (Self.Input.given input) → Rises (faults self.old) (faults self.new) }
         ensures whole { ¬ IsCutOff 0 (Self.Input.faults input) (Self.Input.given input) → faults self.new ≡ faults self.old }

@@ -12,21 +12,21 @@ use crate::settings::Settings;
 use crate::stream::Stream;
 use byte_streams::Sink;
 
-/// With these settings, an input has one output, one log and one tally, and each of its lines has one action.
+/// From given contents and counts, by these settings, an input has one output, log and tally, and each line one action.
 pub fn law_one_result<T: Rewriting>(rewriting: &T, name: &[u8], settings: Settings<'_>)
     ensures lines { OneAnswer (job_of (T.is_action rewriting.now) (T.is_reason rewriting.now) name.now settings.entry) }
     ensures input { OneResult (job_of (T.is_action rewriting.now) (T.is_reason rewriting.now) name.now settings.entry) }
 {}
 
-/// The lines of an input, joined, are its bytes. If all lines are written, and no line is rewritten or dropped, the
-/// output is the input.
+/// The lines of an input, joined, are its bytes. If `output` is `AllLines`, and all lines are processed but none is
+/// rewritten or dropped, the output is the input.
 pub fn law_kept<T: Rewriting>(rewriting: &T, name: &[u8], settings: Settings<'_>)
     ensures lines { SameBytes }
     ensures input { KeptBytes (job_of (T.is_action rewriting.now) (T.is_reason rewriting.now) name.now settings.entry) }
 {}
 
 /// Processes files as [`Stream::serve_files`] does. The work stops early only after a failed write, or at a rejected
-/// line. If it doesn't, and no file fails to open or is cut off, all lines of each file are processed and written.
+/// line. If it doesn't, and no file fails to open or is cut off, all lines are processed, and their output is written.
 pub fn law_done<T: Rewriting, O: Opening, W: Sink, L: Sink>(
     stream: &mut Stream<W, L>,
     rewriting: &T,

@@ -34,7 +34,7 @@ fn is_escaped(ascii: bool, byte: u8) -> bool
     byte.is_ascii_control() || (ascii && !byte.is_ascii())
 }
 
-// How many bytes come before the first escaped one.
+// How many bytes come before the first escaped one; the length of `name` if none is escaped.
 fn plain_length(ascii: bool, name: &[u8]) -> usize
     ensures within { result ≤ length name.now }
     ensures plain { (k : ℕ) → k < result → names.is_escaped ascii (slice_index name.now k) ≡ false }
@@ -48,7 +48,7 @@ fn plain_length(ascii: bool, name: &[u8]) -> usize
     name.len()
 }
 
-// Writes the bytes of `name` before the first escaped one, or that one if it is first. Returns their number in `name`.
+// Writes the unescaped bytes that start `name`, or else its first byte, escaped. Returns how many of its bytes.
 #[tactic(auto, using(crate::proofs::LinesLemmas::log_writes))]
 fn write_part<L: Sink>(ascii: bool, name: &[u8], log: &mut L) -> Result<usize, Unwritten>
     requires { 0 < length name.now }

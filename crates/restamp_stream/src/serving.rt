@@ -46,7 +46,7 @@ impl<W: Sink, L: Sink> Stream<W, L> {
         Ok(Some(after))
     }
 
-    // Processes all lines that end in the bytes, which start where a line starts. Returns the bytes after the last LF.
+    // Processes all lines that end in `bytes`. A line starts at the first byte. Returns the bytes after the last LF.
     fn answer_lines<'a, T: Rewriting>(
         &mut self,
         file: &File<'_, T>,
@@ -175,7 +175,7 @@ impl<W: Sink, L: Sink> Stream<W, L> {
     }
 
     /// Processes all lines of a file. All whole lines that were read are processed and written before the next read.
-    ///
+    /// Drops the bytes that were in `block` or in the buffer of `out` before the call.
     /// A line is processed by its first [`LIMIT`] bytes. Its later bytes are copied if it is written, or else dropped.
     ///
     /// After [`Stop::Unread`] all that was read and could be processed is processed and written. After

@@ -22,12 +22,12 @@ pub enum Output {
 pub enum Reports {
     /// None. The log doesn't report how many there were, either.
     Quiet,
-    /// The first ones of each file, up to this number. If there were more, a last line reports how many more.
+    /// The first ones of each file, up to this number. If a file has more, a last line for it reports how many more.
     First(u64),
 }
 
 impl Reports {
-    /// Whether the log names the line counted last: for `First(n)`, if `action` is `Refused` and `refused_here` <= n.
+    /// Whether the log names the line counted last: only for `First(n)`, if it is `Refused` and `refused_here` <= n.
     pub fn names<R>(self, tally: &Tally, action: &LineAction<R>) -> bool
         ensures names { (text : Items) → result ≡ is_named self tally.now (action_of action.now text) }
         ensures refused { (text : Items) → IsTrue result → action_of action.now text ≡ Refused }

@@ -75,7 +75,7 @@ impl<W: Sink, L: Sink> Stream<W, L> {
         }
     }
 
-    // Reports to the log that n more lines of a file were rejected than it names; nothing if n is 0.
+    // Writes to the log that n more lines of a file were rejected than the log names. Writes nothing if n is 0.
     fn report_more(&mut self, name: &[u8], n: u64) -> Result<(), Unwritten>
         ensures reported { OnOk result (Appends (L.contents self.old.log) (L.contents self.new.log) (more_text name.now n)) }
         ensures out { self.new.out ≡ self.old.out }
@@ -183,8 +183,8 @@ impl<W: Sink, L: Sink> Stream<W, L> {
         self.put_suffixed(suffix, front, begin, end, text)
     }
 
-    // Writes the output for the front of a line: the front with the new time and the suffix in it, only these and LF
-    // (`Times`), the unchanged front, or nothing.
+    // Writes the output for the front of a line. `Rewritten`: the front with the new time and the suffix in it, or for
+    // `Times` only these and LF. `Without` and `Refused`: for `AllLines` the unchanged front. In other cases: nothing.
     #[inline(always)]
     fn put_front<R>(
         &mut self,
@@ -252,7 +252,7 @@ impl<W: Sink, L: Sink> Stream<W, L> {
         self.write_report(file, front)
     }
 
-    // Counts and reports a line. `Refused` if the work stops at it; else calls `put_front` and returns its tail action.
+    // Counts a line, calls `report` and, unless the work stops at it (`Refused`), `put_front`. Returns its tail action.
     #[inline(always)]
     pub(crate) fn begin<T: Rewriting>(
         &mut self,

@@ -22,7 +22,7 @@ pub struct Tally {
     pub dropped: u64,
     /// The lines that were rejected.
     pub refused: u64,
-    /// The files that weren't opened, or not read to their end.
+    /// The files for which opening, reading to the end or, in place, replacing has failed.
     pub unread: u64,
 }
 
@@ -68,7 +68,7 @@ impl Tally {
         self.refused_here = 0;
     }
 
-    /// Adds 1 to `unread`, for a file that wasn't opened, or not read to its end.
+    /// Adds 1 to `unread`, for a file for which opening, reading to the end or, in place, replacing has failed.
     pub fn count_unread(&mut self)
         ensures { self.new ≡ count_unread self.old }
     {

@@ -126,7 +126,7 @@ parts (joined.Time b) = time_parts b
 parts (joined.Fraction p) = fraction_parts p
 parts (joined.Seconds b p) = second_parts b p
 
--- The steps begin with those of `front`, and the next step is no further byte of a literal (`More`).
+-- The steps begin with those of `front`, and no further byte of a literal (`More`) directly follows these.
 abbrev pub BeginsWith : List Step → List Step → Type 0
 BeginsWith front steps = (after : List Step) × (steps ≡ front ++ after) × (further after ≡ [])
 

@@ -63,8 +63,8 @@ ReadsFront j n bytes r rest r' =
     (after : List Step) → further after ≡ []
     → Resumes (steps_trees (parts j ++ after)) bytes r (steps_trees (drop n (parts j ++ after))) rest r'
 
--- At least one step is joined, `left`, the number of steps from the first joined one on, is enough for all joined ones,
--- and the first n of these are read; or none is read, the rest is all bytes, and the record is unchanged.
+-- Either at least one step is joined, the number `left` of steps from the first joined one on suffices for all joined
+-- ones, and the first n of these are read; or n is 0, the rest is all bytes, and the record is unchanged.
 abbrev pub MayReadFront : Joined → ℕ → ℕ → List ℕ → Record → List ℕ → Record → Type 0
 MayReadFront j left n bytes r rest r' =
     ((n ≡ 0) × (rest ≡ bytes) × (r' ≡ r))

@@ -11,14 +11,14 @@ use time_values::Month;
 /// A form of a date: its parts, with the given byte between them. A day and a month's number have two digits.
 #[derive(Clone, Copy, Debug, PartialEq, Eq)]
 pub enum Dated {
-    /// A year, a month's number and a day, as `2021-03-04`. The description also accepts a sign and four to six digits
-    /// as the year.
+    /// A year, a month's number and a day, as `2021-03-04`. The year has four digits, or a sign and four to six. Only a
+    /// year without a sign is parsed directly as a value.
     YearFirst(u8),
-    /// A year, a month's number and a day, as `2021-03-04`. The description also accepts a sign before the four digits
-    /// of the year, but no longer year.
+    /// A year, a month's number and a day, as `2021-03-04`. The year has four digits, with or without a sign. Only a
+    /// year without a sign is parsed directly as a value.
     StandardYearFirst(u8),
-    /// A day, the short English name of a month (in exactly this case) and a year, as `04/Mar/2021`. The description
-    /// also accepts a sign and four to six digits as the year.
+    /// A day, the short English name of a month (in exactly this case) and a year, as `04/Mar/2021`. The year has four
+    /// digits, or a sign and four to six. Only a year without a sign is parsed directly as a value.
     DayFirst(u8),
 }
 
@@ -32,9 +32,9 @@ pub struct InMoment {
     pub between: u8,
     /// The byte between the parts of the time.
     pub in_time: u8,
-    /// The byte before the offset, if there is one.
+    /// The byte between the time and the offset, or `None` if the offset directly follows the time.
     pub before_offset: Option<u8>,
-    /// The byte between the hour and the minute of the offset, if there is one.
+    /// The byte between the hour and the minute of the offset, or `None` if the minute directly follows the hour.
     pub in_offset: Option<u8>,
 }
 

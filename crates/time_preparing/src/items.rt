@@ -142,7 +142,7 @@ fn put_optional<const N: usize>(
     }
 }
 
-// Replaces the step at the index by one of the group, which all steps after the index then belong to.
+// Replaces the step at the index by a step of this group. All steps after the index then belong to the group.
 fn close_group<const N: usize>(steps: &mut ArrayVec<Step, N>, group: Group, index: usize)
     requires { index < length steps.old.items }
     ensures { steps.new.items ≡ slice_set steps.old.items index

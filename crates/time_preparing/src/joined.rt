@@ -99,10 +99,10 @@ fn continues_literal(steps: &[Step]) -> bool
     }
 }
 
-/// The steps at the front of these that are parsed together: those of a date with a year of the extended range, a
-/// month's name and a day, a time, an optional fraction, or an optional second with an optional fraction, or else a
-/// literal of one byte or a component. `Joined::Nothing`: there are no steps, they begin with none of these, or only
-/// with ones that a `Step::More` follows.
+/// The steps at the front of `steps` that are parsed together: those of a date with a year of the extended range, of a
+/// month's name and a day, of a time, of an optional fraction, or of an optional second with an optional fraction; or
+/// else one literal of one byte or one component. `Joined::Nothing`: `steps` is empty or begins with none of these, or
+/// a `Step::More` directly follows them.
 pub(crate) fn joined_at(steps: &[Step]) -> Joined
     ensures { BeginsWithParts result steps.now }
 {
@@ -112,8 +112,8 @@ pub(crate) fn joined_at(steps: &[Step]) -> Joined
     }
 }
 
-// Three, five or six joined steps at the front of these, or `None` if they can't be joined or the second isn't a
-// literal's first byte. This is not a fast path.
+// Three, five or six joined steps at the front of `steps`, or `None` if these can't be joined or the second step isn't
+// a literal's first byte. This is not a fast path.
 fn several_at(steps: &[Step]) -> Option<Joined>
     ensures { IfSome result (λ joined. BeginsWithParts joined steps.now) }
 {
@@ -133,9 +133,9 @@ fn several_at(steps: &[Step]) -> Option<Joined>
     }
 }
 
-// Three or five joined steps at the front of these, with a literal of this byte as the second: those of a date with a
-// year of the extended range, of a month's name and a day, of a time or of an optional fraction. `None`: the steps
-// begin with none of these, or a `Step::More` follows. This is not a fast path.
+// Three or five joined steps at the front of `steps`, with a literal of this byte as the second: those of a date with a
+// year of the extended range, of a month's name and a day, of a time or of an optional fraction. `None`: `steps` begins
+// with none of these, or a `Step::More` directly follows them. This is not a fast path.
 fn three_at(steps: &[Step], byte: u8) -> Option<Joined>
     ensures { IfSome result (λ joined. BeginsWithParts joined steps.now) }
 {
@@ -154,8 +154,8 @@ fn three_at(steps: &[Step], byte: u8) -> Option<Joined>
     }
 }
 
-// A literal of one byte, or a component, at the front of these steps, or `Joined::Nothing` if they begin otherwise, are
-// empty, or have a `Step::More` after it.
+// The literal of one byte, or the component, at the front of these steps. `Joined::Nothing` if they are empty, if they
+// begin otherwise, or if a `Step::More` directly follows the literal or component.
 fn alone_at(steps: &[Step]) -> Joined
     ensures { BeginsWithParts result steps.now }
 {

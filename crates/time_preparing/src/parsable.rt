@@ -1,8 +1,8 @@
 //! Prepared descriptions as formats.
 //!
-//! `fast` is tried first for a date, a time, or both, with or without an offset: it makes the value directly from the
-//! numbers of a whole text. With defaults it is tried only for a date and time without an offset. A text that `fast`
-//! doesn't parse is parsed over a record, and so is each text for another type of value.
+//! `fast` is tried first for a `Date`, a `Time`, a `PlainDateTime` or an `OffsetDateTime`: it makes the value directly
+//! from the numbers of a whole text. With defaults it is tried only for a `PlainDateTime`. A text that `fast` doesn't
+//! parse is parsed over a record, and so is each text for another type of value.
 ghost use Rattle.std.specs.Prelude.{◌≡◌, ◌≢◌, ◌⊎◌, [], Ok, Err, MatchResult};
 ghost use Rattle.time_values.specs.Calendar.{greatest_year};
 ghost use Rattle.time_values.specs.Refusal.{refusal_of_parsed, trailing};

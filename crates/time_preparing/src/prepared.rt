@@ -21,8 +21,8 @@ use time_values::error::ParseFromDescription;
 
 /// A description of at most `N` steps that is prepared once and then parses many texts.
 ///
-/// It has the steps of the description, in their order. It stores for each step which steps from there on are parsed
-/// together, and the form of the whole texts that are parsed directly as values, if it is a known form.
+/// It has the steps of the description, in their order. It stores for each step which steps from that one on are parsed
+/// together. If the steps have a known form, it also stores the form, and parses the commonest whole texts directly.
 #[derive(Drop)]
 pub struct Prepared<const N: usize> {
     steps: ArrayVec<Step, N>,
@@ -109,9 +109,9 @@ impl<const N: usize> Prepared<N> {
         walk(self.steps.as_slice(), self.joined.as_slice(), parsed, input)
     }
 
-    /// Parses a prefix of the input into the record, and returns the unread rest. An error is the invalid component
-    /// with its name, an invalid literal, or unexpected trailing characters at an `End`. It leaves the record
-    /// unchanged.
+    /// Parses a prefix of the input into the record, and returns the unread rest. An error is `InvalidComponent` with
+    /// the component's name, `InvalidLiteral`, or `UnexpectedTrailingCharacters` at an `End` before the end of the
+    /// input. After an error the record is unchanged.
     pub fn parse_front_into<'a>(
         &self,
         input: &'a [u8],

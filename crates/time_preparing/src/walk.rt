@@ -1,7 +1,7 @@
 //! Walks the steps of a prepared description.
 //!
-//! It parses joined steps, as far as they match. Then it parses the item at which they stop on its own, over the record
-//! so far, and after that joined steps again. So no step that matched is parsed again.
+//! `walk` parses joined steps, as far as they match. Then it parses the item at which they stop on its own, over the
+//! record so far, and after that joined steps again. So no step that `read_joined` counts as parsed is parsed again.
 mod fast;
 mod front;
 
@@ -17,8 +17,8 @@ use time_record::Parsed;
 use time_values::error::ParseFromDescription;
 
 // Parses joined steps as far as they match, stores their values, and returns how many of `steps` were parsed, and the
-// unread rest. `joined` has what is parsed together at each of the steps. It isn't inlined, so that the inlined parsers
-// of steps occur once.
+// unread rest. `joined` has what is parsed together from each of the steps on. This function isn't inlined, so that the
+// inlined parsers of steps occur once.
 #[inline(never)]
 fn read_joined<'a>(
     steps: &[Step],
@@ -46,8 +46,8 @@ fn read_joined<'a>(
 }
 
 /// Parses the steps in sequence at the front of the input, and returns the unread rest. `joined` has what is parsed
-/// together at each of the steps. The error is that of the first item that doesn't match. After an error the record may
-/// have changed.
+/// together from each of the steps on. The error is that of the first item that doesn't match. After an error the
+/// record may have changed.
 #[cycle(walk)]
 #[inline(always)]
 pub(crate) fn walk<'a>(

@@ -241,7 +241,7 @@ pub(crate) fn clock(between: u8, input: &[u8]) -> Option<(ClockNumbers, &[u8])>
     Some((numbers, second.0))
 }
 
-/// The rest of the input after `byte`, or all of the input without a `byte`. `None`: the input doesn't begin with it.
+/// The rest of the input after a given byte, or all of the input if none is given. `None`: the input begins otherwise.
 #[inline(always)]
 pub(crate) fn after_byte(input: &[u8], byte: Option<u8>) -> Option<&[u8]>
     ensures { IfSome result (λ rest. input.now ≡ bytes_of byte ++ rest.now) }
@@ -307,7 +307,7 @@ pub(crate) fn fraction(input: &[u8], point: u8) -> Option<(Option<u32>, &[u8])>
 
 /// A second of two digits, 0 to 60, after the byte `between`, with the nanoseconds of its optional fraction after
 /// `point`, and the rest. If the input doesn't begin with `between`, there is no second, and the rest is the input.
-/// `None` if no such second follows the byte, or if no digit or more than nine follow the byte `point`.
+/// `None` if no such second follows `between`, or if no digit or more than nine follow the byte `point`.
 #[inline(always)]
 pub(crate) fn second(
     input: &[u8],

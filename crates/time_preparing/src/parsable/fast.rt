@@ -1,7 +1,7 @@
 //! Whole texts by the known form of a prepared description, parsed as values without a record.
 //!
-//! Each function returns the value that parsing over the record would give, or `None`. After `None` the text is parsed
-//! over the record, which may still accept it.
+//! Each function returns the value that a parse over a record with the defaults, or an empty one, would return, or
+//! `None`. After `None` the text is parsed over that record, and may still be accepted.
 ghost use Rattle.std.specs.Prelude.{IfSome, Ok};
 ghost use Rattle.time_components.specs.Tree.{steps_shape};
 ghost use Rattle.time_record.specs.Reading.{Reads, Refuses};
@@ -36,9 +36,9 @@ pub(super) fn time<const N: usize>(format: &Prepared<N>, input: &[u8]) -> Option
 }
 
 /// The date and time of a whole text. The description's form must be `Whole::Plain` without defaults, and
-/// `Whole::InYear` with defaults, whose year is then the date's. `None`: another form, a text that isn't such a valid
-/// date and time, one of `Whole::Plain` whose year isn't four digits, a second of 60, or defaults without a year, or
-/// with an ordinal or a fraction of a second.
+/// `Whole::InYear` with defaults. The year of the defaults is then the date's year. `None`: another form, a text that
+/// isn't such a valid date and time, a text of `Whole::Plain` whose year isn't four digits, a second of 60, or defaults
+/// without a year, or with an ordinal or a fraction of a second.
 #[inline(always)]
 pub(super) fn date_time<const N: usize>(
     format: &Prepared<N>,

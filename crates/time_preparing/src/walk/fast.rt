@@ -21,8 +21,8 @@ use time_components::component::parse_period;
 use time_components::{Component, Period, modifier};
 use time_record::Parsed;
 
-// Reads a component and stores its value. The commonest ones are parsed inline. Returns the rest. `None`, without a
-// change: the text doesn't match, or is a less common text of one of these.
+// Reads a component and stores its value. The commonest components are parsed inline. Returns the rest. `None`, without
+// a change: the text doesn't match, its value is out of range, or it is a less common text of a commonest component.
 #[inline(always)]
 pub(super) fn component<'a>(
     parsed: &mut Parsed,

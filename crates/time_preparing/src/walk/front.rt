@@ -26,8 +26,8 @@ pub(super) struct Front<'a> {
 }
 
 /// Parses joined steps as far as they match, and stores their values. An optional group is parsed wholly or not at all.
-/// `left` is how many steps there are from here on; if they are fewer than the joined ones, none is parsed. For
-/// `Joined::Nothing` none is parsed either.
+/// `left` is how many steps there are from the first joined one on; if they are fewer than the joined ones, none is
+/// parsed. For `Joined::Nothing` none is parsed either.
 #[inline(always)]
 pub(super) fn read<'a>(
     joined: &Joined,

@@ -43,7 +43,7 @@ pub enum Target {
     Utc,
     /// A date, time and offset.
     DateTime,
-    /// A date, time and offset, parsed over a given empty record, and so never on a direct path.
+    /// A date, time and offset, always parsed into a record. By RFC 3339 and RFC 2822, `DateTime` isn't: errors differ.
     Staged,
     /// An instant, printed as nanoseconds since 1970-01-01T00:00:00Z.
     Timestamp,
@@ -182,8 +182,8 @@ pub fn second_items<'a>(fraction: &'a BorrowedFormatItem<'a>) -> [BorrowedFormat
     ]
 }
 
-/// The items of a time such as `1:05 PM`, with `seconds`, which is made optional, before the space. The hour needs no
-/// padding, and `AM` or `PM` may be in any case.
+/// The items of a time such as `1:05 PM`, with `seconds`, which is made optional, before the space. The hour has one or
+/// two digits, and `AM` or `PM` may be in any case.
 pub fn clock_items<'a>(seconds: &'a BorrowedFormatItem<'a>) -> [BorrowedFormatItem<'a>; 6]
     ensures { map borrowed_shape result ≡ formats.clock_parts (borrowed_shape seconds.now) }
 {

@@ -91,7 +91,7 @@ impl<'a, R: Files + Clock + Eprint + AllocGlobal> DiskFolder<'a, R> {
         Ok(self.path.join(self.rt.alloc(), name)?)
     }
 
-    // The meter of a file of that size in bytes, 0 if unknown; `None` if progress isn't reported, or by `begin`.
+    // The meter of a file of that size in bytes (0: unknown); `None` if progress isn't reported or `begin` returns it.
     fn meter(&self, size: u64) -> Option<Meter> {
         if !self.progress.is_enabled() {
             return None;

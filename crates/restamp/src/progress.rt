@@ -166,8 +166,8 @@ impl<'a, R: Clock + Eprint> Progress<'a, R> {
         })
     }
 
-    /// Reports how far a file was read, if since the last report (or the first read) at least 1 MiB was read and half a
-    /// second has passed. Reports nothing if there is no clock.
+    /// Reports how far a file was read, if at least 1 MiB was read and half a second has passed since the last report.
+    /// Before the first report, both count from `begin`. Reports nothing if there is no clock.
     #[inline(never)]
     pub(crate) fn report(&self, meter: &mut Meter) {
         if !meter.has_more() {

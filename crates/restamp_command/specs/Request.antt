@@ -180,7 +180,7 @@ AreParts o given =
     IsYearGiven (text_behind o.year) given.year × IsLocalGiven o (text_behind o.local) given.local
     × (given.latest ≡ None)
 
--- A default for that part can have an effect: one of the formats uses it, and a text of it may omit the part.
+-- A default for that part can have an effect: a format uses the default, and may parse a text without the part.
 abbrev pub one_can_default : Part → Reading → List Reading → Bool
 one_can_default p first others = can_default p first || list_any (can_default p) others
 

@@ -68,8 +68,8 @@ abbrev pub IsAction : Job → List ℕ → Action → Type 0
 IsAction job front its =
     (verdict : Verdict) × IsJudged job front verdict × (its ≡ action_of_verdict verdict)
 
--- the text of an error in a front, for a reason or a missing part, with the name of the zone that it may be about, with
--- what was expected, and with the line below it if it is to be printed
+-- the text of an error in a front: the missing part if there is one, or else the reason, with the zone's name, and then
+-- what was expected; if the flag is true, in red, and with the line and a caret below
 abbrev pub error_report : Bool → List ℕ → List ℕ → Reason → Option MissingField → ErrorLocation → List ℕ
 error_report shows_lines front zone reason missing_field w =
     reason_report shows_lines front w.column (why_text zone reason missing_field ++ expected_text w.wanted)

@@ -95,7 +95,7 @@ abbrev pub local_day : ℤ → UtcOffset → ℤ
 local_day now offset = int_div_euclid (local_time_at now offset) (pos nanos_per_day)
 
 -- the nanoseconds since 1970 of a word's moment, by those of the clock: a number of units later; or midnight at that
--- offset, on the clock's day or on one before
+-- offset, on the clock's day or `back` days before it
 abbrev pub nanos_of : ℤ → UtcOffset → Word → ℤ
 nanos_of now offset (word.Later number u) = now +ℤ number *ℤ pos (seconds_of u) *ℤ pos 1_000_000_000
 nanos_of now offset (word.Day back) =

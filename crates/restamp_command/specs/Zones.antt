@@ -21,8 +21,8 @@ use Rattle.restamp_command.specs.declared.zone.Local.TheVariants as local
 use Rattle.restamp_command.specs.declared.zone.Zone.{Zone}
 use Rattle.restamp_command.specs.declared.zone.Zone.TheVariants as kind
 
--- The possible results for a zone's name: `UTC` is found, and the error is `NotAName` exactly for a text that can't be
--- a name, `local` apart. Any other result is possible, since no contract describes the system's files.
+-- The possible results for a zone's name. `UTC` is found. Except for `local`, the error is `NotAName` if and only if
+-- the text can't be a name. Any other result is possible, since no contract describes the system's files.
 abbrev pub IsZoneResult : List ℕ → Result NamedZone ZoneFault → Type 0
 IsZoneResult name result =
     (name ≡ codes "UTC" → result ≡ Ok Utc)

@@ -252,8 +252,8 @@ fn find_named(
 }
 
 /// Parses a whole text as a moment by RFC 3339, then by `first` and each of `others`, then as a word relative to the
-/// clock, which is at `now`. If none of them matches, the error is that of RFC 3339. A word is an error if the clock is
-/// out of range (`now` is `None`), or if its moment is, or doesn't exist in the default zone.
+/// clock, which is at `now`. If none of them matches, the error is that of RFC 3339. A word is an error if `now` is
+/// `None`, or if the word's moment is out of range or doesn't exist in the default zone.
 pub fn find_moment(
     now: Option<UtcDateTime>,
     first: &Reading,

@@ -27,7 +27,7 @@ fn option<'a>(alloc: Global, row: &Row) -> Result<Arg<'a>, AllocError> {
     })
 }
 
-// Gives the option a value, of that name in help, which may start with a hyphen.
+// Gives the option a value. The value may start with a hyphen, and has that name in help.
 fn with_value<'a>(option: Arg<'a>, name: &'static str) -> Arg<'a> {
     option.value_name(name).allow_hyphen_values(true)
 }

@@ -45,7 +45,7 @@ pub enum Fault<'a> {
     From(&'a str, FormatFault<'a>),
     /// `--from rfc9557` needs the zones of the system, which can't be read.
     Zones(&'a str, ZoneFault),
-    /// `--from` expects a format with texts that are moments, but all its texts omit this part.
+    /// `--from` expects texts that are moments, but all texts of this format omit this part, and no default gives it.
     IncompleteFormat(&'a str, MissingField),
     /// `--to` expects the name of an output format, or a valid description.
     To(&'a str, FormatFault<'a>),
@@ -55,7 +55,7 @@ pub enum Fault<'a> {
     Year(&'a str),
     /// `--offset` expects an offset such as `+05:30`.
     Offset(&'a str),
-    /// `--in` expects the name of a zone, which can be loaded.
+    /// `--in` expects the name of a zone that can be loaded.
     In(&'a str, ZoneFault),
     /// `--fold` expects `earlier`, `later` or `refuse`.
     Fold(&'a str),
@@ -67,7 +67,7 @@ pub enum Fault<'a> {
     UnusedOffset(&'a str),
     /// `--in` is of no use: each text of each format has an offset, or a count from 1970.
     UnusedIn(&'a str),
-    /// `--zone` expects `keep`, `utc`, an offset or the name of a zone, which can be loaded.
+    /// `--zone` expects `keep`, `utc`, an offset or the name of a zone that can be loaded.
     Zone(&'a str, ZoneFault),
     /// `--digits` expects one digit from 0 to 9, or `auto`.
     Digits(&'a str),

@@ -115,8 +115,8 @@ fn bytes_around(line: &[u8], column: usize) -> &[u8]
     &rest[..PRINTED.min(rest.len())]
 }
 
-/// Writes an LF, at most 60 bytes of a line around a column, which counts from 1, another LF, and a red caret under
-/// that column. Bytes that aren't printable ASCII are written as dots. No LF follows the caret.
+/// Writes an LF, at most 60 bytes of a line, at most 40 of them before a column (counted from 1), another LF, and a red
+/// caret under that column. Bytes that aren't printable ASCII are written as dots. No LF follows the caret.
 pub fn write_pointer<L: Sink>(line: &[u8], column: usize, log: &mut L) -> Result<(), Unwritten>
     ensures written { OnOk result (Appends (L.contents log.old) (L.contents log.new) (spec.pointer line.now column)) }
     ensures cause { HasCause result (L.faults log.old) (L.faults log.new) }

@@ -25,7 +25,7 @@ use time_zones::find_zone;
 /// What the options request, with all values parsed and all formats and zones loaded.
 #[derive(Drop)]
 pub struct Request<'a> {
-    /// The place of a line's timestamp; `None` means the first byte from which on a format matches.
+    /// The place of a line's timestamp; for `None` it is the first text in the line that a format matches.
     pub place: Option<Place<'a>>,
     /// The format that is tried first. If no format matches at `place`, its error is the reason.
     pub first: Reading,
@@ -104,7 +104,7 @@ fn find_place<'a>(options: &Options<'_, 'a>) -> Result<Option<Place<'a>>, Fault<
     Ok(Some(find_field(options, number)?))
 }
 
-// The default year: the value of `--year`, or `None` without it. An error if that isn't from -999999 to 999999.
+// The default year: the value of `--year`, `None` without it. An error if the value is no year from -999999 to 999999.
 fn find_given_year<'a>(options: &Options<'_, 'a>) -> Result<Option<i32>, Fault<'a>>
     ensures { MatchResult result (λ year. spec.IsYearGiven (text_behind options.now.year) year)
         (λ fault. spec.IsFault options.now (erased_fault fault)) }
@@ -226,8 +226,8 @@ fn find_given<'a, R: Env + Files + AllocGlobal>(
     Ok(OwnedDefaults { latest, ..parts })
 }
 
-// Which lines are written: only the times for `--only`, only rewritten lines for `--drop-refused`, otherwise all but
-// those out of the bounds.
+// Which lines are written: only the times for `--only`, or else only rewritten lines for `--drop-refused`, or else all
+// but those out of the bounds.
 fn output_of(options: &Options<'_, '_>) -> Output
     ensures { result ≡ spec.output_of options.now }
 {
@@ -311,7 +311,7 @@ fn find_bounds<'a>(
 impl<'a> Request<'a> {
     /// The request of the options. If `--color` is `auto`, reports have colours if `is_terminal` is true. It loads a
     /// named zone from its file, and all zones of the system for the format `rfc9557`. `now` is the clock's time, or
-    /// `None` if it is out of range, which matters only if a time in the options is a word such as `today`.
+    /// `None` if it is unreadable or out of range. It matters only if a time in the options is a word such as `today`.
     ///
     /// It is an error if an option rejects its value, is a default that no format can use, or needs zones that can't be
     /// loaded, or if memory is short.

@@ -45,9 +45,9 @@ pub(crate) struct Row {
     /// The default value.
     pub(crate) default: Option<&'static str>,
     pub(crate) help: &'static str,
-    /// The long forms of the options without which it is an error.
+    /// The long forms of the options that must all be given with this one.
     pub(crate) needs: &'static [&'static str],
-    /// The long forms of the options with which it is an error.
+    /// The long forms of the options that can't be given with this one.
     pub(crate) excludes: &'static [&'static str],
 }
 

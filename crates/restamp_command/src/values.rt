@@ -25,7 +25,7 @@ pub fn find_positive(text: &str) -> Option<usize>
     text.parse::<usize>().ok().filter(|number| *number != 0)
 }
 
-/// Parses a year from -999999 to 999999 in one or more ASCII digits, with or without a sign. `None` for any other text.
+/// Parses a year from -999999 to 999999 in ASCII digits, after an optional `+` or `-`. `None` for any other text.
 pub fn find_year(text: &str) -> Option<i32>
     ensures { spec.IsYear text.now result }
 {

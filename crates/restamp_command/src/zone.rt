@@ -61,7 +61,7 @@ pub struct OwnedDefaults<'a> {
     pub year: Option<i32>,
     /// The offset, or the zone of local times.
     pub local: Local<'a>,
-    /// A timestamp without a year means its latest moment in ten years that isn't after this one, if `year` is `None`.
+    /// If `year` is `None`, an omitted year is one of ten up to the next: the latest whose moment isn't after this one.
     pub latest: Option<OffsetDateTime>,
 }
 

@@ -28,7 +28,7 @@ pub trait FileTransform: Drop {
     ghost makes: { Self → Self → List ℕ → Option (List ℕ) → Type 0 };
 
     /// Reads the old bytes to their end, and writes the new ones. If the file needs no change, it may write anything.
-    /// Returns itself, the writer, and whether the file is to be replaced.
+    /// Returns itself, the writer, and whether the file is to be replaced, or the error if no new bytes could be made.
     fn make<R: Source, W: Sink>(self, input: &mut R, out: W) -> (Self, W, Result<Made, Self::Stop>)
         ensures { IfOk result.2 (λ made. IfSome (R.remaining input.old) (λ old.
             (text : List ℕ) × Appends (W.contents out) (W.contents result.1) text × makes self result.0 old (bytes_made made text))) };

@@ -191,7 +191,7 @@ fn finish<F: Folder, S: Drop>(
 }
 
 /// Replaces the file of that name by what `maker` makes of its bytes. Returns the maker, and whether the file was
-/// replaced.
+/// replaced, or the error.
 ///
 /// It writes the new bytes to a new file beside the old one, stores that on the disk, and renames it. If a backup's
 /// name is given, which must be unused, the old file has that name from then on. The old file isn't replaced if the

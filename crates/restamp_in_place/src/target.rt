@@ -24,7 +24,7 @@ pub struct Target<'a> {
 }
 
 /// Replaces a file by its processed lines, unless none of its timestamps is rewritten. Returns the log, the counts of
-/// the file's lines by their actions, and whether the file was replaced.
+/// the file's lines by their actions, and whether the file was replaced, or the error.
 ///
 /// The file is unchanged if the work stops at a rejected line, or if a step fails, with two exceptions: if a rename
 /// fails after it was made, or if only the last write of the folder to the disk fails, the new file is in place.

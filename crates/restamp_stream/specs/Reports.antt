@@ -148,7 +148,7 @@ counted t (action ∷ actions) = counted (count_action t action) actions
 abbrev pub at_first_line : Tally → Tally
 at_first_line t = record t { line = 0; refused_here = 0 }
 
--- a tally after one more file that wasn't read to its end
+-- a tally after one more file that wasn't opened, not read to its end, or not replaced
 abbrev pub count_unread : Tally → Tally
 count_unread t = record t { unread = one_more t.unread }
 

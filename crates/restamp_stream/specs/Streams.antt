@@ -148,7 +148,7 @@ pub record Served (job : Job) (old new : Option (List ℕ)) (before after : Stat
   pub answered : Answered job before after read rest held
 
 -- `strict` is set, and between the two states a line with that front was rejected and counted, and reported if the log
--- names it. Nothing of it was written.
+-- names it. The output is unchanged.
 pub record RefusedAt (job : Job) (before after : State) (front : List ℕ) : Type 0 where
   pub report : List ℕ
   pub strict : IsTrue job.settings.strict
@@ -169,7 +169,7 @@ pub record Stopped (job : Job) (before after : State) (all : List Line) : Type 0
   pub processed : Processed job before between lines actions
   pub stopped : RefusedAt job between after (front_of job line)
 
--- Between the two states the log got a report why a file wasn't opened or read to its end, and the file was counted.
+-- Between the two states the log got a report why a file wasn't opened or read to its end, and `unread` counted it.
 pub record Fails (name : List ℕ) (before after : State) : Type 0 where
   pub why : List ℕ
   pub same_out : after.out ≡ before.out

@@ -27,8 +27,8 @@ pub trait Rewriting {
         ensures action { is_action self.now front.now (action_of result text.new) }
         ensures within { IsWithin (action_of result text.new) front.now };
 
-    /// Writes the column at which a front is rejected, in decimal from 1, a colon, a space and the reason, with no LF.
-    /// It is called only for a rejected line that the log names.
+    /// Writes the column at which a front is rejected, in decimal from 1, a colon, a space and the reason. No LF
+    /// follows. A stream calls this method only for a rejected line that the log names.
     fn write_reason<L: Sink>(&self, front: &[u8], log: &mut L) -> Result<(), Unwritten>
         requires { is_action self.now front.now Refused }
         ensures reported { OnOk result (WritesReason (is_reason self.now front.now) (L.contents log.old) (L.contents log.new)) }

@@ -43,7 +43,7 @@ impl Tally {
         }
     }
 
-    /// Adds 1 to `line`, `lines` and the count of that action; for a rejected line, to `refused` and `refused_here`.
+    /// Adds 1 to `line`, `lines` and the count of that action: for `Refused`, both `refused` and `refused_here`.
     pub fn count<R>(&mut self, action: &LineAction<R>)
         ensures { (text : Items) → self.new ≡ count_action self.old (action_of action.now text) }
     {

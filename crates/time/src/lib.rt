@@ -1,6 +1,6 @@
 //! Parses, formats and computes with dates and times. Many items have the path that they have in the Rust crate `time`.
 //!
-//! Each item is defined in a crate below, which its `use` line names, and keeps its contract.
+//! Each item but `item!` is defined in the crate that its `use` line names, and keeps the contract that it has there.
 #![tactic(auto)]
 
 pub use time_values::{
@@ -45,7 +45,7 @@ pub mod prelude {
     pub use time_record::AnyFormatItem;
 }
 
-/// The types of errors.
+/// The types of errors, except those that `describing` and `zones` export.
 pub mod error {
     pub use time_descriptions::{InvalidFormatDescription, OwnedError};
     pub use time_formatting::{Unformattable, Unwritable};
@@ -142,7 +142,7 @@ pub mod zones {
     };
 }
 
-/// Digits, names and signs of values.
+/// Digits, names, signs and texts of values.
 pub mod util {
     pub use time_values::{digits, names, sign, text};
 }

@@ -14,9 +14,9 @@ pub(crate) const MOST_LISTS: usize = 8;
 
 /// A description of the text of a date, a time or an offset, of at most `N` steps.
 ///
-/// A component is one step, and so is each byte of a literal, an optional item, a choice, and each list of a choice. So
-/// a text of up to `N` bytes always fits in version 1 or 2. In strftime's syntax it may not: a conversion of two bytes
-/// can be several steps.
+/// Each component is one step, and so is each byte of a literal. Each optional item, each choice and each list of a
+/// choice is one more step beside those inside it. So a text of up to `N` bytes always fits in version 1 or 2. In
+/// strftime's syntax it may not: a conversion of two bytes can be several steps.
 #[derive(Debug, Drop)]
 pub struct Description<const N: usize> {
     pub(crate) steps: ArrayVec<Step, N>,
@@ -51,8 +51,8 @@ pub(crate) fn version_of(number: usize) -> Version
 ///
 /// # Errors
 ///
-/// [`InvalidFormatDescription::TooLong`] exactly if the text, up to its first fault or its end, starts more than `N`
-/// steps. A text of at most `N` bytes never does. Otherwise, the first fault from the left, with its index in the text.
+/// [`InvalidFormatDescription::TooLong`] if and only if the text, up to its first fault or its end, starts more than
+/// `N` steps. A text of at most `N` bytes never does. Otherwise, the first fault from the left, with its byte index.
 pub fn parse_borrowed<const VERSION: usize, const N: usize>(
     text: &[u8],
 ) -> Result<Description<N>, InvalidFormatDescription<'_>>

@@ -18,7 +18,7 @@ pub fn law_one_outcome()
     ensures { OneOutcome }
 {}
 
-/// A text that parses to its end starts exactly as many steps as its items have, so it fits exactly if they fit.
+/// A text that parses to its end starts exactly as many steps as its items have, so it fits if and only if they fit.
 #[tactic(auto, using(crate::proofs::ReadComponents::steps_of_read))]
 pub fn law_steps_of_read()
     ensures { StepsOfRead }
@@ -35,8 +35,8 @@ pub fn law_described_back()
     ensures { DescribedBack }
 {}
 
-/// A text describes a tree in strftime's syntax exactly if it splits into pieces that give the tree's items in order. A
-/// piece is a byte, a conversion, or a conversion with a flag; the tables of letters and flags define its items.
+/// A text describes a tree in strftime's syntax if and only if it splits into pieces that give the tree's items in
+/// order. A piece is a byte, a conversion, or a conversion with a flag; tables of letters and flags define its items.
 pub fn law_strftime_pieces()
     ensures { StrftimePieces }
 {}
@@ -47,7 +47,7 @@ pub fn law_one_strftime_outcome()
     ensures { OneStrftimeOutcome }
 {}
 
-/// Some text of version 2 describes a tree exactly if the definition `is_described` is true for the tree.
+/// Some text of version 2 describes a tree if and only if the definition `is_described` is true for the tree.
 pub fn law_described_trees()
     ensures { DescribedTrees }
 {}

@@ -85,11 +85,11 @@ pub fn read_leaf(version: Version, nested: bool, text: &[u8]) -> Result<(Leaf<'_
     }
 }
 
-/// A version of the syntax of descriptions. They differ only in how a literal bracket or backslash is written.
+/// A version of the syntax of descriptions. The two differ only in how a literal bracket or backslash is written.
 #[derive(Clone, Copy)]
 pub enum Version {
     /// `[[` is a literal `[`, and a backslash is a literal byte.
     One,
-    /// A backslash escapes the bracket or the backslash after it, and is an error before another byte.
+    /// A backslash escapes the bracket or the backslash after it, and is an error before another byte or at the end.
     Two,
 }

@@ -188,8 +188,8 @@ fn hour(modifiers: Modifiers) -> Component
     }
 }
 
-// The component with that name that the modifiers select. Returns `None` exactly for `ignore` without a count. Values
-// that the component doesn't have are ignored.
+// The component with that name that the modifiers select. Returns `None` only for `ignore` without a count. Values of
+// modifiers that the component doesn't have are ignored.
 #[tactic(auto, unfolding(crate::specs::Modifiers::component_of))]
 pub fn component_of(name: ComponentName, modifiers: Modifiers) -> Option<Component>
     ensures { result ≡ modifiers_.component_of name modifiers }

@@ -112,8 +112,8 @@ fn owned_group(
 }
 
 // The item at the start of the text, and the text after it. Lists in the item may nest `depth` deep. `nested` means
-// that the item is inside a list, where a closing bracket ends a literal. `read_items` calls it only where its items
-// don't end.
+// that the item is inside a list, where a closing bracket ends a literal. `read_items` calls this function only where
+// `ends` is false.
 #[cycle(owned)]
 fn read_item<'a>(
     alloc: Global,

@@ -277,14 +277,14 @@ fn read_steps<const N: usize>(text: &[u8]) -> Result<ArrayVec<Step, N>, Fault>
 /// optional flag and a letter. The flags `-`, `_` and `0` select no padding, spaces or zeros, and may only precede a
 /// letter that means a single component with a padding. An empty text is a description without steps.
 ///
-/// Beside POSIX's, `%f` is a fraction of one or more digits, `%3f`, `%6f` and `%9f` are fractions of that many digits,
-/// `%.f` is a point and a fraction or nothing, `%N` is nine digits as in GNU `date`, and `%:z` is an offset with a
-/// colon. POSIX's `%E`, `%O` and `%Z` aren't supported.
+/// Beside POSIX's letters, `%f` is a fraction of one or more digits, `%3f`, `%6f` and `%9f` have that many digits, and
+/// `%.f` is a point and a fraction or nothing. `%k`, `%l`, `%N` (nine digits), `%P` and `%s` are as in GNU `date`, and
+/// `%:z` is an offset with a colon. POSIX's `%E`, `%O` and `%Z` aren't supported.
 ///
 /// # Errors
 ///
-/// [`InvalidFormatDescription::TooLong`] exactly if the text, up to its first fault or its end, describes more than `N`
-/// steps. Otherwise, the first fault from the left, with its index in the text.
+/// [`InvalidFormatDescription::TooLong`] if and only if the text, up to its first fault or its end, describes more than
+/// `N` steps. Otherwise, the first fault from the left, with its byte index in the text.
 pub fn parse_strftime<const N: usize>(
     text: &[u8],
 ) -> Result<Description<N>, InvalidFormatDescription<'_>>

@@ -181,7 +181,7 @@ pub fn ascii_char_ignore_case<const C: u8>(input: &[u8]) -> Option<ParsedItem<'_
     }
 }
 
-/// Parses all leading ASCII digits as the digits of a second after its decimal point, and returns nanoseconds, 0 to
+/// Parses all leading ASCII digits as those after the decimal point of a second, and returns nanoseconds, 0 to
 /// 999999999. Digits after the ninth are read and ignored. Returns `None` if the input doesn't begin with a digit.
 #[inline(always)]
 pub fn fraction(input: &[u8]) -> Option<ParsedItem<'_, u32>>

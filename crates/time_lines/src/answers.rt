@@ -18,7 +18,7 @@ use programs_answers::{LineHandler, Named};
 // The request of a line: a format, a target and a text; or else the answer to a line that makes no request.
 type Request<'a> = Result<(Format, Target, &'a [u8]), &'static [u8]>;
 
-// The request of the line, found field by field; or else the answer `error: line` if a TAB is missing, `error: format`
+// The request of the line, found field by field; or else the answer `error: line` without two TABs, `error: format`
 // for an unknown format, or `error: target` for an unknown target, checked in that order.
 #[cold]
 #[inline(never)]

@@ -40,8 +40,8 @@ abbrev pub LeavesLeastSoFar : Miss → List Miss → Type 0
 LeavesLeastSoFar m ms =
     (before after : List Miss) × (ms ≡ before ++ m ∷ after) × All (λ n. m.left < n.left) before
 
--- If the date of an ISO 8601 text is rejected, one miss of the text has that error, and each miss before it leaves more
--- bytes. So it is the furthest unless a later miss leaves fewer.
+-- If the date of an ISO 8601 text is rejected with an error, one miss of the text has that error, and each miss before
+-- it leaves more bytes. So that miss is the furthest unless a later one leaves fewer.
 abbrev pub IsoOwnMiss : Type 0
 IsoOwnMiss =
     (bytes : List ℕ) (r : Record) (e : Refusal) → date_over greatest_year bytes r ≡ Err e

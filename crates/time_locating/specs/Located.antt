@@ -110,14 +110,14 @@ OneAnswer reads locates =
     → IsLocated reads locates bytes begin result → IsLocated reads locates bytes begin other
     → erased_located result ≡ erased_located other
 
--- A text has no place exactly if its outcome is a record, and not an error.
+-- A text has no place if and only if the outcome of parsing it whole is a record, and not an error.
 abbrev pub PlacesRefusals : Reading → Refusing → Locating → Type 0
 PlacesRefusals reads refuses locates =
     (bytes : List ℕ) (begin : Record) (place : Option Located) (outcome : Result Record Refusal)
     → IsLocated reads locates bytes begin place → IsWhole reads refuses bytes begin outcome
     → (place ≡ None) ↔ ((r : Record) × (outcome ≡ Ok r))
 
--- A text has no place exactly if it is read whole and its outcome, a value or an error, is what the record resolves to.
+-- A text has no place if and only if it is read whole and its outcome is the value or error of the resulting record.
 abbrev pub PlacesOutcomes : {V : Type 0} → Resolving V → Reading → Refusing → Locating → Type 0
 PlacesOutcomes {V} resolves reads refuses locates =
     (bytes : List ℕ) (begin : Record) (place : Option Located) (outcome : Result V Refusal)

@@ -1,8 +1,8 @@
 -- What isn't there when a tree is read, and where.
 --
 -- A miss is a leaf that is tried and doesn't match: a component at its start, or a literal at its first byte that isn't
--- there. A list of misses begins with the one that the error of its tree names: in a sequence the misses of later trees
--- precede those of earlier ones, and in a choice those of earlier trees precede those of later ones.
+-- there. If its tree has an error, a list of misses begins with the one that the error names: in a sequence the misses
+-- of later trees precede those of earlier ones, and in a choice those of earlier trees precede those of later ones.
 use Rattle.time_values.specs.Calendar.{greatest_year}
 use Rattle.std.specs.Prelude.{◌≡◌, ◌≢◌, ◌==◌, ℕ, ◌⊎◌, List, [], ◌∷◌, ◌++◌, length, Option, Some, None, nat_lt, if◌then◌else◌}
 use Rattle.time_values.specs.Refusal.{Refusal, component as of_component}

@@ -48,8 +48,8 @@ pub enum Piece {
     WholeMinute,
     /// Two digits, 00 to 59, and a fraction: `.` or `,` and one or more digits.
     MinuteAndFraction,
-    /// Two digits, 00 to 60, alone or with a fraction: `.` or `,` and one or more digits, which must not round up to 1
-    /// in nanoseconds. It doesn't match if `.` or `,` follows without a digit.
+    /// Two digits, 00 to 60, alone or with a fraction: `.` or `,` and one or more digits. Rounded to nanoseconds, the
+    /// fraction must be below 1 second. The piece doesn't match if `.` or `,` follows without a digit.
     Second,
     /// `:`.
     Colon,

@@ -6,18 +6,18 @@ ghost use Rattle.time_locating.specs.Located.{IsExactMark, OneAnswer, OneIndex, 
 
 use crate::Locate;
 
-/// A description has at most one list of misses for given bytes and a given record. If the description rejects the
-/// bytes, the list begins with a miss of the error's kind, and of the component that the error names, if it names one.
-/// No miss leaves fewer bytes than the furthest, and each miss before the furthest in the list leaves more.
+/// A description has at most one list of misses (parts that are tried and don't match) for given bytes and a record. If
+/// it rejects the bytes, the list begins with a miss of the error's kind, and of the component that the error names, if
+/// any. No miss leaves fewer bytes unread than the furthest, and each miss before that one in the list leaves more.
 pub fn law_misses()
     ensures one { OneList }
     ensures own { OwnMissFirst }
     ensures furthest { FurthestLeavesFewest }
 {}
 
-/// If ISO 8601 rejects the date of a text, a miss of the text is of that error's kind and component, and each miss
-/// before it in the list leaves more bytes. So if no prefix of the text matches, that miss is the place that `locate`
-/// returns unless a later miss in the list is further on: of the misses at one index, it is the one reported.
+/// If ISO 8601 rejects the date of a text with an error, one miss of the text is of the error's kind and component, and
+/// each miss before it in the list leaves more bytes. So if no prefix of the text matches, `locate` returns the place
+/// of that miss unless a later miss in the list is further on: of the misses at one index, it returns the date's.
 pub fn law_iso_misses()
     ensures { IsoOwnMiss }
 {}
@@ -29,16 +29,16 @@ pub fn law_one_place<T: Locate>(format: &T)
     ensures { OneAnswer (T.reads format.now) (T.locates format.now) }
 {}
 
-/// A text has no place exactly if it has a record, with given defaults: `locate` returns `None` if and only if
-/// `parse_internal` returns `Ok`.
+/// For each text and given defaults, `locate` returns `None` if and only if `parse_internal` returns `Ok`. So it
+/// returns a place for each text that `parse_internal` rejects, and for no other.
 #[tactic(auto, using(crate::proofs::WholeTexts::place_of_refusal))]
 pub fn law_place_of_refusal<T: Locate>(format: &T)
     ensures { PlacesRefusals (T.reads format.now) (T.refuses format.now) (T.locates format.now) }
 {}
 
-/// `locate` returns `None` exactly if the text is read whole and the outcome of the parse over a record, a value or an
-/// error, is what the record of the whole text resolves to. So if a parse returns a value, `locate` returns `None`; and
-/// if a parse rejects a text without a place, its record has no value. This holds for each target, with given defaults.
+/// `locate` returns `None` if and only if the text is read whole and the outcome of a parse over a record, a value or
+/// an error, is that of converting the text's record. So if a parse returns a value, `locate` returns `None`; and if a
+/// parse rejects a text for which `locate` returns `None`, the record has no value. This holds for each type of value.
 #[tactic(auto, using(crate::proofs::WholeTexts::place_of_outcome))]
 pub fn law_place_of_outcome<T: Locate>(format: &T)
     ensures date { PlacesOutcomes (IsDated greatest_year) (T.reads format.now) (T.refuses format.now) (T.locates format.now) }
@@ -50,8 +50,8 @@ pub fn law_place_of_outcome<T: Locate>(format: &T)
     ensures timestamp { PlacesOutcomes (IsTimestamp greatest_year) (T.reads format.now) (T.refuses format.now) (T.locates format.now) }
 {}
 
-/// Each component name has at most one index in a text, whatever the format: any two marks of one name are equal. An
-/// error of a text has at most one index, too.
+/// Any two results that the contract of `locate_component` allows for one text, name and defaults are equal, whatever
+/// the format, and so are any two that the contract of `locate_error` allows for one text, error and defaults.
 #[tactic(auto, using(crate::proofs::WholeTexts::one_index))]
 pub fn law_one_index<T: Locate>(format: &T)
     ensures component { IsExactMark (T.marks format.now) }

@@ -18,7 +18,7 @@ pub trait Locate: Parsable {
     ghost locates: { Self → Locating };
 
     /// Locates the error of parsing the text with the defaults: the byte index of what doesn't match, and what was
-    /// expected there. `None` if the format reads the whole text, even if its components make no valid value.
+    /// expected there. `None` if the format reads the whole text, even if the text's components make no valid value.
     ///
     /// In this crate's formats, a component that doesn't match is located at its start, and a literal at its first byte
     /// that differs. If the format reads only a prefix of the text, the end was expected after that prefix. The result
@@ -92,9 +92,9 @@ fn range_name(error: Parse) -> Option<&'static str>
 }
 
 /// The byte index of the error in a text that a parse rejected with `error`. It is the index that `locate` returns,
-/// whatever `error` is. If `locate` returns `None`, since the text is read whole, it is the start of the component that
-/// `error` calls out of range, the last of that name: for an `ordinal` in a text without one, the start of the week
-/// number. `None` if `error` calls no component out of range, or if the text doesn't have the component.
+/// whatever `error` is. If `locate` returns `None`, since the text is read whole, it is the start of the last component
+/// that `error` calls out of range, or for an `ordinal` in a text without one, of the last week number. It is then
+/// `None` if `error` calls no component out of range, or if the text doesn't have the component.
 pub fn locate_error<T: Locate>(
     format: &T,
     input: &[u8],

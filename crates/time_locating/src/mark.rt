@@ -1,4 +1,4 @@
-//! The start of a named component, the misses of a text, and its place.
+//! The start of a named component, the misses of a text, and the place of a text's error.
 ghost use Rattle.std.specs.Prelude.{◌≡◌, ◌-◌, ℕ, List, length, Some};
 ghost use Rattle.std.specs.Option.{option_map, option_copied};
 ghost use Rattle.time_values.specs.Calendar.{greatest_year};
@@ -79,7 +79,7 @@ pub(crate) fn index_of(mark: Option<usize>, input: &[u8]) -> Option<usize>
 /// What doesn't match: a literal from some byte on, a component, or the end of a text that has further bytes.
 #[derive(Clone, Copy)]
 pub(crate) struct Miss<'a> {
-    /// How many bytes were left at the point at which it was expected.
+    /// How many bytes of the text were left where `expected` was expected.
     pub(crate) left: usize,
     /// What was expected.
     pub(crate) expected: Expected<'a>,

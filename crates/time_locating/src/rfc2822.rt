@@ -93,7 +93,7 @@ fn past_blanks(found: Option<ParsedItem<'_, ()>>) -> Option<&[u8]>
 }
 
 // The rest after optional blanks and, if the first three letters of a weekday's name follow in any case, these, a comma
-// and optional blanks. The contract doesn't cover a missing comma.
+// and optional blanks. `None` if that comma is missing, which the contract doesn't cover.
 fn past_weekday(input: &[u8]) -> Option<&[u8]>
     ensures { (rest : List ℕ) (v : Option Weekday) → Cut IsWeekdayPart input.now rest v → option_copied result ≡ Some rest }
 {
@@ -233,10 +233,10 @@ fn mark_of_place(input: &[u8], name: &str) -> Option<usize>
     None
 }
 
-/// The error is in the first of the fifteen places of RFC 2822 that doesn't match, or at the first byte after them. A
-/// missing comma is located right after the three letters of the weekday, a missing colon after the hour and the blanks
-/// that follow it, and a second after its colon and the blanks beside it. Any other place is located at its start. The
-/// defaults have no effect.
+/// The error is in the first of the fifteen places of RFC 2822 that doesn't match or whose number is out of range. If
+/// all match, it is at the first byte after them. A missing comma is located right after the three letters of the
+/// weekday, a missing colon after the hour and the blanks that follow it, and a second after its colon and the blanks
+/// beside it. Any other place is located at its start. The defaults have no effect.
 impl Locate for Rfc2822 {
     ghost use Rattle.time_locating.specs.Rfc2822.{Locates};
 

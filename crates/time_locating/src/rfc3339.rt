@@ -165,8 +165,8 @@ pub(crate) fn error_place(input: &[u8]) -> Option<Located<'static>>
     }
 }
 
-/// The error is at the start of the first of the fifteen places of RFC 3339 that doesn't match, or at the first byte
-/// after them. The defaults have no effect.
+/// The error is at the start of the first of the fifteen places of RFC 3339 that doesn't match or whose number is out
+/// of range. If all match, it is at the first byte after them. The defaults have no effect.
 impl Locate for Rfc3339 {
     ghost use Rattle.time_locating.specs.Rfc3339.{Locates};
 

@@ -1,4 +1,4 @@
-//! Walks the items of a description to find the furthest miss and a mark.
+//! Walks the items of a description to find the furthest miss, and where the last component of a name begins.
 pub(crate) mod steps;
 
 ghost use Rattle.std.specs.Prelude.{ℕ, List, map, true, false};

@@ -100,7 +100,7 @@ pub fn command_of(words: &[String]) -> Command<'_>
 /// The fault of the arguments: of the format or of the target.
 #[derive(Clone, Copy, Debug)]
 pub enum Fault<'a> {
-    /// The format isn't the name of one, and contains neither `[` nor `%`, as a description does.
+    /// The format isn't the name of one, and is no description, as it contains neither `[` nor `%`.
     UnknownFormat {
         /// The format that was requested.
         name: &'a [u8],

@@ -84,7 +84,7 @@ pub trait Parsable {
 
     /// The date and time of the whole input, parsed over the defaults (`None`: over an empty record). An offset is
     /// ignored. An error is that of [`Parsable::parse_internal`], or of `PlainDateTime::try_from` for the record: that
-    /// of [`Parsable::parse_date`], or else that of [`Parsable::parse_time`].
+    /// of `Date::try_from`, as in [`Parsable::parse_date`], or else that of `Time::try_from`.
     fn parse_plain_date_time(
         &self,
         input: &[u8],
@@ -98,10 +98,10 @@ pub trait Parsable {
         value_before::<PlainDateTime>(rest, &parsed)
     }
 
-    /// The date and time in UTC of the whole input, parsed over the defaults (`None`: over an empty record). The offset
-    /// converts them to UTC; without an offset they are in UTC. An error is that of [`Parsable::parse_internal`], or of
-    /// `UtcDateTime::try_from` if the record has too few components, if its date doesn't exist or is out of range in
-    /// UTC, or if a second of 60 isn't allowed as a leap second, or doesn't end a month in UTC.
+    /// The date and time in UTC of the whole input, parsed over the defaults (`None`: over an empty record). A Unix
+    /// timestamp gives both. Otherwise the offset converts them to UTC, or without an offset they are in UTC. An error
+    /// is that of [`Parsable::parse_internal`], or of `UtcDateTime::try_from` if components are missing, if the date
+    /// doesn't exist or is out of range in UTC, or if a second of 60 isn't allowed or doesn't end a month in UTC.
     fn parse_utc_date_time(
         &self,
         input: &[u8],
@@ -115,12 +115,12 @@ pub trait Parsable {
         value_before::<UtcDateTime>(rest, &parsed)
     }
 
-    /// The date, time and offset of the whole input, parsed over the defaults (`None`: over an empty record). An error
-    /// is that of [`Parsable::parse_internal`], or of `OffsetDateTime::try_from` if the record has too few components,
-    /// if its date doesn't exist, or if a second of 60 isn't allowed as a leap second, or doesn't end a month in UTC.
+    /// The date, time and offset of the whole input, parsed over the defaults (`None`: over an empty record). A Unix
+    /// timestamp gives all three, at offset 0. An error is that of [`Parsable::parse_internal`], or of
+    /// `OffsetDateTime::try_from` if components are missing, if the date doesn't exist, or if a second of 60 isn't
+    /// allowed or doesn't end a month in UTC.
     ///
-    /// Without defaults, a format may parse directly: it accepts the texts that it accepts over an empty record, with
-    /// equal values, but has its own errors.
+    /// Without defaults, a format may parse directly, with the values of a parse over an empty record but own errors.
     fn parse_offset_date_time(
         &self,
         input: &[u8],
@@ -129,9 +129,9 @@ pub trait Parsable {
         ensures { IsMomentOutcome greatest_year (path self.now) (reads self.now) (refuses self.now) input.now
             defaults (seen result) };
 
-    /// The instant of the whole input, parsed over the defaults (`None`: over an empty record). Without an offset the
-    /// date and time are in UTC. An error is that of [`Parsable::parse_internal`], or of `Timestamp::try_from` for the
-    /// record. The latter is always `InsufficientInformation`.
+    /// The instant of the whole input, parsed over the defaults (`None`: over an empty record): that of a Unix
+    /// timestamp, or else that of the date, time and offset, where a missing offset is UTC. An error is that of
+    /// [`Parsable::parse_internal`], or `InsufficientInformation` of `Timestamp::try_from`, whatever its reason.
     fn parse_timestamp(&self, input: &[u8], defaults: Option<Parsed>) -> Result<Timestamp, Parse>
         ensures { IsOutcome (IsTimestamp greatest_year) (reads self.now) (refuses self.now) input.now
             (begun defaults) (seen result) }
@@ -142,8 +142,8 @@ pub trait Parsable {
     }
 
     /// The date, time and offset of a prefix of the input, parsed over the defaults (`None`: over an empty record), and
-    /// the unparsed rest. An error is that of [`Parsable::parse_into`], or of `OffsetDateTime::try_from` for the
-    /// record. Bytes that remain aren't an error. The prefix is always parsed over a record, never directly.
+    /// the unparsed rest. An error is that of [`Parsable::parse_into`], or of `OffsetDateTime::try_from` as in
+    /// `parse_offset_date_time`. Bytes that remain aren't an error. The prefix is parsed over a record, never directly.
     fn parse_front<'a>(
         &self,
         input: &'a [u8],

@@ -1,4 +1,4 @@
-//! Joined steps: several steps of a description that are parsed together.
+//! Joined steps: one to six steps of a description that are parsed together.
 ghost use Rattle.std.specs.Prelude.{◌≡◌, [], IfSome, IsTrue, false};
 ghost use Rattle.time_components.specs.Tree.{further};
 ghost use Rattle.time_preparing.specs.Forms.{BeginsWith, fraction_parts, month_day_parts, BeginsWithParts, second_parts};

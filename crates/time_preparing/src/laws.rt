@@ -1,4 +1,4 @@
-//! The law of prepared descriptions. It is stated by equal trees.
+//! The law of prepared descriptions: they parse as a description with an equal tree does.
 ghost use Rattle.time_values.specs.Calendar.{greatest_year};
 ghost use Rattle.time_components.specs.Tree.{steps_shape};
 ghost use Rattle.time_descriptions.specs.Description.{shape};

@@ -1,7 +1,7 @@
 //! The direct paths of RFC 3339 and RFC 2822, which parse a text as a moment without a record in between.
 //!
-//! They check the form of each place, and after that the calendar. So their errors differ from those of a parse over a
-//! record: `2021-13-01T00:00:00Z` is rejected as a month out of range.
+//! They check the forms of all places first, and then the date, the time and the offset. So their errors differ from
+//! those of a parse over a record: `2021-13-01T00:00:00Z` gives a month out of range, and not an invalid component.
 ghost use Rattle.std.specs.Prelude.{◌≡◌, ◌≢◌, ◌≤◌, [], MatchResult, IsTrue, ◌↔◌, Some, None, pos, unsigned_abs};
 ghost use Rattle.time_values.specs.Names.{month_number, month_refusal};
 ghost use Rattle.time_values.specs.Offsets.{HasOffset, offset_refusal};
@@ -20,7 +20,7 @@ use time_values::{Date, Month, OffsetDateTime, Time, UtcOffset};
 ///
 /// Most ranges aren't checked yet: a number of two digits may be up to 99, apart from its sign.
 ///
-/// No parser returns it. It is public because the laws of parses state what both paths make of it.
+/// No parser returns it. It is public because laws state what a direct path and a parse over a record make of it.
 #[derive(Clone, Copy, Debug)]
 pub struct MomentNumbers {
     /// The year, 0 to 9999.

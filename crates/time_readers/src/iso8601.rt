@@ -173,7 +173,7 @@ pub fn date(input: &[u8]) -> Result<Part<'_, DateNumbers>, ParseFromDescription>
 /// A basic text has no `:`. An extended text needs `:` before the second, while `:` before the minute is optional. A
 /// `:` after the hour makes an unknown kind extended, and a minute without `:` makes it basic.
 ///
-/// All bytes after the time are the rest. Two digits with a point, but no digit after it, are no number.
+/// All bytes after the time are the rest. A number counts as missing if a `.` or `,` without a digit follows it.
 ///
 /// Returns `None` if a required `T` or the hour is missing; for a `:` after a whole hour if the text is basic or no
 /// minute follows; for a `:` after an extended text's whole minute if no second follows; for a number out of its range;

@@ -33,9 +33,9 @@ pub enum Place {
     MonthName,
     /// Blanks.
     MonthBlanks,
-    /// Four digits of 1900 or later, or two.
+    /// Four digits of 1900 or later; or two, if there aren't four.
     Year,
-    /// Blanks, without comments after four digits.
+    /// Blanks. After a year of four digits they contain no comments.
     YearBlanks,
     /// Two digits.
     Hour,
@@ -105,7 +105,7 @@ impl Numbers {
 ///
 /// With `CHECK_RANGES` a place matches only if its number is in its range: day 1 to 31, hour 0 to 23, minute 0 to 59,
 /// second 0 to 60, hour of the offset 0 to 25 and minute of the offset 0 to 59, both without the sign. The year is 1900
-/// or later in any case, and the calendar isn't checked.
+/// or later with and without `CHECK_RANGES`, and the calendar isn't checked.
 ///
 /// # Errors
 ///
@@ -163,8 +163,8 @@ fn to_offset<'a, const CHECK_RANGES: bool>(
 }
 
 // Parses the places after the day and before the offset by `grammar`. With range checks it is a call, since inlined it
-// would leave the fast path fewer registers: a mail date over a record would take 17 instructions more. Without them,
-// inlining saves 15.
+// would leave the fast path fewer registers: a mail date over a record would take 17 instructions more. Without range
+// checks, inlining saves 15.
 #[inline(always)]
 fn to_offset_by_places<'a, const CHECK_RANGES: bool>(
     input: &'a [u8],
@@ -252,10 +252,10 @@ pub fn fws(input: &[u8]) -> Option<ParsedItem<'_, ()>>
 
 /// Parses blanks and comments, one or more of them: `CFWS` of RFC 2822, section 3.2.3.
 ///
-/// A comment is in parentheses, and contains ASCII text, bytes after a backslash, blanks by [`fws`], and comments,
-/// nested 31 deep at most, counting the outermost. The byte after a backslash isn't NUL, CR, LF or above 127. A comment
-/// of another form isn't parsed. Returns the rest after the last blank or comment, or `None` if the input begins with
-/// neither a comment of this form nor blanks that [`fws`] accepts.
+/// A comment is in parentheses. It contains ASCII bytes other than NUL, CR, LF, parentheses and a backslash; pairs of a
+/// backslash and an ASCII byte other than NUL, CR and LF; blanks by [`fws`]; and comments, nested 31 deep at most,
+/// counting the outermost. A comment of another form isn't parsed. Returns the rest after the last blank or comment, or
+/// `None` if the input begins with neither a comment of this form nor blanks that [`fws`] accepts.
 #[inline(always)]
 pub fn cfws(input: &[u8]) -> Option<ParsedItem<'_, ()>>
     ensures { option_map (λ p. p.0.now) result ≡ spec.cfws input.now }

@@ -2,8 +2,8 @@ ghost use Rattle.std.specs.Prelude.{◌≡◌, []};
 
 /// A type of no bytes, aligned to eight.
 ///
-/// It aligns a date and a time to the words of an error, if a `Result` holds either, so that LLVM keeps their parts
-/// apart. Without it, a parse would join the parts into words and take them apart again.
+/// In a `Result` it aligns a date or a time to the words of the error, so that LLVM keeps the parts of the date or the
+/// time apart. Without it, a parse would join these parts into words and take them apart again.
 #[derive(Clone, Copy, Debug, PartialEq, Eq, PartialOrd, Ord, Hash)]
 pub(crate) struct Aligned {
     words: [u64; 0],

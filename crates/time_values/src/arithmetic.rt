@@ -238,7 +238,7 @@ impl Sub<OffsetDateTime> for OffsetDateTime {
     }
 }
 
-// Converts a date and time at the first offset to the second offset. `None` if the date is out of range.
+// Converts a date and time at the offset `from` to the offset `to`. `None` if the date at `to` is out of range.
 pub(crate) fn clock_with(
     date: Date,
     time: Time,
@@ -251,8 +251,8 @@ pub(crate) fn clock_with(
     moved(date, time, to.whole_seconds() - from.whole_seconds())
 }
 
-// The date and time that many seconds later, or earlier if below 0, by less than three days. Returns `None` if the date
-// is out of range.
+// The date and time that many seconds later, or earlier if `seconds` is below 0, by less than three days. `None` if
+// that date is out of range.
 #[tactic(auto, using(crate::proofs::InstantLemmas::instant_facts))]
 fn moved(date: Date, time: Time, seconds: i32) -> Option<UtcDateTime>
     requires { IsBetween (neg_ℤ (pos 259_199)) (pos 259_199) seconds }

@@ -158,7 +158,7 @@ impl Date {
         days::year_start(self.year) + (self.ordinal() as u32 - 1)
     }
 
-    // The number of years before this day's year, plus 100, in years that begin in March.
+    // The number of whole years from 1 March of the year -1000000 to this day, plus 100.
     #[inline(always)]
     fn march_years(&self) -> u32
         ensures value { result ≡ Calendar.years_before greatest_year (Dates.year self.now)
@@ -169,8 +169,8 @@ impl Date {
     }
 
     // The days since 1970-01-01. Years that begin in March end with their leap day, so no leap year is tested. With 100
-    // years added, three quarters of the centuries have no leap day. `self` is a reference, since LLVM moves a date as
-    // one word and then extracts its parts.
+    // years added, three quarters of the centuries, rounded down, end without a leap day. `self` is a reference, since
+    // LLVM moves a date as one word and then extracts its parts.
     #[inline(always)]
     pub(crate) fn days_since_1970(&self) -> i64
         ensures value { result ≡ pos (Dates.day_number greatest_year self.now) -ℤ pos 365_961_662 }

@@ -108,7 +108,7 @@ fn without_thousands(nanosecond: u32) -> (usize, u32)
     (9, nanosecond)
 }
 
-/// How many of the nine digits of a nanosecond are left without the zeros at the end, 0 to 9.
+/// How many of the nine digits of a nanosecond are left after the zeros at the end are removed, 0 to 9.
 pub fn count_significant(nanosecond: u32) -> usize
     ensures count { result ≡ significant 9 nanosecond }
     ensures bound { result ≤ 9 }

@@ -80,7 +80,7 @@ fn append_hour(text: &mut Text, hour: u8)
     }
 }
 
-/// Prints `H:MM:SS.n`. The hour has no leading zero. The fraction has no zero at its end, but at least one digit.
+/// Prints `H:MM:SS.n`. The hour has no leading zero. The fraction has no zeros at its end, but a fraction of 0 is `.0`.
 impl fmt::Display for Time {
     ghost output = { λ t. Some (DisplayTexts.time_display t) };
 

@@ -2,7 +2,7 @@ ghost use Rattle.std.specs.Prelude.{◌≡◌, ◌↔◌, IsTrue, pos, ◌+ℤ�
 ghost use Rattle.time_values.specs.Calendar.{IsLength};
 ghost use Rattle.time_values.specs.MovedClocks.{IsNear};
 
-/// A length of time, in nanoseconds of either sign. Its whole seconds fit in an `i64`.
+/// A length of time, in nanoseconds of either sign. Its whole seconds, rounded towards 0, fit in an `i64`.
 #[derive(Clone, Copy, Debug, PartialEq, Eq, PartialOrd, Ord, Hash)]
 pub struct Duration {
     nanoseconds: i128,
@@ -15,8 +15,8 @@ impl Duration {
     /// A duration of 0.
     pub const ZERO: Duration = Duration { nanoseconds: 0 };
 
-    /// The duration of that many seconds and nanoseconds together, each of either sign. The whole seconds must fit in
-    /// 64 bits, as they always do if the nanoseconds are fewer than a second's.
+    /// The duration of that many seconds and nanoseconds together, each of either sign. The whole seconds of the sum
+    /// must fit in an `i64`, as they always do for nanoseconds of -999999999 to 999999999.
     pub fn new(seconds: i64, nanoseconds: i32) -> Duration
         requires { IsLength ((seconds *ℤ pos 1_000_000_000) +ℤ nanoseconds) }
         ensures { Durations.length result ≡ (seconds *ℤ pos 1_000_000_000) +ℤ nanoseconds }

@@ -67,7 +67,7 @@ impl std::error::Error for DifferentVariant {}
 pub enum ParseFromDescription {
     /// The expected literal is missing.
     InvalidLiteral,
-    /// The component of this name could not be read.
+    /// The component of this name could not be read, or its value is out of its range.
     InvalidComponent(&'static str),
     /// Bytes are left after the expected end of the input.
     UnexpectedTrailingCharacters,

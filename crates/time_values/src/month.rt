@@ -11,8 +11,8 @@ use crate::days::is_leap_year;
 use crate::error::ComponentRange;
 use std::num::NonZero;
 
-// First, for each month, the days from the first of March to its own first, less 365998494. Then, for each month,
-// 1000099, or 1000100 from March on. Both are in one table, so that its address is loaded once.
+// First, for each month, what `days_from_march` returns: the days before it in a year that begins in March, less
+// 365998494. Then what `march_years` returns. Both are in one table, so that its address is loaded once.
 static MARCH: [i64; 24] = [
     -365_998_188,
     -365_998_157,
@@ -115,7 +115,7 @@ impl Month {
         MARCH[(self.number() - 1) as usize]
     }
 
-    // 1000099, or 1000100 from March on.
+    // What `Date::march_years` adds to the year of a day in this month: 1000099, or 1000100 from March on.
     #[inline(always)]
     #[tactic(auto, using(crate::proofs::NumberLemmas::march_years_at))]
     pub(crate) fn march_years(self) -> i64

@@ -11,7 +11,7 @@ use crate::days::DAY_LIMIT;
 use crate::error::ComponentRange;
 use crate::{Date, Time, UtcDateTime, UtcOffset};
 
-/// A local date and time of day, and their offset from UTC.
+/// A local date and time of day, and their offset from UTC. `==` compares all three, and not the instants.
 #[derive(Clone, Copy, Debug, PartialEq, Eq, Hash)]
 pub struct OffsetDateTime {
     date: Date,
@@ -31,8 +31,8 @@ impl OffsetDateTime {
         OffsetDateTime { date, time, offset }
     }
 
-    /// The moment that many nanoseconds after 1970-01-01T00:00:00Z, at offset 0. An error names `timestamp` outside
-    /// -31619087596800000000000 to 31494784780799999999999.
+    /// The moment that many nanoseconds after 1970-01-01T00:00:00Z, at offset 0. A number outside
+    /// -31619087596800000000000 to 31494784780799999999999 is an error, which names `timestamp`.
     pub fn from_unix_timestamp_nanos(nanos: i128) -> Result<OffsetDateTime, ComponentRange>
         ensures { Constructs (Instants.timestamp_refusal greatest_year nanos)
             (λ o. (offset_instant greatest_year o ≡ nanos)
@@ -71,7 +71,7 @@ impl OffsetDateTime {
         self.offset
     }
 
-    /// The nanoseconds since 1970-01-01T00:00:00Z, even if the moment has no date in UTC.
+    /// The nanoseconds since 1970-01-01T00:00:00Z, even if the moment's date in UTC is out of range.
     pub fn unix_timestamp_nanos(self) -> i128
         ensures { result ≡ offset_instant greatest_year self }
     {
@@ -113,7 +113,7 @@ impl OffsetDateTime {
         Some(UtcDateTime::new(Date::from_day_number(day - 2), time))
     }
 
-    /// The whole seconds since 1970-01-01T00:00:00Z, rounded down, even if the moment has no date in UTC.
+    /// The whole seconds since 1970-01-01T00:00:00Z, rounded down, even if the moment's date in UTC is out of range.
     #[tactic(auto, using(crate::proofs::InstantLemmas::instant_facts))]
     #[inline]
     pub fn unix_timestamp(self) -> i64
@@ -122,8 +122,8 @@ impl OffsetDateTime {
         self.date.days_since_1970() * 86_400 + self.time.seconds_in_utc(&self.offset)
     }
 
-    /// The moment that many seconds after 1970-01-01T00:00:00Z, at offset 0. An error names `timestamp` outside
-    /// -31619087596800 to 31494784780799.
+    /// The moment that many seconds after 1970-01-01T00:00:00Z, at offset 0. A number outside -31619087596800 to
+    /// 31494784780799 is an error, which names `timestamp`.
     pub fn from_unix_timestamp(timestamp: i64) -> Result<OffsetDateTime, ComponentRange>
         ensures { Constructs (Instants.timestamp_refusal greatest_year (timestamp *ℤ pos 1_000_000_000))
             (λ o. (offset_instant greatest_year o ≡ timestamp *ℤ pos 1_000_000_000) × IsUtc (offset_of o)) result }

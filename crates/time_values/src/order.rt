@@ -1,7 +1,7 @@
 //! Orders of values, and hashes of values whose equality is written by hand.
 //!
 //! The orders of dates, offsets, and date-times without an offset or in UTC are derived: their fields are declared from
-//! the greatest to the least.
+//! the greatest unit to the least.
 ghost use Rattle.std.specs.Prelude.{◌≡◌, ◌↔◌, IsTrue};
 ghost use Rattle.std.proofs.Common.{rules};
 ghost use Rattle.std.specs.Cmp.{partial_order_from_own_ties};

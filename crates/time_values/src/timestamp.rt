@@ -17,8 +17,8 @@ impl Timestamp {
     ghost use Rattle.time_values.specs.Moments as Moments;
     ghost use Rattle.time_values.specs.Refusal.{Constructs};
 
-    /// The moment that many nanoseconds after 1970-01-01T00:00:00Z. An error names `timestamp` outside
-    /// -31619087596800000000000 to 31494784780799999999999.
+    /// The moment that many nanoseconds after 1970-01-01T00:00:00Z. A number outside -31619087596800000000000 to
+    /// 31494784780799999999999 is an error, which names `timestamp`.
     pub fn from_nanoseconds(nanoseconds: i128) -> Result<Timestamp, ComponentRange>
         ensures { Constructs (timestamp_refusal greatest_year nanoseconds)
             (λ t. Moments.nanoseconds t ≡ nanoseconds) result }

@@ -35,8 +35,8 @@ impl UtcDateTime {
         UtcDateTime { date, time }
     }
 
-    /// The moment that many nanoseconds after 1970-01-01T00:00:00Z. An error names `timestamp` outside
-    /// -31619087596800000000000 to 31494784780799999999999.
+    /// The moment that many nanoseconds after 1970-01-01T00:00:00Z. A number outside -31619087596800000000000 to
+    /// 31494784780799999999999 is an error, which names `timestamp`.
     pub fn from_unix_timestamp_nanos(nanos: i128) -> Result<UtcDateTime, ComponentRange>
         ensures { Constructs (Instants.timestamp_refusal greatest_year nanos)
             (λ u. utc_instant greatest_year u ≡ nanos) result }
@@ -99,8 +99,8 @@ impl UtcDateTime {
         self.date.days_since_1970() * 86_400 + self.time.seconds_of_day() as i64
     }
 
-    /// The moment that many seconds after 1970-01-01T00:00:00Z. An error names `timestamp` outside -31619087596800 to
-    /// 31494784780799.
+    /// The moment that many seconds after 1970-01-01T00:00:00Z. A number outside -31619087596800 to 31494784780799 is
+    /// an error, which names `timestamp`.
     pub fn from_unix_timestamp(timestamp: i64) -> Result<UtcDateTime, ComponentRange>
         ensures { Constructs (Instants.timestamp_refusal greatest_year (timestamp *ℤ pos 1_000_000_000))
             (λ u. utc_instant greatest_year u ≡ timestamp *ℤ pos 1_000_000_000) result }

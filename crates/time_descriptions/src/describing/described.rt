@@ -145,8 +145,8 @@ fn are_items<I: Inspect>(depth: usize, nested: bool, items: &[I]) -> bool
 ///
 /// The item has to be a list of items, each a component, a literal, an optional list, or a choice of at least one list.
 /// A literal is one byte that is written after a backslash, `[`, `\` or `]`; or else it is at least one byte without
-/// those (outside all lists it may contain `]`), and then no other such literal follows it. Lists may be nested eight
-/// deep. No text describes a component of version 3, which has to end between characters.
+/// those (outside all lists it may contain `]`), and then no such literal follows it directly. Lists may be nested
+/// eight deep. No text describes a component of version 3, which has to end between characters.
 pub fn is_described<I: Inspect>(item: &I) -> bool
     ensures { result ≡ described.is_described (I.shape item.now) }
 {
@@ -166,12 +166,12 @@ pub enum NoText {
 }
 
 /// The text that describes an item, by version 2, of at most `N` bytes. It has those modifiers of a component that
-/// aren't the default, and as white space one byte before each modifier and each list.
+/// aren't the default, and one space before each modifier and each list of a group.
 ///
 /// # Errors
 ///
-/// [`NoText::Undescribed`] exactly if no text describes the item, whatever its length; [`NoText::TooLong`] exactly if a
-/// text does, and this one has more than `N` bytes.
+/// [`NoText::Undescribed`] if and only if no text, however long, describes the item; [`NoText::TooLong`] if and only if
+/// one does, and the one that this function would write has more than `N` bytes.
 pub fn text_of<const N: usize, I: Inspect>(item: &I) -> Result<DescriptionText<N>, NoText>
     ensures ok { IfOk result (λ text. IsTextOf (I.shape item.now) text.bytes.items) }
     ensures err { IfErr result (λ e. IsNoText N (I.shape item.now) e) }

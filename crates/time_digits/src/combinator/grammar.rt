@@ -132,7 +132,7 @@ pub(super) fn without_digits(input: &[u8]) -> &[u8]
     rest
 }
 
-// The nanoseconds in one unit of the last of that many decimal places after the point of a second: 10^(9 - digits).
+// The nanoseconds that a 1 represents as the last of that many digits after the point of a second: 10^(9 - digits).
 #[inline]
 fn nanoseconds_of_place(digits: usize) -> u32
     requires { digits ≤ 9 }

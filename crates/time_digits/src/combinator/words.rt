@@ -96,7 +96,7 @@ mod tests {
 
     const DIGITS: [u8; 8] = *b"98765432";
 
-    // How many digits are joined, and their decimal value.
+    // How many of `DIGITS`, from the first on, are joined, and their decimal value.
     const NUMBERS: [(u8, u32); 5] = [
         (4, 9_876),
         (5, 98_765),

@@ -9,7 +9,7 @@ ghost use Rattle.time_lines.specs.Output.{IsAnswer};
 
 use programs_answers::formats::{Format, Target};
 
-// The bytes after `name`, whose last byte is a TAB. `None` if the bytes don't start with `name`.
+// The bytes after `name`. A `name` ends with a TAB. `None` if the bytes don't start with `name`.
 #[inline(always)]
 fn after<'a>(bytes: &'a [u8], name: &[u8]) -> Option<&'a [u8]>
     ensures { IfSome result (λ rest. bytes.now ≡ name.now ++ rest.now) }

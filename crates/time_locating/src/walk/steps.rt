@@ -1,4 +1,4 @@
-//! Walks the steps of a description that was parsed from a text.
+//! Walks the steps of a `Description` or a `Prepared`.
 ghost use Rattle.std.specs.Prelude.{◌≡◌, ◌∷◌, ℕ, List, length, MatchOption};
 ghost use Rattle.time_values.specs.Calendar.{greatest_year};
 ghost use Rattle.time_components.specs.Tree as steps_;

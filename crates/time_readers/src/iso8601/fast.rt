@@ -1,6 +1,6 @@
 //! The commonest dates and times of ISO 8601, parsed many bytes at once.
 //!
-//! Each parser returns what the parent module's parser of these parts returns, or `None` for any other form.
+//! `date`, `time` and `*_date_and_time` return what the parent module's parsers return, or `None` for any other form.
 ghost use Rattle.std.specs.Prelude.{◌≡◌, ℕ, List, IfSome, Ok, ◌≤◌, ◌<◌, Bool, Some, None};
 ghost use Rattle.time_readers.specs.IsoPieces.{ReturnsPartOrFault, ReturnsPart, Number, number, byte, plain, fraction};
 ghost use Rattle.time_readers.specs.IsoDates.{AreCalendarDigits, date_text, iso_date};

@@ -225,8 +225,8 @@ pub fn floor_fraction(digits: &[u8], unit: u64) -> u64
 
 /// The fraction of a unit, rounded to the nearest whole number, and a half up.
 ///
-/// For n digits of value w, it is w * unit / 10^n, rounded. Without digits it is 0. It is the unit itself if the
-/// fraction is close to 1.
+/// For n digits of value w, it is w * unit / 10^n, rounded. Without digits it is 0. It is the unit itself if
+/// w * unit / 10^n is at least unit - 1/2.
 ///
 /// `digits` are the bytes `0` to `9` after the point, any number of them, and `unit` is 1 to 3600000000000,
 /// the nanoseconds of an hour.

@@ -125,7 +125,7 @@ fn pairs(bytes: &[u8; 16]) -> [u8; 4]
     (tens * u8x4::splat(10) + ones).to_array()
 }
 
-/// Parses the places from the blanks after the day to those after the second, if all blanks are one space.
+/// Parses the places from the blanks after the day to those after the second, if each of these blanks is one space.
 ///
 /// These are nineteen bytes, the first sixteen tested at once: a month's name of a capital and two small letters, a
 /// year of four digits, 1900 or later, an hour, a minute and a second. A byte above `(` must follow them. Stores their

@@ -162,7 +162,7 @@ fn year<'a>(input: &'a [u8], numbers: &mut Numbers) -> Option<&'a [u8]>
     Some(short.0)
 }
 
-// Parses blanks, without comments after a year of four digits.
+// Parses blanks and comments, one or more of them, after a year of two digits, and only blanks after one of four.
 #[inline(always)]
 fn year_blanks(input: &[u8], year_is_full: bool) -> Option<&[u8]>
     ensures { (n : Numbers) → Reads (IsSilent (Rfc2822.year_blanks year_is_full) n) input.now result n }

@@ -189,7 +189,7 @@ impl Parsed {
     ///
     /// Doesn't change the flag of a negative offset, which parsing an offset's hour with a minus sets. While it is set,
     /// `offset_minute_signed` and `offset_second_signed` return the stored numbers negated, whatever the sign of this
-    /// value; `forget_offset_sign` clears it.
+    /// value; `forget_offset_sign` clears the flag.
     #[inline]
     pub fn with_offset_hour(mut self, value: i8) -> Option<Parsed>
         ensures { result ≡ put greatest_year (offset_hour_is value) self }

@@ -1,7 +1,7 @@
 //! Parses the components and literals that most lists consist of, without a call.
 //!
-//! Each function parses as the item's plain parser does, and stores the value that it stores. Or it returns `None`: the
-//! item or its text is an uncommon one, and nothing is parsed.
+//! Each function parses as the item's plain parser does, and stores the value that the plain parser stores. Or it
+//! returns `None`: the item or its text is uncommon, nothing is parsed, and the plain parser decides.
 ghost use Rattle.std.specs.Prelude.{false, true};
 ghost use Rattle.time_values.specs.Calendar.{greatest_year};
 ghost use Rattle.time_components.specs.Tree as tree;

@@ -28,8 +28,8 @@ impl Parsed {
         Some(())
     }
 
-    /// Sets the calendar year without its last two digits, from -9999 to 9999, and whether it is negative: by its sign,
-    /// and for a 0 by `is_negative`. If out of range, returns `None` and changes nothing.
+    /// Sets the calendar year without its last two digits, from -9999 to 9999, and whether it is negative: by the
+    /// value's sign, or for 0 by `is_negative`. If out of range, returns `None` and changes nothing.
     #[inline]
     pub fn set_year_century(&mut self, value: i16, is_negative: bool) -> Option<()>
         ensures { Sets (put greatest_year (year_century_is value is_negative) self.old)
@@ -72,7 +72,7 @@ impl Parsed {
     }
 
     /// Sets the year of the ISO 8601 week date without its last two digits, from -9999 to 9999, and whether it is
-    /// negative: by its sign, and for a 0 by `is_negative`. If out of range, returns `None` and changes nothing.
+    /// negative: by the value's sign, or for 0 by `is_negative`. If out of range, returns `None` and changes nothing.
     #[inline]
     pub fn set_iso_year_century(&mut self, value: i16, is_negative: bool) -> Option<()>
         ensures { Sets (put greatest_year (iso_year_century_is value is_negative) self.old)
@@ -265,7 +265,7 @@ impl Parsed {
     ///
     /// Doesn't change the flag of a negative offset, which parsing an offset's hour with a minus sets. While it is set,
     /// `offset_minute_signed` and `offset_second_signed` return the stored numbers negated, whatever the sign of this
-    /// value; `forget_offset_sign` clears it.
+    /// value; `forget_offset_sign` clears the flag.
     #[inline]
     pub fn set_offset_hour(&mut self, value: i8) -> Option<()>
         ensures { Sets (put greatest_year (offset_hour_is value) self.old)

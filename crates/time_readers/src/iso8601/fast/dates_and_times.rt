@@ -23,8 +23,8 @@ const BASIC_LEAST: [u8; 16] = *b"00000000T000000\x00";
 // The greatest value of each of the first sixteen bytes, without separators.
 const BASIC_GREATEST: [u8; 16] = *b"99991939T295959\xff";
 
-// The two-digit numbers of a date, of the hour after it, 0 to 29, and of the minute, 0 to 59. `after` must begin with a
-// second.
+// The two-digit numbers of a date, of the hour after it, 0 to 29, and of the minute, 0 to 59. `after` is the input
+// after the minute and, in an extended text, the colon.
 #[derive(Clone, Copy)]
 struct FirstSixteen<'a> {
     date: CalendarDigits<'a>,
@@ -43,7 +43,7 @@ pub(in crate::iso8601) fn extended_date_and_time(input: &[u8]) -> Option<DateAnd
 }
 
 // Parses a calendar date, and a time with a second and its fraction, if any, without separators. `None` for any other
-// form, and for a text under sixteen bytes, which ends after a whole second or before.
+// form, a second of 60, and a text under sixteen bytes, which ends after a whole second or before.
 #[inline(always)]
 pub(in crate::iso8601) fn basic_date_and_time(input: &[u8]) -> Option<DateAndTime<'_>>
     ensures { IfSome result (λ p. ReturnsDateAndTime input.now (Ok p)) }

@@ -26,7 +26,7 @@ pub fn year(input: &[u8]) -> Option<ParsedItem<'_, i32>>
     }
 }
 
-// Parses the six digits of a year after its sign. Not inlined, since few years have one, and callers that grow too
+// Parses the six digits of a year after its sign. Not inlined, since few years have a sign, and callers that grow too
 // large aren't inlined themselves.
 #[inline(never)]
 fn year_after_sign(input: &[u8], sign: Sign) -> Option<ParsedItem<'_, i32>>
@@ -154,7 +154,7 @@ pub fn float(input: &[u8]) -> Option<ParsedItem<'_, (u8, Option<&[u8]>)>>
     Some(ParsedItem(&after[count..], (whole.1, Some(digits))))
 }
 
-// Parses that byte, and returns the rest.
+// Parses the byte `C`, and returns the rest.
 #[inline(always)]
 pub(in crate::iso8601) fn byte<const C: u8>(input: &[u8]) -> Option<&[u8]>
     ensures { Leaves (spec.byte C input.now) result }

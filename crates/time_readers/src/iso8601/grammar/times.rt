@@ -47,7 +47,7 @@ fn after_t<'a>(input: &'a [u8], kind: ExtendedKind) -> Option<Part<'a, TimeNumbe
     }
 }
 
-// Parses the rest of a time after a whole hour. `None` for a colon in a basic text.
+// Parses the rest of a time after a whole hour. `None` for a colon in a basic text, or an invalid minute or second.
 #[inline(always)]
 fn after_hour<'a>(input: &'a [u8], kind: ExtendedKind, hour: u8) -> Option<Part<'a, TimeNumbers>>
     requires { hour ≤ 23 }
@@ -106,8 +106,8 @@ fn minute_without_colon<'a>(
     }
 }
 
-// Parses the rest of a time after a whole hour and a colon: a minute; and unless that has a fraction, a second after
-// another colon, if there is one.
+// Parses the rest of a time after a whole hour and a colon: a minute; and unless that has a fraction, nothing, or
+// another colon and a second. `None` if the minute, or the second after a colon, is missing or invalid.
 #[inline(always)]
 fn minute_after_colon<'a>(
     input: &'a [u8],

@@ -87,7 +87,7 @@ fn text(input: &[u8]) -> Option<&[u8]>
     }
 }
 
-// Parses that byte.
+// Parses the byte `C`.
 #[inline]
 fn one<const C: u8>(input: &[u8]) -> Option<&[u8]>
     ensures { option_copied result ≡ one_of (λ c. c == C) input.now }

@@ -64,7 +64,7 @@ pub(super) fn date_of_rows(parsed: &Parsed) -> Result<Date, TryFromParsed>
     Err(TryFromParsed::InsufficientInformation)
 }
 
-// The year, or, if it is missing, the year of the century and the last two digits. `None` if these aren't both set.
+// The year, or, if it isn't set, that of the century and the last two digits. `None` if one of these isn't set either.
 #[inline]
 fn calendar_year(parsed: &Parsed) -> Option<i32>
     ensures value { result ≡ full_year parsed.now }
@@ -78,8 +78,8 @@ fn calendar_year(parsed: &Parsed) -> Option<i32>
     Some(joined_year(century, is_negative, parsed.year_last_two()?))
 }
 
-// The ISO 8601 week-based year, or, if it is missing, the year of its century and last two digits. `None` if these
-// aren't both set.
+// The ISO 8601 week-based year, or, if it isn't set, the year of its century and last two digits. `None` if one of
+// these isn't set either.
 #[inline]
 fn iso_year(parsed: &Parsed) -> Option<i32>
     ensures value { result ≡ full_iso_year parsed.now }

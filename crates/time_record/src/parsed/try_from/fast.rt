@@ -1,8 +1,8 @@
 //! Converts a record with the usual components: a year, month and day without an ordinal; an hour of the day, a minute,
 //! and a second that is no leap second.
 //!
-//! Each function returns the value that the general conversion returns, or `None` if the record has other components or
-//! the conversion fails. The caller then uses the general conversion, which also returns the error.
+//! Each function returns the value that the general conversion returns, or `None` if these components don't determine
+//! the value or the conversion fails. The caller then uses the general conversion, which also returns the error.
 ghost use Rattle.std.specs.Prelude.{◌≡◌, Some, Ok, IfSome, IsTrue};
 ghost use Rattle.std.specs.Int.NonZero.{non_zero_u8_get};
 ghost use Rattle.time_values.specs.Dates.{is_year};

@@ -11,7 +11,7 @@ use time_values::error::{ComponentRange, TryFromParsed};
 use time_values::{Time, UtcOffset};
 
 /// The time of the hour, minute, second and subsecond; an unknown one of the last three is 0. The hour is that of the
-/// day, or else that of the half day with its half. A timestamp and an offset are ignored.
+/// day, or else that of the half day with its half, AM or PM. A timestamp and an offset are ignored.
 ///
 /// `InsufficientInformation` if no hour is known (an hour of the half day needs its half), or a second without a
 /// minute, or a subsecond without a second.
@@ -77,8 +77,8 @@ fn hour_of_day(parsed: &Parsed) -> Option<u8>
     })
 }
 
-/// The offset of the hour, minute and second, by their signed getters; smaller parts get the sign of the first that is
-/// not 0. An unknown minute or second is 0, and a second without a minute counts as 0.
+/// The offset of the hour, minute and second, by their signed getters; each gets the sign of the first that isn't 0. An
+/// unknown minute or second is 0, and a second without a minute counts as 0.
 ///
 /// `InsufficientInformation` if no hour is known. There is no other error.
 impl TryFrom<Parsed> for UtcOffset {

@@ -119,7 +119,7 @@ pelzaune_status pelzaune_parse_nanoseconds(uint32_t format, const uint8_t *text,
 
 /* After PELZAUNE_INSUFFICIENT, which component a text lacks: PELZAUNE_INSUFFICIENT + 256 * component, whose text is such as
  * "missing year" or "missing offset". PELZAUNE_OK if it lacks nothing; or the error of a text that isn't parsed. Of
- * several the date's is first, then the time's. A Unix timestamp gives all three. */
+ * several the date's is first, then the time's. A text with a Unix timestamp lacks nothing for all three. */
 pelzaune_status pelzaune_missing(uint32_t needs, uint32_t format, const uint8_t *text, size_t length);
 
 /* The date, the time and the offset of a text. Each has a status of its own: PELZAUNE_OK, or the error with which it is

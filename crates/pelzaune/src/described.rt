@@ -19,9 +19,9 @@ use pelzaune_ffi::results::{count, parts, store_value};
 use pelzaune_ffi::stored::{StoredDescription, describe};
 use time_values::{Date, OffsetDateTime, PlainDateTime, Time, UtcDateTime, UtcOffset};
 
-/// Parses a description in the syntax with this number and stores it in `out`. Returns 0; or the status of its first
-/// fault, stores that fault's byte index in `index`, and leaves `out` unchanged. With the status 0, 16 for more than 64
-/// steps, or 17 for an unknown syntax, `index` is unchanged.
+/// Parses a description in the syntax with this number and stores it in `out`. Returns 0; or the status of an error,
+/// and leaves `out` unchanged. Stores the byte index of the description's first fault in `index`; with the status 0, 16
+/// for more than 64 steps, or 17 for an unknown syntax, `index` is unchanged.
 #[unsafe(no_mangle)]
 pub extern "C" fn pelzaune_describe(
     syntax: u32,
@@ -134,8 +134,8 @@ pub extern "C" fn pelzaune_described_instant(
 
 /// Parses a whole text by a stored description, and stores the nanoseconds from 1970-01-01T00:00:00Z to its moment in
 /// `out`. A Unix timestamp gives the moment, in UTC, and a subsecond replaces its fraction; without a timestamp, a
-/// second of 60 or a missing offset is rejected. Returns 0; or the error's status, 7 if they don't fit 64 bits, and
-/// leaves `out` unchanged.
+/// second of 60 or a missing offset is rejected. Returns 0; or the error's status, 7 if the nanoseconds don't fit 64
+/// bits, and leaves `out` unchanged.
 #[unsafe(no_mangle)]
 pub extern "C" fn pelzaune_described_nanoseconds(
     description: &StoredDescription,
@@ -206,9 +206,9 @@ pub extern "C" fn pelzaune_read_locate(
 /// entry at a line's index the nanoseconds from 1970-01-01T00:00:00Z to its instant. Returns how many lines the text
 /// has, which may be more.
 ///
-/// The entry of a rejected line becomes `i64::MIN`, which is also that of the earliest instant that fits; `refused`
-/// becomes the number of rejected lines that have an entry. A line is also rejected if its instant doesn't fit 64 bits,
-/// and each line if no format has this number. An entry without a line is unchanged.
+/// The entry of a rejected line is set to `i64::MIN`, which is also that of the earliest instant that fits; `refused`
+/// is set to the number of rejected lines that have an entry. A line is also rejected if its nanoseconds don't fit 64
+/// bits, and each line if no format has this number. An entry without a line is unchanged.
 ///
 /// A line ends with LF, which is optional after the last one. Without its LF, and without a CR at its end, it is parsed
 /// as by `pelzaune_parse_nanoseconds`.

@@ -4,10 +4,10 @@
 //! with a number, or by a description. It returns the status 0 after writing the value, or else the status of the
 //! error; a call for a column of lines returns their number.
 //!
-//! The formats are 1 for RFC 3339, 2 for RFC 2822, 3 for ISO 8601, and 4 for RFC 3339 with only `T`, `t` or a space
-//! between the date and the time. The syntaxes of descriptions are 1 and 2 for those versions of the syntax in
-//! brackets, and 3 for strftime. The status of an error is the number of its kind, 1 to 19, plus 256 times the number
-//! of the component that it names (0 for none).
+//! The formats are 1 for RFC 3339 with any byte between the date and the time, 2 for RFC 2822, 3 for ISO 8601, and 4
+//! for RFC 3339 with only `T`, `t` or a space there. The syntaxes of descriptions are 1 and 2 for those versions of the
+//! syntax in brackets, and 3 for strftime. The status of an error is the number of its kind, 1 to 19, plus 256 times
+//! the number of the component that it names (0 for none).
 #![tactic(auto)]
 
 ghost use Rattle.std.specs.Prelude.{◌≡◌, length};
@@ -275,8 +275,8 @@ pub extern "C" fn pelzaune_read_instant(
 /// Parses a whole text by a description in the syntax with this number, and stores the nanoseconds from
 /// 1970-01-01T00:00:00Z to its moment in `out`. A Unix timestamp gives the moment, in UTC, and a subsecond replaces its
 /// fraction; without a timestamp, a second of 60 or a missing offset is rejected. Returns 0; or the status of the
-/// text's or the description's error, 7 if they don't fit 64 bits, 17 for an unknown syntax, and leaves `out`
-/// unchanged.
+/// text's or the description's error, 7 if the nanoseconds don't fit 64 bits, 17 for an unknown syntax, and leaves
+/// `out` unchanged.
 #[unsafe(no_mangle)]
 pub extern "C" fn pelzaune_read_nanoseconds(
     syntax: u32,

@@ -19,7 +19,7 @@ by_tree tree line status old new = StoresByTree IsCountStored of_moment (Ok tree
 abbrev pub rejecting : ℕ → Counting
 rejecting reason line status old new = (status ≡ reason) × (new ≡ old)
 
--- The entry of a rejected line: the least number of 64 bits.
+-- The entry of a rejected line: the least signed number of 64 bits.
 abbrev pub no_count : Nanoseconds
 no_count = record { count = neg_ℤ (pos 9_223_372_036_854_775_808) }
 

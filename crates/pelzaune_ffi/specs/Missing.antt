@@ -31,7 +31,7 @@ missing_for_date r =
     if has_day r || has_iso_day r then Some (codes "year") else Some (codes "day")
 
 -- The component that a record lacks for an hour of the day: the half of the day if it has an hour from 1 to 12,
--- otherwise the hour. None if it has an hour from 0 to 23, or both.
+-- otherwise the hour. None if it has an hour from 0 to 23, or an hour from 1 to 12 and the half of the day.
 abbrev pub missing_for_hour : Record → Option (List ℕ)
 missing_for_hour r =
     if is_some r.hour_24 || (is_some r.hour_12 && is_some r.hour_12_is_pm) then None else
@@ -70,7 +70,7 @@ abbrev pub selects_offset : ℕ → Bool
 selects_offset needs = nat_eq (needs / 4 % 2) 1
 
 -- The component that a record lacks for the values that the number selects: the date's first, then the time's, then the
--- offset's. A Unix timestamp gives all three.
+-- offset's. None if the number selects all three and the record has a Unix timestamp.
 abbrev pub missing_for : ℕ → Record → Option (List ℕ)
 missing_for needs r =
     if nat_eq (needs % 8) 7 && is_some r.unix_timestamp_nanos then None else

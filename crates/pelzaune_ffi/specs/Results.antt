@@ -119,7 +119,7 @@ IsCountStored (Ok v) status old new =
     ⊎ ((status ≡ too_wide) × (new ≡ old) × ¬ (FitsI64 (Moments.offset_instant greatest_year v)))
 IsCountStored (Err e) status old new = (status ≡ status_of e) × (new ≡ old)
 
--- A result with the property `IsAnswer`, which is that of the parse, is stored as `storing` defines.
+-- Some result has the property `IsAnswer`, which identifies the result of a parse, and is stored as `storing` defines.
 abbrev pub IsResultStored : {V S : Type 0} → Storing V S → (Result V Refusal → Type 0) → ℕ → S → S → Type 0
 IsResultStored {V} storing IsAnswer status old new =
     (answer : Result V Refusal) × IsAnswer answer × storing answer status old new

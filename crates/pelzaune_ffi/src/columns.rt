@@ -84,8 +84,8 @@ fn one_if_refused(status: u32) -> usize
     usize::from(status != 0)
 }
 
-// Parses each line that has an entry by `counting`, and stores its nanoseconds, or `i64::MIN` if the line is rejected.
-// Stores in `refused` how many of these lines are rejected. An entry without a line is unchanged. Returns how many
+// Parses each line that has an entry, by `counting`, and stores its nanoseconds there, or `i64::MIN` if it is rejected.
+// Stores in `refused` how many lines with an entry are rejected. An entry without a line is unchanged. Returns how many
 // lines the whole text has.
 #[inline(always)]
 fn column<C: Count>(
@@ -116,9 +116,9 @@ fn column<C: Count>(
 /// entry at a line's index the nanoseconds from 1970-01-01T00:00:00Z to its instant. Returns how many lines the text
 /// has, which may be more.
 ///
-/// The entry of a rejected line becomes `i64::MIN`, which is also that of the earliest instant that fits; `refused`
-/// becomes the number of rejected lines that have an entry. A line is also rejected if its instant doesn't fit 64 bits,
-/// and each line if no format has this number. An entry without a line is unchanged.
+/// The entry of a rejected line is set to `i64::MIN`, which is also that of the earliest instant that fits; `refused`
+/// is set to the number of rejected lines that have an entry. A line is also rejected if its nanoseconds don't fit 64
+/// bits, and each line if no format has this number. An entry without a line is unchanged.
 ///
 /// A line ends with LF, which is optional after the last one. Without its LF, and without a CR at its end, it is parsed
 /// as by [`count_by`].

@@ -8,8 +8,8 @@ ghost use Rattle.pelzaune_ffi.specs.Described.{Checks, IsDescribed};
 use crate::status::{TOO_LONG, UNKNOWN_SYNTAX};
 use time_descriptions::{Description, InvalidFormatDescription, parse_borrowed, parse_strftime};
 
-/// The most steps of a description that a call from C accepts. A description in brackets of at most this many bytes
-/// fits.
+/// The most steps of a description that a call from C accepts: a byte of a literal, a component or the start of a group
+/// is a step. A description in brackets of at most this many bytes fits.
 pub const MOST_STEPS: usize = 64;
 
 /// The syntax of a description.

@@ -145,8 +145,8 @@ fn missing<F: Parsable>(format: &F, needs: u32, text: &[u8]) -> u32
 
 /// The status of what a text lacks, by the format with this number, for some values: 4 plus 256 times the component's
 /// number, or 0 if it lacks nothing. `needs` selects the values: it is the sum of 1 for a date, 2 for a time and 4 for
-/// an offset, and a Unix timestamp gives all three. Of several missing components the date's is reported first, then
-/// the time's.
+/// an offset. If all three are selected, and only then, a Unix timestamp gives them. Of several missing components the
+/// date's is reported first, then the time's, then the offset's.
 ///
 /// If the whole text isn't parsed, returns the error's status, or [`UNKNOWN_FORMAT`] for an unknown number.
 #[inline(never)]

@@ -134,9 +134,9 @@ fn parsed_count<F: Parsable>(format: &F, text: &[u8], out: &mut Nanoseconds) -> 
 
 /// Parses a whole text by the format with this number and stores the nanoseconds from 1970-01-01T00:00:00Z to its
 /// moment. Returns 0; or the error's status, [`UNKNOWN_FORMAT`] for an unknown number or
-/// [`TOO_WIDE`](crate::status::TOO_WIDE) if they don't fit 64 bits, and leaves `out` unchanged. A text without an
-/// offset is rejected. A leap second is valid only at the end of a month in UTC, and becomes the last nanosecond before
-/// it.
+/// [`TOO_WIDE`](crate::status::TOO_WIDE) if the nanoseconds don't fit 64 bits, and leaves `out` unchanged. A text
+/// without an offset is rejected. A leap second is valid only at the end of a month in UTC, and is replaced by the last
+/// nanosecond before it.
 #[inline(always)]
 pub fn count_by(format: u32, text: &[u8], out: &mut Nanoseconds) -> u32
     ensures { StoresCount (Formats.format_of format) text.now result out.old out.new }

@@ -72,8 +72,8 @@ pub fn store_count(value: OffsetDateTime, out: &mut Nanoseconds) -> u32
 }
 
 /// Parses a whole text by the format and stores the nanoseconds from 1970-01-01T00:00:00Z to its instant. Returns 0; or
-/// the error's status, [`TOO_WIDE`] if they don't fit 64 bits, and leaves `out` unchanged. A text is rejected if it has
-/// neither an offset nor a Unix timestamp.
+/// the error's status, [`TOO_WIDE`] if the nanoseconds don't fit 64 bits, and leaves `out` unchanged. A text is
+/// rejected if it has neither an offset nor a Unix timestamp.
 #[inline(always)]
 pub fn count<F: Parsable>(format: &F, text: &[u8], out: &mut Nanoseconds) -> u32
     ensures { IsResultStored IsCountStored

@@ -7,7 +7,7 @@ ghost use Rattle.pelzaune_ffi.specs.Status.{HaveErrorTexts};
 
 use time_values::error::{ComponentRange, Parse, ParseFromDescription, TryFromParsed};
 
-/// The status of an instant whose nanoseconds don't fit 64 bits.
+/// The status of an instant whose nanoseconds from 1970-01-01T00:00:00Z don't fit an `i64`.
 pub const TOO_WIDE: u32 = 7;
 
 /// The status of a call with a number that no format has.

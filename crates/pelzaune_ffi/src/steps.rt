@@ -16,13 +16,13 @@ pub struct StoredStep {
     pub len: usize,
     /// For skipped bytes: how many. Ignored for any other kind.
     pub count: u16,
-    /// The number of the step's kind: 0 is a literal, 1 a further byte of one, 2 to 4 a group, and 5 to 41 a component.
-    /// Any other number, or skipping 0 bytes, is a literal of byte 0.
+    /// The number of the step's kind: 0 is a literal's first byte, 1 a further one, 2 an optional group, 3 a choice, 4
+    /// a sequence, and 5 to 41 a component. Any other number, or skipping 0 bytes, is a literal of byte 0.
     pub kind: u8,
-    /// The byte of a literal; or the number of a component's padding, digits or treatment of trailing bytes; or for the
-    /// half of the day, 0 for `am` and `pm`, and another number for `AM` and `PM`.
+    /// The byte of a literal; a padding: 1 is spaces, 2 none, else zeros; how many digits a fraction has: 1 to 9, else
+    /// one or more; 1 to discard trailing bytes; or for the half of the day, 0 for `am` and `pm`, else `AM` and `PM`.
     pub choice: u8,
-    /// The component's modifier of yes or no: 0 is no, any other number is yes.
+    /// A component's bool (a mandatory sign, case sensitivity, days counted from 1): 0 is false, any other is true.
     pub flag: u8,
 }
 

@@ -232,9 +232,9 @@ impl Parsable for StoredDescription {
     ghost exact_path = { λ _. tt };
 }
 
-/// Parses a description in the syntax with this number and stores it in `out`. Returns 0; or the status of its first
-/// fault, stores that fault's byte index in `index`, and leaves `out` unchanged. With the status 0, [`TOO_LONG`] for
-/// more than [`MOST_STEPS`] steps, or [`UNKNOWN_SYNTAX`] for an unknown syntax, `index` is unchanged.
+/// Parses a description in the syntax with this number and stores it in `out`. Returns 0; or the status of an error,
+/// and leaves `out` unchanged. Stores the byte index of the description's first fault in `index`; with the status 0,
+/// [`TOO_LONG`] for more than [`MOST_STEPS`] steps, or [`UNKNOWN_SYNTAX`] for an unknown syntax, `index` is unchanged.
 #[inline(always)]
 pub fn describe(syntax: u32, text: &[u8], out: &mut StoredDescription, index: &mut usize) -> u32
     ensures { StoresDescription (Described.syntax_of syntax) text.now result out.old out.new index.old index.new }

@@ -104,9 +104,9 @@ WritesSameText =
     → IsReadable format defaults form v bytes → ParsesAs format false bytes defaults (Ok said)
     → IsWritten form said.moment again → IsOkAnd again (λ text. text.items ≡ bytes)
 
--- A tree determines a moment with the defaults, if each component's text is parsed whole, and the record of its
--- components' values, completed by the defaults, has the date, the time and the offset of the moment, and no count from
--- 1970.
+-- A tree determines a moment with the defaults, if each component's text is parsed whole, and `with_values_of` gives a
+-- record of its components' values that, completed by the defaults, has the date, the time and the offset of the
+-- moment, and no count from 1970.
 abbrev pub AllValuesDetermine : Type 0
 AllValuesDetermine =
     (v : OffsetDateTime) (tree : Tree) (defaults : Defaults) (after : Record)

@@ -148,7 +148,7 @@ missing_field_of has_year t =
     if not (has_kind Kind.Hour t || has_kind Kind.Half t) then Some MissingField.Half else None
 
 -- The part that all texts of a format omit, by `missing_field_of`; `None` for RFC 3339, RFC 9557, RFC 2822 and ISO
--- 8601, which have texts that are moments. The `Bool` is true if there is a default year or a latest moment.
+-- 8601. The `Bool` is true if there is a default year or a latest moment; it counts even for `Complete`.
 abbrev pub format_missing_field : Bool → Reading → Option MissingField
 format_missing_field has_year (Reading.Described d) = missing_field_of has_year (steps_shape d)
 format_missing_field has_year (Reading.Complete d) = missing_field_of has_year (steps_shape d)

@@ -108,8 +108,8 @@ bare_where true text (Ok s) = Ok (bare text s)
 bare_where true text (Err e) = Err e
 bare_where false text result = result
 
--- The match of a mail date, RFC 2822, with optional white space around it, or its error. Only the match of a prefix
--- (the `Bool` is true) excludes the white space.
+-- The match of a mail date, RFC 2822, with optional white space and comments around it, or its error. Only the match of
+-- a prefix (the `Bool` is true) excludes the white space.
 abbrev pub IsReadMail : Bool → List ℕ → Result Match Refusal → Type 0
 IsReadMail is_prefix text result =
     (padded : Result Match Refusal)
@@ -220,8 +220,8 @@ ParsesLocally format is_prefix text defaults result =
 abbrev pub is_after : OffsetDateTime → OffsetDateTime → Bool
 is_after v w = int_lt (offset_instant greatest_year w) (offset_instant greatest_year v)
 
--- a text that may omit its year, its format, whether a prefix of it or all of it is parsed, the default offset and the
--- zone for local times, if any, and the latest moment that it may mean
+-- a text, which may omit its year, with its format, whether a prefix of it or all of it is parsed, the default offset
+-- and the zone for local times, if any, and the latest moment that it may mean
 pub record Undated : Type 0 where
   pub format : Reading
   pub is_prefix : Bool
@@ -256,8 +256,8 @@ abbrev pub is_early : OffsetDateTime → Result Match Reason → Bool
 is_early latest (Ok s) = not (is_after s.moment latest)
 is_early latest (Err why) = false
 
--- Whether the text, with that default year and the offset of the latest moment, is a moment that isn't after the latest
--- one; false if the format rejects it.
+-- Whether the text, with that default year and with the latest moment's offset as the default offset, is a moment that
+-- isn't after the latest one; false if the format rejects it.
 abbrev pub IsEarly : Undated → ℤ → Bool → Type 0
 IsEarly u year early =
     (shown : Result Match Reason)

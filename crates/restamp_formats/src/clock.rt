@@ -43,8 +43,8 @@ fn converted_in(moment: OffsetDateTime, zone: &TimeZone<'_>) -> Option<OffsetDat
 }
 
 impl Clock<'_> {
-    /// Converts the moment to this clock; `None` if its year at a fixed offset is outside -999999 to 999999, or, for a
-    /// zone, if the moment is outside the range of time zones.
+    /// Converts the moment to this clock. `None` if its year at a fixed offset is outside -999999 to 999999; or, for a
+    /// zone, if it is before -9999-01-02T01:59:59Z or after 9999-12-30T22:00:00.999999999Z.
     #[inline(always)]
     pub fn show(&self, moment: OffsetDateTime) -> Option<OffsetDateTime>
         ensures { spec.IsConverted self.now moment result }
@@ -88,7 +88,7 @@ fn has_tail(is_prefix: bool, text: &[u8], end: usize) -> bool
 }
 
 // Extends the match `front`, which starts at byte 0, by the longest suffix after it, which may be empty. Returns, as an
-// `E`, the reason `Unread` if more bytes follow and `is_prefix` is false, or `Suffix` if the suffix rejects the moment.
+// `E`, the reason `Unread` if more bytes follow and `is_prefix` is false, or else `Suffix` if `check_suffix` fails.
 fn with_suffix<E: FromReason>(
     zones: &Zones,
     is_prefix: bool,

@@ -1,4 +1,4 @@
-//! Parses a text by the first of several formats that matches, also without a year.
+//! Parses a text, which may omit its year, by the first of several formats that matches.
 //!
 //! `fast` parses local times in a zone only once.
 ghost use Rattle.std.specs.Prelude.{◌≡◌, ◌+◌, ◌≤◌, ◌≤ℤ◌, ◌-ℤ◌};
@@ -27,8 +27,8 @@ fn is_after(moment: OffsetDateTime, other: OffsetDateTime) -> bool
     moment.cmp_instant(other) == Ordering::Greater
 }
 
-// A text that may omit its year, its format, the default offset and zone, and the latest moment that it may mean. If
-// `is_prefix` is true, a prefix of the text is parsed, otherwise the whole text.
+// A text, which may omit its year, with its format, the default offset and zone, and the latest moment that it may
+// mean. If `is_prefix` is true, a prefix of the text is parsed, otherwise the whole text.
 #[derive(Clone, Copy)]
 struct Undated<'a, 'z> {
     reading: &'a Reading,
@@ -61,8 +61,8 @@ impl<'z> Undated<'_, 'z> {
         read_local(self.reading, self.is_prefix, self.text, &self.in_year(year))
     }
 
-    // Whether the text, with that default year and the offset of the latest moment, is a moment that isn't after the
-    // latest one; false if the format rejects it.
+    // Whether the text, with that default year and with the latest moment's offset as the default offset, is a moment
+    // that isn't after the latest one; false if the format rejects it.
     fn is_early(&self, year: i32) -> bool
         ensures { spec.IsEarly (spec.erased_undated self.now) year result }
     {
@@ -85,8 +85,8 @@ impl<'z> Undated<'_, 'z> {
         false
     }
 
-    // Tries `count` years from `year` down, and returns the first match that isn't after the latest moment; or the
-    // error of a year at which `is_final` ends the search, or the last error of a year, or `reason` if no year has one.
+    // Tries `count` years from `year` down, until a match isn't after the latest moment or `is_final` is true for an
+    // error; returns that match or error. Otherwise returns the last error of a year, or `reason` if no year has one.
     #[inline(never)]
     fn read_years<E: FromReason>(&self, year: i32, count: u8, reason: E) -> Result<Match, E>
         requires { neg_ℤ (pos 2_000_000) ≤ℤ (year -ℤ pos count) }
@@ -116,8 +116,8 @@ impl<'z> Undated<'_, 'z> {
 }
 
 // Parses a text that the format rejects for that reason: as a local time in the zone of the defaults, then, if they
-// have a latest moment, with ten years from the one after its year down. The error is that of the last attempt that
-// fails. Not inlined, so that it needs no stack beside texts that the format accepts.
+// have a latest moment, with ten default years, from the one after that moment's year down. The error is that of the
+// last attempt that fails. Not inlined, so that it needs no stack beside texts that the format accepts.
 #[inline(never)]
 fn parse_by_defaults<E: FromReason>(
     reading: &Reading,
@@ -151,10 +151,10 @@ fn parse_by_defaults<E: FromReason>(
 }
 
 /// Parses a text by the format; if that rejects it, as a local time in the zone of the defaults; and if that fails and
-/// the defaults have a `latest` moment, with ten years from the one after its year down, for a moment that isn't after
-/// it. Up to seven years in a row have no 29 February, so ten suffice. A nonexistent or ambiguous local time ends the
-/// search if it isn't after `latest` at the offset of `latest`. The error, as an `E`, is that of the last attempt that
-/// fails. Not inlined, so that other texts need no stack for it.
+/// the defaults have a `latest` moment, with ten default years, from the one after the year of `latest` down, for a
+/// moment that isn't after `latest`. Up to seven years in a row have no 29 February, so ten suffice. A nonexistent or
+/// ambiguous local time ends the search if it isn't after `latest` at the offset of `latest`. The error, as an `E`, is
+/// that of the last attempt that fails. Not inlined, so that other texts need no stack for it.
 #[tactic(auto, using(crate::proofs::ParseLemmas::dated_at_once))]
 #[inline(never)]
 pub fn parse_dated<E: FromReason>(

@@ -267,9 +267,9 @@ fn write_described<E: FromReason>(
     }
 }
 
-/// Converts the moment to the form's clock, and replaces `text` by its text. The error, as an `E`, is
-/// [`Reason::OutOfRange`] or [`Reason::OutsideZoneRange`] if it can't be converted, [`Reason::OutOfRange`] if it has no
-/// count, and otherwise [`Reason::Unwritable`], or for a description [`Reason::Unformattable`].
+/// Converts the moment to the form's clock, and replaces `text` by its text. The error, as an `E`, is `OutOfRange` or
+/// `OutsideZoneRange` if it can't be converted; otherwise [`Reason::OutOfRange`] for a count of a moment whose year in
+/// UTC is outside -999999 to 999999, [`Reason::Unformattable`] for a description, or else [`Reason::Unwritable`].
 #[inline(always)]
 pub fn write_to<E: FromReason>(
     moment: OffsetDateTime,

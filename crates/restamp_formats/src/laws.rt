@@ -3,13 +3,13 @@ ghost use Rattle.restamp_formats.specs.Common.{greatest_year};
 ghost use Rattle.restamp_formats.specs.Laws.{AutoHasAll, ReadsRewrittenBack, ReadsSuffixedBack, ReadsZonedBack, WritesZonedSame, KeepsMoment, AllValuesDetermine, SignsDetermine, OneTree, CommonReadsBack};
 ghost use Rattle.restamp_formats.specs.MissingField.{ClocksHaveNoUse, HasNoUse, ParsesNoMoment};
 
-/// A text written by RFC 3339, RFC 2822 or ISO 8601 parses by the same format as the same moment, at the offset of the
-/// clock that it was converted to, provided that each nonzero digit of its fraction was written; and the match has all
-/// bytes of the text. [`Auto`](time_formatting::FractionDigits::Auto) omits no such digit.
+/// A text written by RFC 3339, RFC 2822 or ISO 8601 parses by that format as its moment, at the offset that this was
+/// converted to, provided that each nonzero digit of the fraction was written; and the match has all bytes of the text.
+/// [`Auto`](time_formatting::FractionDigits::Auto) omits no such digit.
 ///
-/// A text written by a description parses likewise by a description with the same tree, provided that the values of its
+/// A text written by a description parses likewise by a description with an equal tree, provided that the values of its
 /// components, with the defaults that the format uses, make a record of that moment, that each component's text is
-/// followed by bytes that may follow it, and that no fraction follows the minus of a number of seconds.
+/// parsed whole, and that no fraction follows the minus of a number of seconds.
 pub fn law_rewritten_read_back()
     ensures text { ReadsRewrittenBack }
     ensures auto { AutoHasAll }
@@ -21,9 +21,9 @@ pub fn law_suffixed_read_back()
     ensures { ReadsSuffixedBack }
 {}
 
-/// If a text was written by RFC 3339 with each nonzero digit of its fraction, and the zone or the fixed offset that its
-/// moment was converted to follows in brackets, RFC 9557 parses all of it as the converted moment, if its table has
-/// that zone by that name. Written again in the same form, this moment has the same text, without the brackets.
+/// If a text by RFC 3339 has each nonzero digit of the fraction, and the zone or the fixed offset that its moment was
+/// converted to follows in brackets, RFC 9557 parses both together as the converted moment. A named zone must be in the
+/// format's table by that name. Written again in that form, this moment has the text before the brackets.
 pub fn law_zoned_read_back()
     ensures text { ReadsZonedBack }
     ensures again { WritesZonedSame }
@@ -37,8 +37,8 @@ pub fn law_defaults()
 
 /// The text of a moment by a description's tree determines the moment, if each component's text is parsed whole, and
 /// the record of the components' values, completed by the defaults, has the date, the time and the offset of the
-/// moment, and no count from 1970. The minutes and the seconds of an offset are their magnitudes with the sign of the
-/// offset.
+/// moment, and no count from 1970. No component may be a century, last two digits, an ISO 8601 year, a week number, a
+/// count or `ignore`. The minutes and the seconds of an offset are their magnitudes with the sign of the offset.
 #[tactic(auto, using(crate::proofs::ComponentValueLemmas::says_all_told, crate::proofs::ComponentValueLemmas::signs_tell))]
 pub fn law_all_values()
     ensures says { AllValuesDetermine }
@@ -66,9 +66,9 @@ pub fn law_no_moment()
     ensures { ParsesNoMoment }
 {}
 
-/// A default year doesn't change what a record that a description parsed resolves to, if each text of the description
-/// has a part of a year. A default offset doesn't, if each text has the hour of an offset. A count from 1970 counts as
-/// both.
+/// If each text of a description has a part of a year, a default year doesn't change what a record that the description
+/// parsed resolves to. If each text has the hour of an offset, a default offset doesn't change that. A count from 1970
+/// counts as both.
 #[tactic(auto, using(crate::proofs::MissingFieldUses::has_no_use))]
 pub fn law_no_use()
     ensures { HasNoUse }

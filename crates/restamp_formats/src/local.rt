@@ -14,7 +14,7 @@ use time_zones::{NotOne, TimeZone, assume_zone};
 /// Which moment an ambiguous local time means: the clocks of the zone moved back, and show it a second time.
 #[derive(Clone, Copy, Debug, PartialEq, Eq)]
 pub enum Fold {
-    /// None: it is rejected as [`Reason::Ambiguous`].
+    /// Neither of the two: the local time is rejected as [`Reason::Ambiguous`].
     Refuse,
     /// The earlier one.
     Earlier,
@@ -72,9 +72,9 @@ impl Clocks<'_> {
         }
     }
 
-    // Parses a text with UTC as the default offset, and again with the offset that the zone has at that local date and
-    // time. The error is that of either parse, or the reason why the zone has no such offset. Not inlined, so that
-    // lines that need no zone need no stack for it.
+    // Parses a text with UTC as the default offset, and again with the offset that the zone has at the local date and
+    // time of the first parse. The error is that of either parse, or the reason why the zone has no such offset. Not
+    // inlined, so that lines that need no zone need no stack for it.
     #[inline(never)]
     fn read<E: FromReason>(
         &self,
@@ -120,7 +120,7 @@ impl Defaults<'_> {
     }
 }
 
-/// Parses a text that the format rejects for that reason as a local time in the zone of the defaults; returns the
+/// Parses a text, which the format rejects for that reason, as a local time in the zone of the defaults; returns the
 /// reason if they have no zone.
 #[inline(always)]
 pub(crate) fn read_unplaced<E: FromReason>(

@@ -16,7 +16,7 @@ pub enum MissingField {
     Day,
     /// The year, of which a text may have no part. A default year may supply it.
     Year,
-    /// The whole year, which no default supplies: there is only a part of it, or the day needs an ISO 8601 week year.
+    /// The whole year, which no default supplies: only a part of it is given, or the day or the year is by ISO weeks.
     WholeYear,
     /// An hour of the day.
     Hour,
@@ -73,7 +73,7 @@ enum Kind {
     OffsetHour,
     // A count of seconds or smaller units from 1970, which is a whole moment.
     Count,
-    // A part that a day, its year, an hour and the hour of an offset don't need.
+    // Anything else: a minute, a second, a fraction, the minute or second of an offset, `ignore` or `end`.
     Other,
 }
 
@@ -284,7 +284,7 @@ impl Reading {
     /// The first of a day, its year, an hour and its half of the day that all texts of the format omit, so that none of
     /// them is a moment. `None` if there is none, and for RFC 3339, RFC 9557, RFC 2822, ISO 8601 and descriptions with
     /// a count from 1970. `has_year` is true if the defaults have a `year` or a `latest`. Either counts for texts
-    /// without any part of a year.
+    /// without any part of a year, even for `Complete`, which uses no defaults.
     pub fn missing_field(&self, has_year: bool) -> Option<MissingField>
         ensures { result ≡ spec.format_missing_field has_year self.now }
     {

@@ -40,7 +40,7 @@ enum FormatName<'a> {
     Rfc3339,
     Rfc2822,
     Iso8601,
-    // A description in brackets of a number of seconds.
+    // A description in brackets whose texts are numbers of seconds.
     Counted(&'a [u8]),
     // A description in brackets whose texts are parsed without defaults.
     Complete(&'a [u8]),

@@ -21,8 +21,8 @@ use time_values::error::Parse;
 use time_values::{OffsetDateTime, UtcOffset};
 use time_zones::Zones;
 
-/// The most steps that a description may have: bytes of literals, components and starts of groups. A description in
-/// brackets of at most this many bytes never has more.
+/// The most steps that a description may have: a byte of a literal, a component or the start of a group is a step. A
+/// description in brackets of at most this many bytes never has more.
 pub const MOST_STEPS: usize = 256;
 
 /// A format that timestamps are parsed by.
@@ -32,7 +32,7 @@ pub enum Reading {
     Rfc3339,
     /// RFC 9557, section 4.1: RFC 3339 with an optional suffix. A zone that the suffix names has to be one of these.
     Zoned(Zones),
-    /// Mail dates, RFC 2822, section 3.3, with optional white space around them.
+    /// Mail dates, RFC 2822, section 3.3, with optional white space and comments around them.
     Rfc2822,
     /// ISO 8601, basic or extended, with a date and a time. A default counts for an offset that a text omits.
     Iso8601,
@@ -53,8 +53,8 @@ pub struct Defaults<'a> {
     pub offset: Option<UtcOffset>,
     /// The zone for local times: a text that is rejected with `year` and `offset` is parsed as a local time in it.
     pub clocks: Option<Clocks<'a>>,
-    /// A text that is rejected even so is parsed with ten years, from the one after this moment's down. It means the
-    /// first of these moments that isn't after this one.
+    /// A text that is rejected even so is parsed with ten default years in turn, from the one after this moment's year
+    /// down. It means the first moment so found that isn't after this one.
     pub latest: Option<OffsetDateTime>,
 }
 
@@ -63,7 +63,7 @@ pub struct Defaults<'a> {
 pub struct Match {
     /// The moment.
     pub moment: OffsetDateTime,
-    /// How many bytes of the text come before the match: 0, except for white space before a mail date.
+    /// How many bytes come before the match: 0, except for white space before a mail date if a prefix is parsed.
     pub start: usize,
     /// How many bytes the match has.
     pub length: usize,
@@ -221,8 +221,8 @@ fn bare(said: Match, text: &[u8]) -> Match
     }
 }
 
-// Parses a mail date, RFC 2822, with optional white space around it: a prefix of the text if `is_prefix` is true,
-// otherwise the whole text. Only a prefix's match excludes the white space. Not inlined, so that other formats are.
+// Parses a mail date, RFC 2822, with optional white space and comments around it: a prefix of the text if `is_prefix`
+// is true, else the whole text. Only a prefix's match omits white space at its ends. Not inlined, so that others are.
 #[inline(never)]
 fn read_mail(is_prefix: bool, text: &[u8]) -> Result<Match, Parse>
     ensures said { spec.IsReadMail is_prefix text.now (spec.erased_match result) }

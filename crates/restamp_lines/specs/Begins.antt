@@ -34,7 +34,7 @@ all = record { signs = true; mail = false; others = true }
 abbrev pub is_gap : ℕ → Bool
 is_gap x = x == 32 || x == 9 || x == 13 || x == 40
 
--- the byte is the ASCII letter, which is given in lower case, in either case
+-- the first byte is the ASCII letter of the second in lower or upper case; the second is given in lower case
 abbrev pub is_letter : ℕ → ℕ → Bool
 is_letter x letter = x == letter || x == letter - 32
 

@@ -216,8 +216,8 @@ IsMissingFieldBy reads refuses defaults text result =
     ⊎ ((rest : List ℕ) × (r : Record) × reads text empty rest r
     × (result ≡ Some (missing_field_in (completed defaults r))))
 
--- The missing part of a text by a format; always `None` for RFC 3339, RFC 9557, RFC 2822 and a complete description,
--- whose texts have all of a moment.
+-- The missing part of a text by a format; always `None` for RFC 3339, RFC 9557 and RFC 2822, whose texts have all of a
+-- moment, and for `Complete`.
 abbrev pub IsMissingFieldIn : Reading → Defaults → List ℕ → Option MissingField → Type 0
 IsMissingFieldIn reading.Iso8601 = IsMissingFieldBy (Iso8601.Reads greatest_year) (Iso8601.Refuses greatest_year)
 IsMissingFieldIn (reading.Described d) =

@@ -90,7 +90,7 @@ IsPut job start matched verdict =
 abbrev pub missed : Job → Verdict
 missed job = if job.requires_timestamp then refused 1 missing else Without
 
--- the part of a line that is its timestamp, or that starts with it if `is_prefix` is true; `start` bytes come before it
+-- the part of a line that is its timestamp, or starts with it if `is_prefix` is true; `start` bytes precede the part
 pub record Part : Type 0 where
   pub start : ℕ
   pub is_prefix : Bool

@@ -45,7 +45,7 @@ impl Job<'_> {
         Some(matched)
     }
 
-    // The result of `match_alone`, without a parse if no text of the format starts with these bytes.
+    // The result of `match_alone`, without a parse if the first bytes from `start` on rule out a text of the format.
     #[inline(always)]
     fn try_alone(&self, line: &[u8], start: usize, reading: &Reading) -> Option<Match>
         requires { start ≤ length line.now }

@@ -19,10 +19,10 @@ use std::cmp::Ordering;
 use time_values::OffsetDateTime;
 use time_values::text::Text;
 
-/// The most bytes that a timestamp may have if the job has no place.
+/// The most bytes that a timestamp may have if the job has no place: 256.
 pub const REACH: usize = LOOKAHEAD;
 
-/// The most bytes from a line's start to the end of its timestamp. If the timestamp ends later, the line is rejected.
+/// The most bytes from a line's start to its timestamp's end: 262144. A line whose timestamp ends later is rejected.
 pub const LIMIT: usize = LINE_LIMIT;
 
 /// What is done with each line.
@@ -176,15 +176,15 @@ impl Job<'_> {
 
     /// The verdict on a line without its LF. The line is rejected if no format matches its timestamp, if that ends
     /// after the first [`LIMIT`] bytes, if its moment lies within the bounds but has no text in the job's form, or if
-    /// there is no timestamp and one is required. It is dropped if the moment lies outside the bounds. Of a longer line
-    /// the caller may pass only the first `LIMIT` + [`REACH`] bytes, so that the parser sees what follows the
-    /// timestamp.
+    /// there is no timestamp and one is required. Otherwise it is dropped if the moment lies outside the bounds. Of a
+    /// line with more than `LIMIT` + [`REACH`] bytes, the caller may pass only the first `LIMIT` + `REACH`, so that the
+    /// parser sees what follows the timestamp.
     ///
     /// Without a place, the timestamp starts at the first byte from which on a format matches, and has at most
     /// [`REACH`] bytes. It is made of whole words and numbers: if its first byte is an ASCII letter or digit, the byte
     /// before it is none, and if its last byte is one, the byte after it is none. A line without such a text has no
     /// timestamp. With a place, it has none if the line has no part at the place. White space around a mail date stays
-    /// if the format decides where the timestamp ends, and is replaced if the place does.
+    /// if the format decides where the timestamp ends, and is replaced if the place does. Its comments are replaced.
     ///
     /// If the line is rewritten, `text` is overwritten with the new time. The type `E` decides how much of the reason
     /// is returned for a rejected line: [`Reason`] is all of it.

@@ -149,7 +149,7 @@ fn dated<'a>(defaults: &Defaults<'a>) -> Defaults<'a>
 }
 
 // The missing part of a text, with the default year and offset; `None` if the format doesn't match a prefix of the
-// text. Always `None` for RFC 3339, RFC 9557, RFC 2822 and a complete description, whose texts have all of a moment.
+// text. Always `None` for RFC 3339, RFC 9557 and RFC 2822, whose texts have all of a moment, and for `Complete`.
 fn missing_field_in_text(
     reading: &Reading,
     defaults: &Defaults<'_>,
@@ -169,9 +169,9 @@ fn missing_field_in_text(
 impl Job<'_> {
     /// The missing part of a line's timestamp that was rejected for `reason`: the first of a day, its year, an hour, AM
     /// or PM of an hour from 1 to 12, a minute, a second and an offset that neither the text by the first format has,
-    /// nor the defaults, whose `latest` has its year. `None` if `reason` is any other than insufficient information, if
-    /// the job has no place or the line no part there, if the first format matches no prefix of that part, or if all
-    /// texts of that format have all of a moment.
+    /// nor the defaults, in which the year of `latest` replaces `year`. `None` if `reason` isn't insufficient
+    /// information, if the job has no place or the line no part there, if the first format matches no prefix of that
+    /// part, or if this format is RFC 3339, RFC 9557, RFC 2822 or `Complete`.
     #[inline(never)]
     pub fn find_missing_field(&self, line: &[u8], reason: Reason) -> Option<MissingField>
         ensures { spec.IsMissingField self.now line.now (seen reason) result }

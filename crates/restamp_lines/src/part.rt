@@ -6,7 +6,7 @@ ghost use Rattle.std.specs.Prelude.{◌<◌, ◌+◌, ◌^◌, length};
 pub(crate) struct Part<'a> {
     // How many bytes of the line come before the part.
     pub(crate) start: usize,
-    // Whether the format decides where the timestamp ends; otherwise it is the whole part.
+    // Whether the format decides where the timestamp ends; otherwise the timestamp is the whole part.
     pub(crate) is_prefix: bool,
     // The bytes of the part.
     pub(crate) text: &'a [u8],

@@ -20,7 +20,7 @@ span start stop = record { start = start; stop = stop }
 abbrev pub field : ℕ → ℕ → ℕ → Field
 field start stop edge = record { said = span start stop; edge = edge }
 
--- A field of a line of n bytes: its content lies within the line, and the field ends after it.
+-- A field of a line of n bytes: it lies within the line, and its content ends no later than the field does.
 pub record IsWithin (n : ℕ) (f : Field) : Type 0 where
   pub ordered : f.said.start ≤ f.said.stop
   pub closed : f.said.stop ≤ f.edge

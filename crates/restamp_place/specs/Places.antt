@@ -22,7 +22,7 @@ body_length line = if slice_index line (length line - 1) == 13 then length line 
 abbrev pub body_of : List ℕ → List ℕ
 body_of line = take (body_length line) line
 
--- the part of a line after the first `begin`, up to the next `close`; `None` if either doesn't occur
+-- the part of a line after the first `begin`, up to the next `close`; `None` if there is no `begin` or no later `close`
 abbrev pub between_of : List ℕ → List ℕ → List ℕ → Option Span
 between_of begin close line =
     option_and_then

@@ -128,8 +128,8 @@ fn passed(kind: Fields, n: usize, line: &[u8]) -> (usize, usize)
     (0, n)
 }
 
-/// The content of the field with index n, from 0. `None` if the line has too few fields, or if a field up to it starts
-/// with a quote whose closing quote is missing or isn't followed by the delimiter or the end.
+/// The content of the field with index n, from 0. `None` if the line has too few fields; for `Quoted` also if a field
+/// up to it starts with a quote whose closing quote is missing or isn't followed by the delimiter or the end.
 pub(crate) fn nth_field(kind: Fields, n: usize, line: &[u8]) -> Option<Span>
     ensures value { result ≡ fields.nth_field kind n line.now }
     ensures within { IfSome result (fields.IsPart (length line.now)) }

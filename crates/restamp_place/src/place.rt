@@ -53,7 +53,7 @@ pub fn body_of(line: &[u8]) -> &[u8]
     &line[..body_length(line)]
 }
 
-// The part from after the first `begin` up to the next `close`; `None` if either doesn't occur.
+// The part from after the first `begin` up to the next `close`; `None` if there is no `begin`, or no `close` after it.
 fn find_between(begin: &[u8], close: &[u8], line: &[u8]) -> Option<Span>
     ensures value { result ≡ span_of (Place.Between begin.entry close.entry) line.now }
     ensures within { IfSome result (IsPart (length line.now)) }
@@ -80,8 +80,8 @@ fn find_after(key: &[u8], line: &[u8]) -> Option<Span>
 
 /// The part of the line that is its timestamp, or that starts with it if [`Place::is_prefix`].
 ///
-/// `None` for field 0, too few fields, or a text that doesn't occur; for `Quoted` also if a field up to the requested
-/// one starts with a quote whose closing quote is missing, or isn't followed by the delimiter or the end.
+/// `None` for field 0, too few fields, or a text that doesn't occur (the second of `Between`: after the first); for
+/// `Quoted` also if the closing quote of a field up to that one is missing, or neither delimiter nor end follows it.
 #[inline(always)]
 pub fn find_span(place: Place<'_>, line: &[u8]) -> Option<Span>
     ensures value { result ≡ span_of place.entry line.now }

@@ -140,7 +140,7 @@ fn begins_with(text: &[u8], bytes: &[u8]) -> bool
 }
 
 // How many of the sixteen indexes from `at` come before the first at which the text may occur, judged by its first,
-// middle and last byte; 16 if it occurs at none of them.
+// middle and last byte; 16 if it can occur at none of them.
 #[inline(always)]
 fn first_in_block(text: &[u8], bytes: &[u8], at: usize) -> usize
     requires some { 0 < length text.now }

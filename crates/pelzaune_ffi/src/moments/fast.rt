@@ -1,6 +1,6 @@
 //! Fast paths for the commonest moments of RFC 3339, which read many bytes at once.
 //!
-//! Each returns what the library's parser does, or `None` if it doesn't apply.
+//! Each returns what the library's parser does, or `None` if the fast path doesn't apply.
 pub(super) mod iso8601;
 pub(super) mod rfc2822;
 

@@ -31,7 +31,7 @@ fn may_begin(firsts: Firsts, line: &[u8], place: usize) -> bool
     !(is_alphanumeric(line[place - 1]) & is_alphanumeric(line[place])) & is_in(firsts, line[place])
 }
 
-// How many of the sixteen bytes from `from` on can be skipped, since no text may start at them.
+// How many of the sixteen bytes from `from` on come before the first at which a text may start; 16 if there is none.
 #[inline(always)]
 fn first_within(firsts: Firsts, line: &[u8], from: usize) -> u8
     requires some { 0 < from }
@@ -51,7 +51,7 @@ fn first_within(firsts: Firsts, line: &[u8], from: usize) -> u8
     first
 }
 
-// An index from `from` to `to`, such that no text may start from `from` on before it.
+// The first index from `from` to before `to` at which a text may start; `to` if there is none.
 #[inline(always)]
 fn find_within(firsts: Firsts, line: &[u8], from: usize, to: usize) -> usize
     requires some { 0 < from }
@@ -69,8 +69,8 @@ fn find_within(firsts: Firsts, line: &[u8], from: usize, to: usize) -> usize
     to
 }
 
-/// An index from `from` to the line's length, such that no timestamp may start from `from` on before it. `None` would
-/// mean unknown, but isn't returned.
+/// The first index from `from` on at which a timestamp may start, by its byte and the one before it; the line's length
+/// if there is none. `None` would mean unknown, but isn't returned.
 #[inline(always)]
 pub(super) fn next_start(firsts: Firsts, line: &[u8], from: usize) -> Option<usize>
     requires some { 0 < from }

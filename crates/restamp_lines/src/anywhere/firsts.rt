@@ -133,7 +133,7 @@ pub(super) fn is_gap(byte: u8) -> bool
     (byte == b' ') | (byte == b'\t') | (byte == b'\r') | (byte == b'(')
 }
 
-// Whether the byte is the ASCII letter, which is given in lower case, in either case.
+// Whether the byte is this ASCII letter in lower or upper case. `letter` is given in lower case.
 #[inline(always)]
 fn is_letter(byte: u8, letter: u8) -> bool
     requires { 97 ≤ letter }

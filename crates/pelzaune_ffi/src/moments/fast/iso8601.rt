@@ -1,6 +1,6 @@
 //! Fast paths for the commonest texts of ISO 8601: a calendar date, a time without a fraction, and an optional offset.
 //!
-//! Each returns what the library's parser does, or `None` if it doesn't apply.
+//! Each returns what the library's parser does, or `None` if the fast path doesn't apply.
 ghost use Rattle.std.specs.Prelude.{◌≡◌, List, ℕ, IfSome, IsTrue, Ok, Some, None, true};
 ghost use Rattle.time_values.specs.Calendar.{greatest_year};
 ghost use Rattle.time_readers.specs.IsoPieces.{point};

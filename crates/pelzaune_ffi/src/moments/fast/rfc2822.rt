@@ -1,6 +1,6 @@
 //! Fast path for the commonest mail dates, which reads many bytes at once.
 //!
-//! Each function returns what the library's parser does, or `None` if it doesn't apply.
+//! Each function returns what the library's parser does, or `None` if the fast path doesn't apply.
 ghost use Rattle.std.specs.Prelude.{IfSome, Ok, false};
 ghost use Rattle.time_values.specs.Calendar.{greatest_year};
 ghost use Rattle.time_readers.specs.Direct.{RefusesRfc2822};

@@ -122,8 +122,8 @@ pub(super) fn dated(steps: &[StoredStep]) -> Option<Dated>
     None
 }
 
-/// The byte between the parts of steps that are an hour of the 24-hour clock, a minute and a second. `None`: not
-/// recognized as such steps with equal bytes.
+/// The byte between the parts of steps that are an hour of the 24-hour clock, a minute and a second, padded with zeros.
+/// `None`: not recognized as such steps with equal bytes.
 #[inline(always)]
 pub(super) fn timed(steps: &[StoredStep]) -> Option<u8>
     ensures { IfSome result (λ between. map spec.step_of steps.now ≡ time_parts between) }
@@ -139,7 +139,7 @@ pub(super) fn timed(steps: &[StoredStep]) -> Option<u8>
 }
 
 // The byte before an offset, and the one between its hour and minute, each `None` if there is none. `None` as a whole:
-// the steps are no such offset.
+// the steps aren't an hour and a minute that `is_offset` accepts, with at most these two bytes.
 #[inline(always)]
 fn offset(steps: &[StoredStep]) -> Option<(Option<u8>, Option<u8>)>
     ensures { IfSome result (λ form. map spec.step_of steps.now ≡ byte_parts form.0 ++ offset_parts form.1) }
@@ -155,8 +155,8 @@ fn offset(steps: &[StoredStep]) -> Option<(Option<u8>, Option<u8>)>
     Some((None, within))
 }
 
-// The byte between the hour and the minute of an offset, or `Some(None)` if there is none. `None`: the steps are no
-// such offset.
+// The byte between the hour and the minute of an offset, or `Some(None)` if there is none. `None`: the steps aren't an
+// hour and a minute that `is_offset` accepts, with at most one byte between them.
 #[inline(always)]
 fn signed(steps: &[StoredStep]) -> Option<Option<u8>>
     ensures { IfSome result (λ between. map spec.step_of steps.now ≡ offset_parts between) }

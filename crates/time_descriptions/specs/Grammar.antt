@@ -196,7 +196,7 @@ Describes version text tree =
     (is : List Item) × (description version text ≡ Ok (is, [])) × (tree ≡ sequence (trees_of (items_of is)))
 
 -- ---- How many steps a text starts, up to its first fault or its end: those of what is read; and for a group that is
--- still open there, one for itself, one for each list that is started in a choice, and those of the items inside
+-- still open there, one for itself, one for each list that is started in a choice, and those that they start
 
 -- the count for what is read, and 0 for a fault
 abbrev pub counted : {A : Type 0} → (A → ℕ) → Result A Fault → ℕ

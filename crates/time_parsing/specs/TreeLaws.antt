@@ -100,8 +100,8 @@ abbrev mutual
   HaveNoChoice none = Unit {0}
   HaveNoChoice (more t ts) = HasNoChoice t × HaveNoChoice ts
 
--- If a tree contains neither an optional tree nor a choice, each of its readings by the range `Y` is also one by `Z`,
--- with equal rest and record.
+-- Each reading of a tree without an optional tree and a choice by the range `Y` is also one by `Z`, with equal rest and
+-- record.
 abbrev pub KeepsReadings : ℕ → ℕ → Type 0
 KeepsReadings Y Z =
     (t : Tree) → HasNoChoice t → (bytes : List ℕ) (r : Record) (rest : List ℕ) (q : Record)

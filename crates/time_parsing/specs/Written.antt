@@ -1,4 +1,4 @@
--- Written texts of RFC 3339, RFC 2822 and ISO 8601, which are parsed back.
+-- Written texts of RFC 3339 and RFC 2822, which are parsed back.
 use Rattle.std.specs.Prelude.{◌≡◌, ℕ, ◌-◌, ◌*◌, ◌/◌, ◌^◌, ◌<◌, List, None, Ok, pos, neg_ℤ, ◌++◌, codes, Some, ◌≢◌}
 use Rattle.time_values.specs.Moments.{offset_date, offset_time, offset_of, offset_instant, utc_date, utc_instant}
 use Rattle.time_values.specs.Times as Times
@@ -77,7 +77,7 @@ canonical_text v =
     date_text (offset_date v) ++ codes "T" ++ clock_text (offset_time v)
     ++ codes "." ++ fixed 9 (Times.nanosecond (offset_time v)) ++ numeric_text (offset_of v)
 
--- The moment has a canonical text: its year is 0 to 9999, and its offset is whole minutes, -23:59 to +23:59.
+-- The moment has such a text: its year is 0 to 9999, and its offset is whole minutes, at most 23:59.
 pub record HasCanonicalText (v : OffsetDateTime) : Type 0 where
   pub year : IsBetween (pos 0) (pos 9999) (Dates.year (offset_date v))
   pub hours : IsBetween (neg_ℤ (pos 23)) (pos 23) (Offsets.hours (offset_of v))

@@ -70,7 +70,7 @@ IsNotMade Y s e =
     × ((v : OffsetDateTime) × IsMoment s v × (¬ IsLeapSecondValid Y s v)))
 
 -- The error if each place matches its syntax: that of the last place's range, or else of trailing bytes, or else of the
--- moment's numbers (`IsNotMade`).
+-- calendar.
 abbrev pub IsRefusedAfter : ℕ → Option Refusal → MomentNumbers → List ℕ → Refusal → Type 0
 IsRefusedAfter Y (Some r) s rest e = e ≡ r
 IsRefusedAfter Y None s [] e = IsNotMade Y s e

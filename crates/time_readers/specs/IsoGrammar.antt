@@ -90,7 +90,7 @@ offset_after kind bytes None =
 unfoldable pub offset_by_pieces : ExtendedKind → List ℕ → Option (Found OffsetNumbers)
 offset_by_pieces kind bytes = offset_after kind bytes (byte 90 bytes)
 
--- ---- What the fast paths of ISO 8601 parse
+-- ---- The short forms of ISO 8601
 
 -- the number of two digits, which are given as ASCII bytes
 abbrev pub two_digits : ℕ → ℕ → ℕ

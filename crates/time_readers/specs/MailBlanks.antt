@@ -28,7 +28,7 @@ unfoldable pub no_crlf : Reader
 no_crlf s = if is_some (crlf s) then None else Some s
 
 -- FWS (section 3.2.3): [*WSP CRLF] 1*WSP, which is blanks and one fold at most, or obs-FWS (section 4.2), which is
--- blanks and any number of folds. A fold that comes first is taken alone; after blanks, each CRLF must begin a fold.
+-- blanks and any number of folds. A fold needs its blanks: no CRLF follows that isn't part of a fold.
 unfoldable pub fws : Reader
 fws = line_fold or blanks then zero_or_more line_fold then no_crlf
 
@@ -73,7 +73,7 @@ unfoldable pub opt_cfws_colon_opt_cfws : Reader
 opt_cfws_colon_opt_cfws = opt_cfws then char ":" then opt_cfws
 
 -- ---- Zone names of mail dates: obs-zone of RFC 2822, section 4.3, which is an alternative to zone of section 3.3.
--- The names match in upper and lower case, like all literals of the RFC's grammar.
+-- They match in any case, as all of the RFC's grammar.
 
 -- The names of three letters with their hours from UTC: four zones of North America, each by standard and by daylight
 -- time, and Greenwich.

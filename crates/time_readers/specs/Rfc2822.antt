@@ -42,7 +42,7 @@ IsYear false text after v =
 abbrev pub IsSilent : Reader → Numbers → Form Numbers
 IsSilent reader n text after m = IsRead reader text after × (m ≡ n)
 
--- the blanks after a year: without comments for `true`, a year of four digits; with or without for `false`, one of two
+-- the blanks after a year: without comments if it has four digits, which is `true`, and with comments if it has two
 abbrev pub year_blanks : Bool → Reader
 year_blanks true = fws
 year_blanks false = cfws
@@ -132,7 +132,7 @@ month_places = DayBlanks ∷ MonthName ∷ MonthBlanks ∷ Year ∷ YearBlanks �
 abbrev pub time_places : List Place
 time_places = Hour ∷ HourColon ∷ Minute ∷ Second ∷ TimeBlanks ∷ []
 
--- the places after the day and before the offset, in order
+-- the places from after the day to the offset, in order
 abbrev pub to_offset_places : List Place
 to_offset_places = month_places ++ time_places
 

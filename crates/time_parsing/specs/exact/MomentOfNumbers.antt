@@ -28,8 +28,8 @@ abbrev pub clock_of_numbers : MomentNumbers → Clock
 clock_of_numbers s =
     record { hour = s.hour; minute = s.minute; second = moment_second s; nanosecond = moment_nanosecond s }
 
--- the record has the text's numbers, with the month m, 0 as the offset's second, and no timestamp; a second of 60 is a
--- leap second, which the record allows
+-- the record has the text's numbers, with the month m, no seconds of an offset, and no timestamp; a second of 60 is a
+-- leap second, which it allows
 pub record HasNumbers (r : Record) (m : Month) (s : MomentNumbers) : Type 0 where
   pub row : first_row r ≡ Some (by_month_and_day (pos s.year) m s.day)
   pub month : month_number m ≡ s.month

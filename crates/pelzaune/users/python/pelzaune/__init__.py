@@ -54,12 +54,25 @@ Lines and texts without an offset may have one from an argument: a tzinfo, an of
 >>> pelzaune.parse_many(["1970-01-02T00:00:00"], "iso8601", offset="+01:00")
 array('q', [82800000000000])
 
-A datetime is formatted too, by a member of `Format` or its name, also in another time zone:
+A datetime is formatted too, by each of these formats, also in another time zone:
 
->>> pelzaune.format_datetime(pelzaune.parse("1985-04-12T23:20:50.52-08:30"), "rfc2822")
+>>> seen = pelzaune.parse("1985-04-12T23:20:50.52-08:30")
+>>> pelzaune.format_datetime(seen, "rfc2822")
 'Fri, 12 Apr 1985 23:20:50 -0830'
->>> pelzaune.format_datetime(pelzaune.parse("1985-04-12T23:20:50.52-08:30"), zone="Europe/Berlin")
+>>> pelzaune.format_datetime(seen, zone="Europe/Berlin")
 '1985-04-13T09:50:50.52+02:00'
+>>> pelzaune.format_datetime(seen, "%A, %d %B %Y")
+'Friday, 12 April 1985'
+
+Many datetimes become a list of texts. The first without a text raises an error with its index:
+
+>>> pelzaune.format_many([seen, seen.replace(year=1899)], day)
+['12.04.1985', '12.04.1899']
+>>> try:
+...     pelzaune.format_many([seen, seen.replace(year=1899)], "rfc2822")
+... except pelzaune.FormatError as error:
+...     print(error, "|", error.component, "|", error.text_index)
+value 1: the 'year' component has no text in that format | year | 1
 
 A text is a `str` or `bytes`, and is parsed as a whole. A call never returns a value for a text that its format rejects.
 """
@@ -76,6 +89,7 @@ from pelzaune._pelzaune import (
     column,
     column_into,
     format_datetime,
+    format_many,
     parse,
     parse_date,
     parse_many,
@@ -86,6 +100,6 @@ from pelzaune._pelzaune import (
 
 __all__ = [
     "ISO8601", "NO_COUNT", "RFC2822", "RFC3339", "Description", "DescriptionError", "Format", "FormatError", "ParseError", "column",
-    "column_into", "format_datetime", "parse", "parse_date", "parse_many", "parse_parts", "parse_time", "unix_ns",
+    "column_into", "format_datetime", "format_many", "parse", "parse_date", "parse_many", "parse_parts", "parse_time", "unix_ns",
 ]
 __version__ = "1.0.0"

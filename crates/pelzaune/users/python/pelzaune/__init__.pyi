@@ -1,7 +1,7 @@
 import array
 import datetime
 import enum
-from typing import Any, Final, Iterable, Literal, Optional, Tuple, Union, final, overload
+from typing import Any, Final, Iterable, List, Literal, Optional, Tuple, Union, final, overload
 
 class Format(enum.IntEnum):
     RFC3339: int
@@ -23,6 +23,7 @@ class DescriptionError(ParseError): ...
 
 class FormatError(ValueError):
     component: Optional[str]
+    text_index: Optional[int]
 
 @final
 class Description:
@@ -60,4 +61,7 @@ def parse_many(
 # `text` and `out` are any contiguous buffers, of bytes and of signed numbers of 64 bits.
 def column(text: Any, format: _Format = ..., offset: Optional[_Zone] = ...) -> "array.array[int]": ...
 def column_into(text: Any, out: Any, format: _Format = ..., offset: Optional[_Zone] = ...) -> Tuple[int, int]: ...
-def format_datetime(value: datetime.datetime, format: Union[int, str, bytes] = ..., zone: Optional[_Zone] = ...) -> str: ...
+def format_datetime(value: datetime.datetime, format: _Format = ..., zone: Optional[_Zone] = ...) -> str: ...
+
+# `values` are those of any iterable, such as a list or a Series of pandas.
+def format_many(values: Iterable[datetime.datetime], format: _Format = ..., zone: Optional[_Zone] = ...) -> List[str]: ...

@@ -179,9 +179,13 @@ static PyMethodDef methods[] = {
         "such texts. An object that isn't a text raises TypeError."),
     CALL(_parse_present, "(texts, format, errors, offset, missing)", "As parse_many, if some objects stand for a missing text: for pelzaune.pandas."),
     CALL(format_datetime, "(value, format=RFC3339, zone=None)", "The text of a datetime that has a zone.\n\n"
-        "The format is a member of Format or its name: a description only parses. The text is in another zone, if there is an\n"
-        "argument: a tzinfo, an offset such as '+05:30', or the name of a time zone. A Timestamp of pandas keeps its\n"
-        "nanoseconds. Raises FormatError if the datetime has no text in that format."),
+        "The text is in another zone, if there is an argument: a tzinfo, an offset such as '+05:30', or the name of a time\n"
+        "zone. A Timestamp of pandas keeps its nanoseconds. By a description the text has all optional items and the first\n"
+        "item of each choice. Raises FormatError if the datetime has no text in that format, or if the text by a description\n"
+        "has more than 1024 bytes or isn't UTF-8."),
+    CALL(format_many, "(values, format=RFC3339, zone=None)", "The texts of the datetimes of an iterable, as a list, each as by format_datetime.\n\n"
+        "The first datetime without a text raises FormatError with its index as `text_index`. Anything else than a datetime\n"
+        "raises TypeError. Other threads run meanwhile, and signals are handled."),
     { NULL, NULL, 0, NULL },
 };
 
@@ -209,8 +213,9 @@ static int add_names(PyObject *made)
         "The error of a malformed description. `index` is that of its first fault, or None if it is too long.",
         NULL);
     format_error = add_error(made, "FormatError", PyExc_ValueError,
-        "The error of a datetime that a format can't write. `component` is the name of the component that it can't, or None.",
-        Py_BuildValue("{s:O}", "component", Py_None));
+        "The error of a datetime that a format can't write. `component` is the name of the component that it can't, or None,\n"
+        "and `text_index` the index of a text of many.",
+        Py_BuildValue("{s:O,s:O}", "component", Py_None, "text_index", Py_None));
     if (!parse_error || !description_error || !format_error || add_description(made)) return -1;
     PyObject *arrays = PyImport_ImportModule("array");
     array_of_q = arrays ? PyObject_CallMethod(arrays, "array", "s", "q") : NULL;

@@ -43,6 +43,38 @@ static PyObject *raise(PyObject *type, const char *text, PyObject *component)
     return raise_at(type, text, component, Py_NewRef(Py_None));
 }
 
+/* Adds the index of a text, among many, to the raised error. */
+static void tell_text(size_t index)
+{
+    PyObject *type, *error, *trace;
+    PyErr_Fetch(&type, &error, &trace);
+    PyErr_NormalizeException(&type, &error, &trace);
+    if (tell(error, "text_index", PyLong_FromSize_t(index))) PyErr_Clear();
+    PyErr_Restore(type, error, trace);
+}
+
+/* Clears the raised error, and returns it as an object without its traceback. */
+static PyObject *take_raised(void)
+{
+    PyObject *type, *error, *trace;
+    PyErr_Fetch(&type, &error, &trace);
+    PyErr_NormalizeException(&type, &error, &trace);
+    Py_XDECREF(type);
+    Py_XDECREF(trace);
+    return error;
+}
+
+/* Makes an error the cause of the raised one. Takes over the reference. */
+static void add_cause(PyObject *cause)
+{
+    PyObject *type, *error, *trace;
+    PyErr_Fetch(&type, &error, &trace);
+    PyErr_NormalizeException(&type, &error, &trace);
+    if (error) PyException_SetCause(error, cause);
+    else Py_XDECREF(cause);
+    PyErr_Restore(type, error, trace);
+}
+
 /* The bytes of UTF-8 before the character at that index. */
 static PyObject *bytes_before(PyObject *text, Py_ssize_t index)
 {
@@ -57,21 +89,13 @@ static PyObject *bytes_before(PyObject *text, Py_ssize_t index)
  * becomes. */
 static void raise_surrogate(PyObject *type, PyObject *text)
 {
-    PyObject *kind, *cause, *trace, *error;
     Py_ssize_t start = 0;
-    PyErr_Fetch(&kind, &cause, &trace);
-    PyErr_NormalizeException(&kind, &cause, &trace);
+    PyObject *cause = take_raised();
     PyObject *message = PyUnicodeEncodeError_GetStart(cause, &start) ? NULL : PyObject_Str(cause);
     const char *said = message ? PyUnicode_AsUTF8(message) : NULL;
     if (said) raise_at(type, said, Py_NewRef(Py_None), bytes_before(text, start));
     Py_XDECREF(message);
-    Py_XDECREF(kind);
-    Py_XDECREF(trace);
-    PyErr_Fetch(&kind, &error, &trace);
-    PyErr_NormalizeException(&kind, &error, &trace);
-    if (error) PyException_SetCause(error, cause);
-    else Py_XDECREF(cause);
-    PyErr_Restore(kind, error, trace);
+    add_cause(cause);
 }
 
 /* The bytes of a `str` or of `bytes`. A `str` is read as UTF-8, which every format rejects unless it is ASCII. One that

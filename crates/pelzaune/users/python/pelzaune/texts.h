@@ -24,16 +24,6 @@ typedef struct {
     int refuses;        /* whether a rejected text has an entry instead of raising an error */
 } source;
 
-/* Adds the index of a text to the raised error. */
-static void tell_text(size_t index)
-{
-    PyObject *type, *error, *trace;
-    PyErr_Fetch(&type, &error, &trace);
-    PyErr_NormalizeException(&type, &error, &trace);
-    if (tell(error, "text_index", PyLong_FromSize_t(index))) PyErr_Clear();
-    PyErr_Restore(type, error, trace);
-}
-
 /* Makes room for the characters of an element. */
 static int widen(source *from, size_t width)
 {

@@ -37,7 +37,12 @@ class Arguments(unittest.TestCase):
             self.assertRaises(TypeError, call, format=1)
         self.assertRaises(TypeError, pelzaune.column_into, "2021")
         self.assertRaises(TypeError, pelzaune.column_into, out=array.array("q"))
-        self.assertRaises(TypeError, pelzaune.format_datetime)
+        for call in (pelzaune.format_datetime, pelzaune.format_many):
+            self.assertRaises(TypeError, call)
+            self.assertRaises(TypeError, call, [], 1, None, None)
+            self.assertRaises(TypeError, call, [], text=[])
+            self.assertRaises(TypeError, call, [], 1, format=1)
+            self.assertRaises(TypeError, call, format=1)
 
     def test_descriptions(self):
         for it in (None, 5, 1.5, [], bytearray(b"%Y"), pelzaune.Description("%Y")):
@@ -64,11 +69,18 @@ class Arguments(unittest.TestCase):
         self.assertEqual(sys.getrefcount(form), before)
 
     def test_values_to_write(self):
-        for it in (None, "2021", datetime.date(2021, 1, 2), datetime.time(1), 5):
-            self.assertRaises(TypeError, pelzaune.format_datetime, it)
         when = datetime.datetime(2021, 1, 2, tzinfo=datetime.timezone.utc)
-        self.assertRaises(TypeError, pelzaune.format_datetime, when, "%Y")
-        self.assertRaises(pelzaune.FormatError, pelzaune.format_datetime, when.replace(tzinfo=None))
+        for form in (pelzaune.RFC3339, "%Y", pelzaune.Description("[hour]")):
+            for it in (None, "2021", datetime.date(2021, 1, 2), datetime.time(1), 5):
+                self.assertRaisesRegex(TypeError, "value must be datetime, not", pelzaune.format_datetime, it, form)
+            with self.assertRaises(pelzaune.FormatError) as caught:
+                pelzaune.format_datetime(when.replace(tzinfo=None), form)
+            self.assertEqual((str(caught.exception), caught.exception.component), ("a datetime without a zone has no text", "offset hour"))
+        for it in (None, 1.5, [], bytearray(b"%Y"), True):
+            self.assertRaises(TypeError, pelzaune.format_datetime, when, it)
+        self.assertRaises(pelzaune.DescriptionError, pelzaune.format_datetime, when, "[yaer]")
+        self.assertRaises(pelzaune.DescriptionError, pelzaune.format_datetime, when, "%Z")
+        self.assertRaises(pelzaune.DescriptionError, pelzaune.format_datetime, when, "%Y\ud800")
 
         class Odd(datetime.tzinfo):
             def __init__(self, answer):
@@ -82,6 +94,63 @@ class Arguments(unittest.TestCase):
         self.assertRaises(pelzaune.FormatError, pelzaune.format_datetime, when.replace(tzinfo=Odd(None)))
         self.assertRaises(KeyError, pelzaune.format_datetime, when.replace(tzinfo=Odd(KeyError)))
         self.assertRaises(TypeError, pelzaune.format_datetime, when.replace(tzinfo=Odd(5)))
+
+    def unwritten(self, form, when=datetime.datetime(9999, 12, 31, tzinfo=datetime.timezone.utc)):
+        """The error of a datetime without a text, which is equal by the description's text and among many."""
+        with self.assertRaises(pelzaune.FormatError) as caught:
+            pelzaune.format_datetime(when, pelzaune.Description(form))
+        error = caught.exception
+        with self.assertRaises(pelzaune.FormatError) as caught:
+            pelzaune.format_datetime(when, form)
+        self.assertEqual((str(caught.exception), caught.exception.component, caught.exception.text_index), (str(error), error.component, None))
+        with self.assertRaises(pelzaune.FormatError) as caught:
+            pelzaune.format_many([when], form)
+        self.assertEqual((str(caught.exception), caught.exception.component, caught.exception.text_index), (f"value 0: {error}", error.component, 0))
+        return error
+
+    def test_no_text(self):
+        for form in ("[ignore count:1]", "[year][optional [[ignore count:2]]]", "[first [[ignore count:1]] [[year]]]", b"\xff[ignore count:1]"):
+            error = self.unwritten(form)
+            self.assertEqual((str(error), error.component), ("the 'ignore' component has no text in that format", "ignore"))
+        when = datetime.datetime(2021, 1, 2, tzinfo=datetime.timezone.utc)
+        self.assertEqual(pelzaune.format_datetime(when, "[first [[year]] [[ignore count:1]]]"), "2021")
+
+    def test_too_long(self):
+        """9999-12-31T00:00:00Z is 253402214400 seconds after 1970, so the count of nanoseconds has 21 digits. 48 of these,
+        and 16 bytes, have 48 * 21 + 16 = 1024 bytes."""
+        when = datetime.datetime(9999, 12, 31, tzinfo=datetime.timezone.utc)
+        count, counts = "253402214400" + "0" * 9, "[unix_timestamp precision:nanosecond]" * 48
+        self.assertEqual(pelzaune.format_datetime(when, counts + "x" * 16), count * 48 + "x" * 16)
+        self.assertEqual(pelzaune.format_datetime(when, counts + "x" * 14 + "[day]"), count * 48 + "x" * 14 + "31")
+        for form in (counts + "x" * 15 + "[day]", counts + "[unix_timestamp precision:nanosecond]", counts + "[weekday]" * 3, counts + "[year]" * 5):
+            error = self.unwritten(form, when)
+            self.assertEqual((str(error), error.component), ("the text has more than 1024 bytes", None))
+        # The first error is that of the first component.
+        self.assertEqual(self.unwritten(counts + "[year]" * 5 + "[ignore count:1]").component, None)
+        self.assertEqual(self.unwritten("[ignore count:1]" + counts + "[year]" * 5).component, "ignore")
+
+    def test_other_bytes_to_write(self):
+        """A text that isn't UTF-8, which only a description of bytes has, isn't written."""
+        when = datetime.datetime(2021, 1, 2, tzinfo=datetime.timezone.utc)
+        for form in (b"\xff[year]", b"%Y\xc3", b"[day]\xed\xa0\x80", b"\xc3[year]\xa9"):
+            error = self.unwritten(form, when)
+            self.assertRegex(str(error), "'utf-8' codec can't decode byte")
+            self.assertIsNone(error.component)
+            self.assertIsInstance(error.__cause__, UnicodeDecodeError)
+        self.assertEqual(pelzaune.format_datetime(when, b"\xc3\xa9 [year]"), "\u00e9 2021")
+        self.assertEqual(pelzaune.parse_date(b"\xff2021-01-02", b"\xff%F"), when.date())
+
+    def test_made_descriptions_to_write(self):
+        """Any description has a text or a named error."""
+        r, when = random.Random(1024), datetime.datetime(2021, 1, 2, 3, 4, 5, tzinfo=datetime.timezone.utc)
+        pieces = [b"%Y", b"%c", b"%", b"%%", b"[", b"]", b"[year]", b"[optional [", b"[first [", b"]]", b"\\[", b"\xff", b"\xc3\xa9", b"x", b"[ignore count:9]",
+                  b"[unix_timestamp]", b"%.f", b"%-d", b"[end]", b" "]
+        for _ in range(5000):
+            form = b"".join(r.choices(pieces, k=r.randrange(1, 12)))
+            try:
+                self.assertIs(type(pelzaune.format_datetime(when, pelzaune.Description(form))), str)
+            except (pelzaune.DescriptionError, pelzaune.FormatError):
+                pass
 
 
 class Texts(unittest.TestCase):

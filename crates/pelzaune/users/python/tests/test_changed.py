@@ -1,4 +1,6 @@
-"""Tests of parse_many over objects that change while they are read or lie about themselves, in threads, and of leaks."""
+"""Tests of parse_many and format_many over objects that change while they are read or lie about themselves, in threads, and
+of leaks."""
+import datetime
 import gc
 import itertools
 import random
@@ -10,6 +12,8 @@ import unittest
 
 import pelzaune
 from test_many import LOG, MANY, TEXT, alone, made_texts, many
+
+WHEN = datetime.datetime(1970, 1, 1, 0, 0, 1, tzinfo=datetime.timezone.utc)
 
 
 class Lying(list):
@@ -91,6 +95,25 @@ class Changed(unittest.TestCase):
 
         self.assertEqual(many(nested(5)), [10**9] * 3)
 
+    def test_datetimes_that_change_the_list(self):
+        class Shortening(datetime.tzinfo):
+            def utcoffset(self, when):
+                values.pop()
+                return datetime.timedelta(0)
+
+        zone = Shortening()
+        values = [WHEN.replace(tzinfo=zone) for _ in range(MANY)]
+        self.assertEqual(pelzaune.format_many(values), [TEXT] * (MANY // 2))
+
+        class Nesting(datetime.tzinfo):
+            def utcoffset(self, when):
+                found.append(pelzaune.format_many([WHEN] * 3, "%s"))
+                return datetime.timedelta(0)
+
+        found = []
+        self.assertEqual(pelzaune.format_many([WHEN.replace(tzinfo=Nesting())] * 2), [TEXT] * 2)
+        self.assertEqual(found, [["1"] * 3] * 2)
+
     def test_other_threads_change_the_list(self):
         texts, stop = [TEXT] * MANY, threading.Event()
 
@@ -121,22 +144,29 @@ class Changed(unittest.TestCase):
         try:
             signal.setitimer(signal.ITIMER_REAL, 0.05)
             self.assertRaises(Alarm, pelzaune.parse_many, itertools.chain(itertools.repeat(TEXT, 10**8), itertools.repeat("?")), errors="none")
+            signal.setitimer(signal.ITIMER_REAL, 0.05)
+            self.assertRaises(Alarm, pelzaune.format_many, itertools.repeat(WHEN, 10**8))
         finally:
             signal.setitimer(signal.ITIMER_REAL, 0)
             signal.signal(signal.SIGALRM, before)
 
 
 class Threads(unittest.TestCase):
-    def test_others_run_meanwhile(self):
-        texts = ["02/Jan/2021:03:04:05 -0030"] * 200000
-        done, turns, found = threading.Event(), 0, []
-        thread = threading.Thread(target=lambda: (found.append(pelzaune.parse_many(texts, LOG)), done.set()))
+    def others_run(self, call, *given):
+        """The result of a call in another thread, while this one runs."""
+        turns, found = 0, []
+        thread = threading.Thread(target=lambda: found.append(call(*given)))
         thread.start()
-        while not done.is_set():
+        while thread.is_alive():
             turns += 1
         thread.join()
         self.assertTrue(turns > 1000)
-        self.assertEqual(set(found[0]), {pelzaune.unix_ns(texts[0], LOG)})
+        return found[0]
+
+    def test_others_run_meanwhile(self):
+        texts = ["02/Jan/2021:03:04:05 -0030"] * 200000
+        self.assertEqual(set(self.others_run(pelzaune.parse_many, texts, LOG)), {pelzaune.unix_ns(texts[0], LOG)})
+        self.assertEqual(set(self.others_run(pelzaune.format_many, [WHEN] * 200000)), {TEXT})
 
     def test_same_list_in_many_threads(self):
         texts, form = made_texts(MANY), pelzaune.Description("[year]-[month]-[day]T[hour]:[minute]:[second]Z")
@@ -160,7 +190,22 @@ class Held(unittest.TestCase):
     def calls(self):
         text, byte, odd, wrong = "".join([TEXT]), bytes(bytearray(TEXT.encode())), "".join(["\u00e9", TEXT]), "".join([TEXT, "\ud800"])
         form, other = pelzaune.Description(LOG), object()
-        return [text, byte, odd, wrong, form, other], [
+        zone = datetime.timezone(datetime.timedelta(hours=1))
+        when, naive = datetime.datetime(2021, 1, 2, tzinfo=zone), datetime.datetime(2021, 1, 2)
+        return [text, byte, odd, wrong, form, other, zone, when, naive], [
+            lambda: pelzaune.format_datetime(when),
+            lambda: pelzaune.format_datetime(when, form, zone),
+            lambda: pelzaune.format_datetime(when, byte),
+            lambda: pelzaune.format_datetime(naive, form),
+            lambda: pelzaune.format_datetime(other, form, zone),
+            lambda: pelzaune.format_datetime(when, form, other),
+            lambda: pelzaune.format_datetime(when, b"%Y\xff"),
+            lambda: pelzaune.format_many([when] * 30, form, zone),
+            lambda: pelzaune.format_many(iter([when, naive, when]), form, zone),
+            lambda: pelzaune.format_many([when, other, when]),
+            lambda: pelzaune.format_many([when, when], b"[year]\xff", zone),
+            lambda: pelzaune.format_many([when], "[ignore count:1]"),
+            lambda: pelzaune.format_many(other, form, zone),
             lambda: pelzaune.parse_many([text, byte]),
             lambda: pelzaune.parse_many(iter([text, byte, odd, wrong]), errors="none"),
             lambda: pelzaune.parse_many([text] * 300),

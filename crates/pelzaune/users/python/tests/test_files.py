@@ -244,6 +244,12 @@ class Interrupts(unittest.TestCase):
             with self.subTest(given=given[1:]):
                 self.assertLess(min(self.late(pelzaune.parse_many, *given) for _ in range(3)), self.MOST)
 
+    def test_datetimes(self):
+        when = datetime.datetime(2021, 1, 2, tzinfo=datetime.timezone.utc)
+        for given in (("rfc3339",), ("%A, %d %B %Y",), ("iso8601", "Europe/Berlin")):
+            with self.subTest(given=given):
+                self.assertLess(min(self.late(pelzaune.format_many, itertools.repeat(when, 10**8), *given) for _ in range(3)), self.MOST)
+
     def test_state_after(self):
         lines = bytearray(LINE * 10**7)
         self.late(pelzaune.column, lines)

@@ -1,6 +1,7 @@
-"""Tests of parse_many: every kind of iterable and of text, and errors."""
+"""Tests of parse_many and format_many: every kind of iterable, of text and of datetime, and errors."""
 import array
 import collections
+import datetime
 import random
 import unittest
 
@@ -207,6 +208,104 @@ class Texts(unittest.TestCase):
         for length in (2**18 - 2, 2**18 - 1, 2**18, 2**19):
             texts = [TEXT, "x" * length, TEXT[:-1] + ".0" + "0" * length + "Z", "", TEXT] * 3
             self.assertEqual(many(texts, errors="none"), alone(texts))
+
+
+class Written(unittest.TestCase):
+    """The texts of many datetimes."""
+    UTC = datetime.timezone.utc
+    ONE = datetime.datetime(1970, 1, 1, 0, 0, 1, tzinfo=UTC)
+    OTHER = datetime.datetime(1985, 4, 12, 23, 20, 50, 520000, datetime.timezone(datetime.timedelta(hours=-8, minutes=-30)))
+
+    def test_iterables(self):
+        values, texts = [self.ONE, self.OTHER], ["1970-01-01T00:00:01Z", "1985-04-12T23:20:50.52-08:30"]
+        for it in (values, tuple(values), iter(values), (value for value in values), collections.deque(values), dict.fromkeys(values), map(lambda it: it, values)):
+            got = pelzaune.format_many(it)
+            self.assertEqual((type(got), got), (list, texts))
+        self.assertEqual(pelzaune.format_many(values=values[::-1]), texts[::-1])
+        self.assertEqual(pelzaune.format_many({self.ONE}), texts[:1])
+        for empty in ([], (), iter([]), {}):
+            self.assertEqual(pelzaune.format_many(empty), [])
+
+        class Indexed:
+            def __getitem__(self, index):
+                return values[index]
+
+        self.assertEqual(pelzaune.format_many(Indexed()), texts)
+
+    def test_each_as_alone(self):
+        r = random.Random(7)
+        values = [datetime.datetime(r.randint(1901, 9999), r.randint(1, 12), r.randint(1, 28), r.randrange(24), r.randrange(60), r.randrange(60),
+                                    r.randrange(10**6), datetime.timezone(datetime.timedelta(minutes=r.randint(-1439, 1439)))) for _ in range(5000)]
+        for form in (pelzaune.RFC3339, "rfc2822", pelzaune.Format.ISO8601, LOG, b"%A %c", pelzaune.Description("[ordinal].[year] [unix_timestamp]")):
+            self.assertEqual(pelzaune.format_many(values, form), [pelzaune.format_datetime(it, form) for it in values])
+            self.assertEqual(pelzaune.format_many(iter(values), form, "+05:30"), [pelzaune.format_datetime(it, form, "+05:30") for it in values])
+        self.assertEqual(pelzaune.format_many(values, "%d/%b/%Y:%H:%M:%S %z"), [it.strftime("%d/%b/%Y:%H:%M:%S %z") for it in values])
+        self.assertEqual(pelzaune.format_many([self.ONE] * MANY, "%s"), ["1"] * MANY)
+        self.assertEqual(pelzaune.format_many(map(pelzaune.parse, [TEXT] * MANY)), [TEXT] * MANY)
+
+    def test_zones(self):
+        """23:20:50 at 8:30 behind UTC is 07:50:50 of the next day in UTC. Berlin was an hour ahead in 1970, and two in April 1985."""
+        self.assertEqual(pelzaune.format_many([self.ONE, self.OTHER], zone="Z"), ["1970-01-01T00:00:01Z", "1985-04-13T07:50:50.52Z"])
+        self.assertEqual(pelzaune.format_many([self.ONE, self.OTHER], "%d. %H:%M %z", "Europe/Berlin"), ["01. 01:00 +0100", "13. 09:50 +0200"])
+        self.assertEqual(pelzaune.format_many([self.ONE, self.OTHER], "%H", zone=None), ["00", "23"])
+        for values in ([], [self.ONE]):
+            self.assertRaisesRegex(ValueError, "zone must be", pelzaune.format_many, values, zone="+1")
+            self.assertRaisesRegex(TypeError, "zone must be", pelzaune.format_many, values, zone=5)
+            self.assertRaises(KeyError, pelzaune.format_many, values, zone="Europe/Atlantis")
+            self.assertRaisesRegex(ValueError, "format must be", pelzaune.format_many, values, "rfc-3339")
+            self.assertRaises(pelzaune.DescriptionError, pelzaune.format_many, values, "[moth]")
+
+    def refused(self, values, form=pelzaune.RFC3339, zone=None):
+        with self.assertRaises(pelzaune.FormatError) as caught:
+            pelzaune.format_many(values, form, zone)
+        error = caught.exception
+        return str(error), error.component, error.text_index
+
+    def test_errors(self):
+        """The error is that of the first datetime without a text, with its index."""
+        early, naive = self.ONE.replace(year=1899), self.ONE.replace(tzinfo=None)
+        for count in (0, 1, 1023, 1024, MANY):
+            for it in ([self.ONE] * count + [early, naive, self.ONE], iter([self.ONE] * count + [early, 5])):
+                self.assertEqual(self.refused(it, "rfc2822"), (f"value {count}: the 'year' component has no text in that format", "year", count))
+        for zone in (None, "+01:00"):
+            self.assertEqual(self.refused([self.ONE, naive], LOG, zone), ("value 1: a datetime without a zone has no text", "offset hour", 1))
+        odd = self.ONE.replace(tzinfo=datetime.timezone(datetime.timedelta(microseconds=1)))
+        self.assertEqual(self.refused([self.ONE, self.ONE, odd], LOG), ("value 2: an offset of a part of a second has no text", "offset second", 2))
+        self.assertEqual(self.refused([self.ONE], "[ignore count:1]"), ("value 0: the 'ignore' component has no text in that format", "ignore", 0))
+        self.assertIsNone(pelzaune.FormatError("text").text_index)
+        with self.assertRaises(pelzaune.FormatError) as caught:
+            pelzaune.format_datetime(naive)
+        self.assertIsNone(caught.exception.text_index)
+        left = iter([self.ONE, early, self.OTHER])
+        self.assertEqual(self.refused(left, "rfc2822")[2], 1)
+        self.assertEqual(list(left), [self.OTHER])
+
+    def test_wrong_types(self):
+        for wrong, name in ((None, "NoneType"), (5, "int"), (TEXT, "str"), (datetime.date(2021, 1, 2), "datetime.date"), (object(), "object")):
+            for before in (0, 1, MANY):
+                with self.assertRaises(TypeError) as caught:
+                    pelzaune.format_many([self.ONE] * before + [wrong])
+                self.assertEqual((str(caught.exception), caught.exception.text_index), (f"value {before} must be datetime, not {name}", before))
+        for wrong in (None, 5, self.ONE, object()):
+            self.assertRaisesRegex(TypeError, "not iterable", pelzaune.format_many, wrong)
+        self.assertRaisesRegex(TypeError, "value 0 must be datetime, not str", pelzaune.format_many, TEXT)
+
+    def test_errors_of_others(self):
+        def raising():
+            yield self.ONE
+            raise KeyError
+
+        with self.assertRaises(KeyError) as caught:
+            pelzaune.format_many(raising())
+        self.assertFalse(hasattr(caught.exception, "text_index"))
+
+        class Odd(datetime.tzinfo):
+            def utcoffset(self, when):
+                raise KeyError
+
+        with self.assertRaises(KeyError) as caught:
+            pelzaune.format_many([self.ONE, self.ONE.replace(tzinfo=Odd())])
+        self.assertEqual(caught.exception.text_index, 1)
 
 
 if __name__ == "__main__":

@@ -150,6 +150,25 @@ class Texts(unittest.TestCase):
         self.assertRaises(pelzaune.FormatError, pelzaune.format_datetime, pandas.Timestamp("2021-01-02"))
         self.assertRaisesRegex(ValueError, "NaT", pelzaune.format_datetime, pandas.NaT)
 
+    def test_descriptions(self):
+        at = pandas.Timestamp("1985-04-12T23:20:50.123456789-08:30")
+        self.assertEqual(pelzaune.format_datetime(at, "%S.%f %9f %6f"), "50.123456789 123456789 123456")
+        self.assertEqual(pelzaune.format_datetime(at, "%H.%N", zone="Europe/Berlin"), "09.123456789")
+        self.assertEqual(pelzaune.format_datetime(at, "[subsecond] [unix_timestamp precision:nanosecond]"), f"123456789 {at.value}")
+
+    def test_many(self):
+        """As many texts as Series.dt.strftime has."""
+        times = pandas.to_datetime(pandas.Series(made_texts(2000)), utc=True)
+        for it in (times, times.dt.tz_convert("Europe/Berlin"), times.astype(object), pandas.DatetimeIndex(times)):
+            wanted = (it if isinstance(it, pandas.DatetimeIndex) else pandas.to_datetime(it).dt).strftime(LOG).tolist()
+            self.assertEqual(pelzaune.format_many(it, LOG), wanted)
+        self.assertEqual(list(pelzaune.parse_many(pelzaune.format_many(times))), [it.value for it in times])
+        with self.assertRaisesRegex(ValueError, "NaT") as caught:
+            pelzaune.format_many(pandas.Series([times[0], pandas.NaT]))
+        self.assertEqual(caught.exception.text_index, 1)
+        with self.assertRaisesRegex(pelzaune.FormatError, "value 0: a datetime without a zone has no text"):
+            pelzaune.format_many(pandas.Series([pandas.Timestamp("2021-01-02")]))
+
 
 class Many(unittest.TestCase):
     def test_series(self):

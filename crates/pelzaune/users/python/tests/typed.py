@@ -1,7 +1,7 @@
 """Each call with the types of its arguments and its result, for a type checker."""
 import array
 import datetime
-from typing import Optional, Tuple
+from typing import List, Optional, Tuple
 
 import pelzaune
 import pelzaune.pandas
@@ -25,6 +25,10 @@ to_datetime = pelzaune.pandas.to_datetime
 counts: Tuple[int, int] = pelzaune.column_into(b"", entries)
 written: str = pelzaune.format_datetime(moment, pelzaune.RFC2822)
 shown: str = pelzaune.format_datetime(moment, "rfc2822", zone="Europe/Berlin")
+by_description: str = pelzaune.format_datetime(moment, day, zone=datetime.timezone.utc)
+by_its_text: str = pelzaune.format_datetime(moment, format=b"%Y-%m-%d")
+texts: List[str] = pelzaune.format_many([moment, moment])
+others: List[str] = pelzaune.format_many((it for it in [moment]), day, "+01:00")
 version: str = pelzaune.__version__
 
 try:
@@ -36,3 +40,4 @@ except pelzaune.ParseError as refusal:
     index = refusal.text_index
 except pelzaune.FormatError as unwritten:
     component = unwritten.component
+    index = unwritten.text_index

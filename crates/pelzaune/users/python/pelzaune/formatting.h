@@ -82,8 +82,8 @@ static PyObject *str_of(const layout *in, const uint8_t *text, size_t length)
     PyObject *made = PyUnicode_DecodeUTF8((const char *)text, (Py_ssize_t)length, NULL);
     if (made || !PyErr_ExceptionMatches(PyExc_UnicodeDecodeError)) return made;
     PyObject *cause = take_raised(), *message = PyObject_Str(cause);
-    const char *said = message ? PyUnicode_AsUTF8(message) : NULL;
-    if (said) refuse_value(in, said, Py_NewRef(Py_None));
+    const char *reason = message ? PyUnicode_AsUTF8(message) : NULL;
+    if (reason) refuse_value(in, reason, Py_NewRef(Py_None));
     Py_XDECREF(message);
     add_cause(cause);
     return NULL;

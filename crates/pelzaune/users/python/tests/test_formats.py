@@ -189,7 +189,7 @@ class Written(unittest.TestCase):
         self.assertEqual(pelzaune.format_datetime(self.SEEN, pelzaune.Description("")), "")
 
     def test_parsed_back(self):
-        """A text by a description of all parts parses as its datetime, in the same zone."""
+        """A text by a description of all parts parses as its datetime, with its offset."""
         r = random.Random(3339)
         for form in map(pelzaune.Description, ("%Y-%m-%dT%H:%M:%S%.f%z", "%A, %d %B %Y, %I:%M:%S.%f %p %:z", "%G-W%V-%u %T.%6f %z", "%N %j %Y %X %z",
                                                "[ordinal padding:none]/[year] [hour padding:space]:[minute]:[second].[subsecond] [offset_hour][offset_minute]")):

@@ -117,6 +117,31 @@ static void test_descriptions(void)
         }
 }
 
+/* Checks that both calls that format a moment by a description, by each prefix of it, agree with the call that checks it,
+ * wherever the description is, and write nothing but the text that fits. */
+static void test_described_texts(void)
+{
+    for (uint32_t syntax = 0; syntax <= 4; syntax++) {
+        int right = 1;
+        for (size_t d = 0; d < sizeof descriptions / sizeof *descriptions; d++)
+            for (size_t size = 0; size <= strlen(descriptions[d]); size++) {
+                pelzaune_description stored;
+                const pelzaune_moment *m = &rows[size % ROWS].value;
+                size_t length = 77, other = 77, index, fits = size % 48;
+                room one, two;
+                memset(&one, 0xa5, sizeof one);
+                memset(&two, 0xa5, sizeof two);
+                pelzaune_status status = pelzaune_read_format_moment(syntax, described(descriptions[d], size), size, m, one.out.bytes, fits, &length);
+                pelzaune_status fault = pelzaune_describe(syntax, at_front(descriptions[d], size), size, &stored, &index);
+                if (!fault) fault = pelzaune_described_format_moment(&stored, m, two.out.bytes, fits, &other);
+                right &= status == fault && length == other && is_whole(&one) && memcmp(&one, &two, sizeof one) == 0;
+                for (size_t k = status ? 0 : length < fits ? length : fits; k < sizeof one.out; k++) right &= one.out.bytes[k] == 0xa5;
+                if (!size) right &= pelzaune_read_format_moment(syntax, NULL, 0, m, NULL, 0, &other) == status;
+            }
+        EXPECT(right);
+    }
+}
+
 /* Checks each capacity of a buffer for the text of a moment and of a status, at the end of a page. */
 static void test_capacities(void)
 {
@@ -137,11 +162,30 @@ static void test_capacities(void)
     EXPECT(right);
 }
 
+static int is_same(const pelzaune_moment *m, const pelzaune_moment *other)
+{
+    return m->year == other->year && m->month == other->month && m->day == other->day && m->hour == other->hour
+        && m->minute == other->minute && m->second == other->second && m->offset == other->offset;
+}
+
+/* Whether the moment is rejected, or has a text by the description that is parsed back. */
+static int is_read_back(const pelzaune_description *all, const pelzaune_moment *m)
+{
+    uint8_t text[64];
+    size_t length = 0;
+    pelzaune_moment again;
+    pelzaune_status status = pelzaune_described_format_moment(all, m, text, sizeof text, &length);
+    if (status) return PELZAUNE_KIND(status) == PELZAUNE_RANGE || PELZAUNE_KIND(status) == PELZAUNE_RANGE_OF_OTHERS;
+    return pelzaune_described_moment(all, text, length, &again) == PELZAUNE_OK && is_same(&again, m) && again.nanosecond == m->nanosecond;
+}
+
 /* Checks that moments of any bytes are rejected, or have a text that is parsed back. */
 static void test_made_moments(void)
 {
+    pelzaune_description all;
     uint64_t seed = 8601;
-    int right = 1;
+    int right = describe(PELZAUNE_BRACKETS_2, "[year]-[ordinal] [hour]:[minute]:[second].[subsecond] "
+        "[offset_hour sign:mandatory]:[offset_minute]:[offset_second]", &all);
     for (int round = 0; round < 100000; round++) {
         pelzaune_moment m;
         uint8_t *bytes = (uint8_t *)&m;
@@ -158,10 +202,10 @@ static void test_made_moments(void)
             size_t length = 0;
             pelzaune_moment again;
             if (pelzaune_format_moment(format, &m, text, sizeof text, &length)) continue;
-            right &= pelzaune_parse_moment(format, text, length, &again) == PELZAUNE_OK && again.year == m.year && again.offset == m.offset
-                && again.month == m.month && again.day == m.day && again.hour == m.hour && again.minute == m.minute
-                && again.second == m.second && again.nanosecond == (format == PELZAUNE_RFC2822 ? 0 : m.nanosecond);
+            right &= pelzaune_parse_moment(format, text, length, &again) == PELZAUNE_OK && is_same(&again, &m)
+                && again.nanosecond == (format == PELZAUNE_RFC2822 ? 0 : m.nanosecond);
         }
+        right &= is_read_back(&all, &m);
     }
     EXPECT(right);
 }
@@ -171,6 +215,7 @@ int main(void)
     if (!has_pages()) return 2;
     test_formats();
     test_descriptions();
+    test_described_texts();
     test_capacities();
     test_made_moments();
     printf("%d passed, %d failed\n", passed, failed);

@@ -17,6 +17,7 @@ static uint8_t *stack;
 #define COMMENT "(((((((((((((((((((((((((((((((x)))))))))))))))))))))))))))))))"
 
 static pelzaune_description held, deep;
+static const pelzaune_moment now = { .year = 2021, .month = 1, .day = 2, .hour = 3, .nanosecond = 5, .offset = 19800 };
 static pelzaune_moment moment;
 static pelzaune_local local;
 static pelzaune_date date;
@@ -27,7 +28,7 @@ static pelzaune_place place;
 static int64_t count, entries[4];
 static int32_t offset;
 static size_t length, refused;
-static uint8_t buffer[256];
+static uint8_t buffer[PELZAUNE_DESCRIBED_TEXT];
 
 static void nothing(void) {}
 static void rfc3339(void) { pelzaune_parse_moment(PELZAUNE_RFC3339, BYTES("2021-01-02T03:04:05.123456789+05:30"), &moment); }
@@ -56,11 +57,12 @@ static void read_locate(void) { pelzaune_read_locate(PELZAUNE_BRACKETS_2, BYTES(
 static void column(void) { pelzaune_column(PELZAUNE_RFC2822, BYTES("02 Jan 2021 03:04 EST\n" COMMENT "x\n"), entries, 4, &refused); }
 static void read_column(void) { pelzaune_read_column(PELZAUNE_BRACKETS_2, BYTES(BRACKETS), BYTES("2021-01-02T03:04:05.25\nx\n"), entries, 4, &refused); }
 static void described_column(void) { pelzaune_described_column(&held, BYTES("10/Oct/2000:13:55:36 -0700\nx\n"), entries, 4, &refused); }
-static void format_moment(void)
-{
-    moment = (pelzaune_moment){ .year = 2021, .month = 1, .day = 2, .hour = 3, .nanosecond = 5, .offset = 19800 };
-    pelzaune_format_moment(PELZAUNE_RFC3339, &moment, buffer, sizeof buffer, &length);
-}
+static void format_moment(void) { pelzaune_format_moment(PELZAUNE_RFC3339, &now, buffer, sizeof buffer, &length); }
+static void read_format(void) { pelzaune_read_format_moment(PELZAUNE_STRFTIME, BYTES("%A, %d. %B %Y %T.%N %z"), &now, buffer, sizeof buffer, &length); }
+static void read_format_deep(void) { pelzaune_read_format_moment(PELZAUNE_BRACKETS_2, BYTES(DEEP), &now, buffer, sizeof buffer, &length); }
+static void read_format_choices(void) { pelzaune_read_format_moment(PELZAUNE_BRACKETS_2, BYTES(CHOICES), &now, buffer, sizeof buffer, &length); }
+static void described_format(void) { pelzaune_described_format_moment(&held, &now, buffer, sizeof buffer, &length); }
+static void described_format_deep(void) { pelzaune_described_format_moment(&deep, &now, buffer, sizeof buffer, &length); }
 static void write_text(void) { pelzaune_write_text(PELZAUNE_RANGE_OF_OTHERS + 256, buffer, sizeof buffer); }
 
 static const struct { const char *name; void (*run)(void); } calls[] = {
@@ -71,7 +73,9 @@ static const struct { const char *name; void (*run)(void); } calls[] = {
     { "read_parts, choices", read_choices }, { "described_instant", described }, { "described_time, deep", described_deep },
     { "locate, a mail date", locate }, { "locate, strict", locate_strict }, { "locate, ISO 8601", locate_iso },
     { "read_locate, deep", read_locate }, { "column", column }, { "read_column", read_column },
-    { "described_column", described_column }, { "format_moment", format_moment }, { "write_text", write_text },
+    { "described_column", described_column }, { "format_moment", format_moment }, { "read_format_moment", read_format },
+    { "read_format_moment, deep", read_format_deep }, { "read_format_moment, choices", read_format_choices },
+    { "described_format_moment", described_format }, { "described_format_moment, deep", described_format_deep }, { "write_text", write_text },
 };
 
 static void *start(void *call)

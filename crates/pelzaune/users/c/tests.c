@@ -343,7 +343,8 @@ static void test_texts(void)
     uint8_t few[] = "....";
     EXPECT(pelzaune_write_text(PELZAUNE_TRAILING, few, 3) == 61 && memcmp(few, "une.", 4) == 0);
     EXPECT(pelzaune_write_text(PELZAUNE_RANGE + 256, few, 4) == 20 && memcmp(few, "year", 4) == 0);
-    EXPECT(pelzaune_write_text(PELZAUNE_OK, few, 4) == 0 && pelzaune_write_text(19, few, 4) == 0 && memcmp(few, "year", 4) == 0);
+    EXPECT(pelzaune_write_text(PELZAUNE_TEXT_TOO_LONG, NULL, 0) == 33 && pelzaune_write_text(PELZAUNE_TEXT_TOO_LONG + 256, NULL, 0) == 33);
+    EXPECT(pelzaune_write_text(PELZAUNE_OK, few, 4) == 0 && pelzaune_write_text(20, few, 4) == 0 && memcmp(few, "year", 4) == 0);
     EXPECT(pelzaune_write_text(PELZAUNE_TRAILING, NULL, 0) == 61);
     EXPECT(pelzaune_write_text(PELZAUNE_TRAILING, page + PAGE - 61, 61) == 61 && memcmp(page + PAGE - 8, "expected", 8) == 0);
 }

@@ -3,8 +3,8 @@ use crate::error::{text_of, Kind};
 use crate::ffi;
 use std::fmt;
 
-/// A description of how a text is written. It is parsed once, and then parses many texts. It has at most 64 steps: each
-/// component and each byte between components is one.
+/// A description of how a text is written. It is parsed once, and then parses and writes many texts. It has at most 64
+/// steps: each component and each byte between components is one.
 #[derive(Clone, Copy)]
 pub struct Description<'a> {
     pub(crate) held: ffi::Description,

@@ -1,4 +1,4 @@
-//! Errors of parses.
+//! Errors of parses, and of moments that are written.
 use crate::ffi;
 use std::fmt;
 use std::num::NonZeroU32;
@@ -37,8 +37,10 @@ pub enum Kind {
     NotSupported,
     /// The description has too many steps.
     TooLong,
-    /// Of a moment that is written: the format can't write the component.
+    /// Of a moment that is written: the format or the description can't write the component.
     NoText,
+    /// Of a moment that is written: the text by the description has more than 1024 bytes.
+    TextTooLong,
     /// A kind that this crate doesn't know.
     Unknown,
 }
@@ -63,12 +65,13 @@ impl Kind {
             15 => Kind::NotSupported,
             16 => Kind::TooLong,
             18 => Kind::NoText,
+            19 => Kind::TextTooLong,
             _ => Kind::Unknown,
         }
     }
 }
 
-/// The error of a parse. It displays as the library's text of its status.
+/// The error of a parse, or of a moment that is written. It displays as the library's text of its status.
 #[derive(Clone, Copy, PartialEq, Eq, Hash)]
 pub struct Error(NonZeroU32);
 

@@ -63,4 +63,5 @@ extern "C" {
     pub fn pelzaune_column(format: u32, text: *const u8, length: usize, entries: *mut i64, capacity: usize, refused: *mut usize) -> usize;
     pub fn pelzaune_described_column(description: *const Description, text: *const u8, length: usize, entries: *mut i64, capacity: usize, refused: *mut usize) -> usize;
     pub fn pelzaune_format_moment(format: u32, moment: *const Moment, buffer: *mut u8, capacity: usize, length: *mut usize) -> u32;
+    pub fn pelzaune_described_format_moment(description: *const Description, moment: *const Moment, buffer: *mut u8, capacity: usize, length: *mut usize) -> u32;
 }

@@ -29,14 +29,16 @@
 //! # Ok::<(), Box<dyn std::error::Error>>(())
 //! ```
 //!
-//! A description is a format too. It is parsed once, and then parses many texts:
+//! A description is a format too. It is parsed once, and then parses many texts, and writes moments as such texts:
 //!
 //! ```
-//! use pelzaune::{Date, Description, Format};
+//! use pelzaune::{Date, Description, Format, Moment};
 //!
 //! let description = Description::strftime("%d.%m.%Y")?;
 //! let date = Date::parse("02.01.2021", Format::Described(&description))?;
 //! assert_eq!((date.year, date.month, date.day), (2021, 1, 2));
+//! let moment = Moment::parse("1985-04-12T23:20:50.52Z", Format::Rfc3339)?;
+//! assert_eq!(description.format(&moment)?.to_string(), "12.04.1985");
 //! assert_eq!(Description::brackets("[year]-[moth]").unwrap_err().index, Some(8));
 //! # Ok::<(), Box<dyn std::error::Error>>(())
 //! ```
@@ -76,7 +78,7 @@ pub use error::{Error, Kind};
 pub use format::{Format, UnknownFormat};
 pub use locate::{locate, Place};
 pub use parts::Parts;
-pub use text::MomentText;
+pub use text::{DescribedText, MomentText};
 
 /// A date in the proleptic Gregorian calendar.
 #[repr(C)]

@@ -204,3 +204,45 @@ fn texts() {
     let ymd = Description::brackets("[year]").unwrap();
     assert_eq!(m.text(Format::Described(&ymd)).unwrap_err().kind(), Kind::Unknown);
 }
+
+#[test]
+fn texts_by_descriptions() {
+    // The example of Apache's documentation of its log format.
+    let m = Moment { year: 2000, nanosecond: 0, offset: -25_200, month: 10, day: 10, hour: 13, minute: 55, second: 36 };
+    let log = Description::strftime("%d/%b/%Y:%H:%M:%S %z").unwrap();
+    assert_eq!(log.format(&m).unwrap().to_str(), Ok("10/Oct/2000:13:55:36 -0700"));
+    assert_eq!(Moment::parse(log.format(&m).unwrap().as_bytes(), Format::Described(&log)), Ok(m));
+    let form = "[year]-[month]-[day]T[hour]:[minute]:[second].[subsecond][offset_hour sign:mandatory]:[offset_minute]";
+    for it in [Description::brackets(form), Description::brackets_1(form)] {
+        assert_eq!(it.unwrap().format(&m).unwrap().to_string(), "2000-10-10T13:55:36.0-07:00");
+    }
+    let optional = Description::brackets("[first [[month repr:short]] [[month]]][optional [ [day]]]").unwrap();
+    let text = optional.format(&m).unwrap();
+    assert_eq!((format!("{text:>8}"), format!("{text:?}")), ("  Oct 10".to_string(), r#""Oct 10""#.to_string()));
+    assert_eq!(text, optional.format(&Moment { year: -1, ..m }).unwrap());
+    let bytes = Description::brackets(b"\xff[day]").unwrap();
+    let text = bytes.format(&m).unwrap();
+    assert_eq!((text.as_bytes(), text.to_str().is_err(), text.to_string()), (&b"\xff10"[..], true, "\u{fffd}10".to_string()));
+}
+
+#[test]
+fn moments_without_a_text() {
+    let m = Moment { year: 2021, nanosecond: 0, offset: 0, month: 1, day: 2, hour: 3, minute: 4, second: 5 };
+    let kind_of = |form: &str, m: Moment| {
+        let error = Description::brackets(form).unwrap().format(&m).unwrap_err();
+        (error.kind(), error.component(), error.to_string())
+    };
+    let year = Moment { year: 10_000, ..m };
+    let wanted = (Kind::NoText, Some("year".to_string()), "the 'year' component has no text in that format".to_string());
+    assert_eq!(kind_of("[year range:standard]", year), wanted);
+    let wanted = (Kind::NoText, Some("ignore".to_string()), "the 'ignore' component has no text in that format".to_string());
+    assert_eq!(kind_of("[ignore count:1]", m), wanted);
+    let wanted = (Kind::Range, Some("month".to_string()), "month is out of range".to_string());
+    assert_eq!(kind_of("[year]", Moment { month: 13, ..m }), wanted);
+    // 51 counts of 20 bytes and 4 bytes are 1024.
+    let long = format!("{}....", "[unix_timestamp precision:nanosecond sign:mandatory]".repeat(51));
+    let text = Description::brackets(&long).unwrap().format(&m).unwrap();
+    assert_eq!(text.to_str(), Ok(&*format!("{}....", "+1609556645000000000".repeat(51))));
+    let wanted = (Kind::TextTooLong, None, "the text has more than 1024 bytes".to_string());
+    assert_eq!(kind_of(&format!("{long}."), m), wanted);
+}

@@ -135,6 +135,8 @@ static int sqlstate_of(pelzaune_status status)
     case PELZAUNE_RANGE_OF_OTHERS:
     case PELZAUNE_NO_TEXT:
         return ERRCODE_DATETIME_FIELD_OVERFLOW;
+    case PELZAUNE_TEXT_TOO_LONG:
+        return ERRCODE_PROGRAM_LIMIT_EXCEEDED;
     default:
         return ERRCODE_INVALID_DATETIME_FORMAT;
     }

@@ -74,12 +74,6 @@ static inline int64_t second_of(int64_t count)
     return (count - (count < 0 ? 999999 : 0)) / 1000000;
 }
 
-/* The weekday, Monday 0, of that day: 2000-01-01 was a Saturday. */
-static inline int weekday_of(int64_t days)
-{
-    return (int)(((days + 5) % 7 + 7) % 7);
-}
-
 /* The moment of that many microseconds, in the range of timestamps, at an offset. */
 static inline pelzaune_moment moment_of_count(int64_t count, int32_t offset)
 {

@@ -13,7 +13,7 @@
 #include "utils/numeric.h"
 #include "utils/timestamp.h"
 #include "asking.h"
-#include "writing.h"
+#include "counts.h"
 
 PG_MODULE_MAGIC;
 
@@ -165,26 +165,17 @@ static int32_t offset_of(const text *zone, TimestampTz at)
     return (int32_t)((DatumGetTimestamp(local) - at) / USECS_PER_SEC);
 }
 
-/* Writes the moment in the format of the arguments. */
-static void write_moment(writing *it, const question *asked, int64_t count, int32_t offset)
-{
-    if (!asked->by->number) {
-        write_described(it, asked->format, count, offset);
-        return;
-    }
-    it->moment = moment_of_count(count, offset);
-    it->status = pelzaune_format_moment(asked->by->number, &it->moment, it->text, sizeof it->text, &it->length);
-}
-
 PG_FUNCTION_INFO_V1(call_text);
 Datum call_text(PG_FUNCTION_ARGS)
 {
     TimestampTz at = PG_GETARG_TIMESTAMPTZ(0);
     question asked;
-    writing it;
+    uint8_t written[PELZAUNE_DESCRIBED_TEXT];
+    size_t length;
     if (ask_format(fcinfo, &asked) != ANSWERED) tell_fault(&asked);
     if (TIMESTAMP_NOT_FINITE(at)) tell(OUT_OF_RANGE, &asked, "timestamp");
-    write_moment(&it, &asked, at, offset_of(PG_GETARG_TEXT_PP(2), at));
-    if (it.status) ereport(ERROR, (errcode(sqlstate_of(it.status)), errmsg_internal("%s", pelzaune_text(it.status))));
-    PG_RETURN_TEXT_P(cstring_to_text_with_len((const char *)it.text, (int)it.length));
+    pelzaune_moment moment = moment_of_count(at, offset_of(PG_GETARG_TEXT_PP(2), at));
+    pelzaune_status status = format_by(asked.by, &moment, written, sizeof written, &length);
+    if (status) ereport(ERROR, (errcode(sqlstate_of(status)), errmsg_internal("%s", pelzaune_text(status))));
+    PG_RETURN_TEXT_P(cstring_to_text_with_len((const char *)written, (int)length));
 }

@@ -107,6 +107,13 @@ PARSED_BY_FORM(time, pelzaune_time)
 PARSED_BY_FORM(parts, pelzaune_parts)
 #undef PARSED_BY_FORM
 
+/* Writes a moment by a format over the start of the buffer, where PELZAUNE_DESCRIBED_TEXT bytes hold any text. */
+static inline pelzaune_status format_by(const form *by, const pelzaune_moment *moment, uint8_t *buffer, size_t capacity, size_t *length)
+{
+    return by->number ? pelzaune_format_moment(by->number, moment, buffer, capacity, length)
+        : pelzaune_described_format_moment(&by->held, moment, buffer, capacity, length);
+}
+
 /* The error of a text: the reason, and, unless `wanted` is 0, what was expected at a place of the text. */
 typedef struct {
     pelzaune_status reason, wanted;

@@ -10,7 +10,9 @@ SEPARATOR = "the 'separator' component could not be parsed"
 MISSING = "the `Parsed` struct did not include enough information to construct the type"
 NO_FORMAT = "format must be rfc3339, rfc2822, iso8601, or a description with % or ["
 NO_YEAR = "the 'year' component has no text in that format"
+NO_IGNORE = "the 'ignore' component has no text in that format"
 LOG = "%d/%b/%Y:%H:%M:%S %z"
+COUNT = "[unix_timestamp precision:nanosecond sign:mandatory]"
 
 ANSWERS = [
     # RFC 3339's own examples, and each way to name a format
@@ -90,6 +92,17 @@ ANSWERS = [
     # Berlin's local mean time was 53:28 ahead of UTC
     ("text('1880-01-01 00:00:00+00', '[hour]:[minute]:[second] [offset_hour sign:mandatory]:[offset_minute]:[offset_second]', 'Europe/Berlin')",
      "00:53:28 +00:53:28"),
+    # a description writes the components that it has, all optional items and the first of each choice
+    ("text('1880-01-01 00:00:00+00', '%H:%M %z', 'Europe/Berlin')", "00:53 +0053"),
+    (f"text('2000-10-10 20:55:36+00', '{LOG}', '-07:00')", "10/Oct/2000:13:55:36 -0700"),
+    ("text('1985-04-12 23:20:50+00', '[hour]:[minute]:[second].[subsecond][offset_hour sign:mandatory]:[offset_minute]', '-08:30')",
+     "14:50:50.0-08:30"),
+    ("text('1985-04-12 23:20:50.52+00', '[first [[month repr:short]] [[ignore count:1]]] [day][optional [, [hour]h]]')", "Apr 12, 23h"),
+    ("text('294276-12-31 23:59:59.999999+00', '[year] [year repr:century] [year repr:last_two]')", "+294276 +2942 76"),
+    ("text('4714-11-24 00:00:00+00 BC', '%F')", "-4713-11-24"),
+    ("text('1969-12-31 23:59:59.9+00', '[unix_timestamp] [unix_timestamp precision:nanosecond]')", "-1 -100000000"),
+    # 51 counts of 20 bytes and 4 bytes are 1024; 18629 days of 86400 seconds, and 11045 seconds
+    (f"text('2021-01-02 03:04:05+00', repeat('{COUNT}', 51) || '....')", "+1609556645000000000" * 51 + "...."),
     # between date and time are `T`, `t` or a space
     ("timestamptz('1985-04-12t23:20:50Z')", "1985-04-12 23:20:50+00"),
     ("timestamptz('1985-04-12 23:20:50Z', 'RFC3339')", "1985-04-12 23:20:50+00"),
@@ -173,7 +186,6 @@ ERRORS_ALONE = [
     ("place(repeat('x', 1048577))", "54000", "text is too long to parse (1048577 bytes, max 1048576 bytes)", ""),
     ("text('2021-01-02 00:00:00+00', 'rfc3339', 'Europe/Atlantis')", "22023", 'time zone "Europe/Atlantis" not recognized', ""),
     ("text('1880-01-01 00:00:00+00', 'rfc3339', 'Europe/Berlin')", "22008", "the 'offset second' component has no text in that format", ""),
-    ("text('1880-01-01 00:00:00+00', '%H:%M %z', 'Europe/Berlin')", "22008", "the 'offset second' component has no text in that format", ""),
     ("place('x', '[yaer]')", "22007", "no component has that name", 'At index 1 of the format "[yaer]".'),
     ("place('x', 'rfc3339 ')", "22007", NO_FORMAT, 'The format is "rfc3339 ".'),
     ("text('2021-01-02 00:00:00+00', 'rfc822')", "22007", NO_FORMAT, 'The format is "rfc822".'),
@@ -186,4 +198,7 @@ ERRORS_ALONE = [
     ("text('2021-01-02 00:00:00+00', 'rfc3339', '05:30')", "22007", "the 'offset hour' component could not be parsed",
      'Expected offset hour at index 0 of "05:30".'),
     ("text('2021-01-02 00:00:00+00', '[yaer]')", "22007", "no component has that name", 'At index 1 of the format "[yaer]".'),
+    ("text('10000-12-31 00:00:00+00', '[year range:standard]')", "22008", NO_YEAR, ""),
+    ("text('2021-01-02 00:00:00+00', '[day][ignore count:1]')", "22008", NO_IGNORE, ""),
+    (f"text('2021-01-02 03:04:05+00', repeat('{COUNT}', 51) || '.....')", "54000", "the text has more than 1024 bytes", ""),
 ]

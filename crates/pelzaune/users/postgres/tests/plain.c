@@ -1,6 +1,7 @@
 /* The extension's plain C without a server, for the sanitizers: counts at the ends of their ranges, and each function
  * over texts and descriptions that end at the end of their memory. */
-#include "writing.h"
+#include "counts.h"
+#include "formats.h"
 #include <assert.h>
 #include <stdlib.h>
 
@@ -27,7 +28,6 @@ static void test_days(void)
     assert(days_of((pelzaune_date){ 294277, 1, 1 }) * SECONDS_A_DAY == END_SECOND);
     for (int64_t day = days_of((pelzaune_date){ -999999, 1, 1 }); day < 366000000; day += 997)
         assert(days_of(date_of(day)) == day);
-    assert(weekday_of(0) == 5 && weekday_of(2) == 0 && weekday_of(-6) == 6);
 }
 
 static void test_ranges(void)
@@ -57,11 +57,14 @@ static void take(const char *format, const char *text)
         refusal why = placed(reason, given, it);
         char wanted[EXPECTATION_ROOM];
         if (why.wanted) write_expectation(&why, wanted);
-        for (size_t k = 0; !by.number && k < sizeof counts / sizeof *counts; k++)
+        for (size_t k = 0; k < sizeof counts / sizeof *counts; k++)
             for (int32_t offset = -86340; offset <= 86340; offset += 28780) {
-                writing *written = malloc(sizeof *written);
+                size_t length = 0;
+                uint8_t *written = malloc(PELZAUNE_DESCRIBED_TEXT);
                 assert(written);
-                write_described(written, given, counts[k], offset);
+                pelzaune_moment moment = moment_of_count(counts[k], offset);
+                pelzaune_status status = format_by(&by, &moment, written, PELZAUNE_DESCRIBED_TEXT, &length);
+                assert(length <= PELZAUNE_DESCRIBED_TEXT && (!status || PELZAUNE_KIND(status) == PELZAUNE_NO_TEXT));
                 free(written);
             }
     } else {
@@ -86,23 +89,33 @@ static void test_texts(void)
         for (size_t n = 0; n < sizeof texts / sizeof *texts; n++) take(formats[k], texts[n]);
 }
 
-/* An offset of 53 minutes and 28 seconds, as Berlin's local mean time had, has no text without the seconds. */
-static void test_offsets(void)
+/* Moments at offsets: Berlin's local mean time was 53 minutes and 28 seconds ahead of UTC. */
+static void test_moments(void)
 {
-    static const char *const formats[] = { "[offset_hour sign:mandatory]:[offset_minute]:[offset_second]", "%z", "[offset_second][offset_hour]", "%H" };
-    static const char *const texts[] = { "+00:53:28", NULL, "2800", "00" };
-    for (size_t k = 0; k < sizeof formats / sizeof *formats; k++) {
-        writing it;
-        write_described(&it, bytes_of_words(formats[k]), -3208 * INT64_C(1000000), 3208);
-        assert(it.status == (texts[k] ? PELZAUNE_OK : PELZAUNE_NO_TEXT + 256u * OFFSET_SECOND_OF_STATUS));
-        assert(!texts[k] || (it.length == strlen(texts[k]) && memcmp(it.text, texts[k], it.length) == 0));
+    static const struct { int64_t count; int32_t offset; const char *text; } rows[] = {
+        { 0, 0, "2000-01-01 00:00:00.000000 +00:00:00" }, { -1, 0, "1999-12-31 23:59:59.999999 +00:00:00" },
+        { -1, 19800, "2000-01-01 05:29:59.999999 +05:30:00" }, { 1, -1, "1999-12-31 23:59:59.000001 -00:00:01" },
+        { -3208 * INT64_C(1000000), 3208, "2000-01-01 00:00:00.000000 +00:53:28" },
+        { FIRST_SECOND * 1000000, 0, "-4713-11-24 00:00:00.000000 +00:00:00" },
+        { END_SECOND * 1000000 - 1, 60, "+294277-01-01 00:00:59.999999 +00:01:00" } };
+    const bytes given = alone("[year]-[month]-[day] [hour]:[minute]:[second].[subsecond digits:6] [offset_hour sign:mandatory]:[offset_minute]:[offset_second]");
+    form by;
+    size_t index;
+    assert(read_form(given, &by, &index) == PELZAUNE_OK);
+    for (size_t k = 0; k < sizeof rows / sizeof *rows; k++) {
+        uint8_t text[64];
+        size_t length = 0;
+        pelzaune_moment moment = moment_of_count(rows[k].count, rows[k].offset);
+        assert(format_by(&by, &moment, text, sizeof text, &length) == PELZAUNE_OK);
+        assert(length == strlen(rows[k].text) && memcmp(text, rows[k].text, length) == 0);
     }
+    freed(given);
 }
 
 int main(void)
 {
     test_days();
-    test_offsets();
+    test_moments();
     test_ranges();
     test_texts();
     return 0;

@@ -97,6 +97,14 @@ class Postgres(unittest.TestCase):
             WHERE pelzaune_date(a, 'iso8601') <> day OR pelzaune_timestamp(a || 'T12', 'iso8601') <> day + time '12:00'
                 OR pelzaune_timestamptz(a || 'T00Z', 'iso8601') <> day::timestamp AT TIME ZONE 'UTC'"""), ["0"])
 
+    def test_texts(self):
+        """Moments of each month of the years 1 to 9931, as PostgreSQL's own function formats them."""
+        self.assertEqual(self.server.ask("""
+            SELECT count(*) FROM (SELECT timestamptz '0001-01-01 00:00:00+00' + k * interval '31 days 4567.123456 seconds' AS at
+                FROM generate_series(0, 117000) k) moments
+            WHERE pelzaune_text(at, '%Y-%m-%d %H:%M:%S.%6f') <> to_char(at, 'YYYY-MM-DD HH24:MI:SS.US')
+                OR pelzaune_text(at, '%G-%V-%u %j %I %p %a %b') <> to_char(at, 'IYYY-IW-ID DDD HH12 AM Dy Mon')"""), ["0"])
+
     def test_changing_formats(self):
         """A format that changes from row to row, and within one expression of a loop."""
         rows = """('2021-01-02', '%Y-%m-%d'), ('02.01.2021', '%d.%m.%Y'), ('2021-01-02T00:00:00Z', 'rfc3339'), ('?', '%Y'),

@@ -1,4 +1,4 @@
-/* An extension of SQLite with functions that return NULL for NULL. Each takes a text and an optional format:
+/* An extension of SQLite with functions that return NULL for NULL. Each but the last takes a text and an optional format:
  *
  *     pelzaune_unix       the seconds from 1970-01-01T00:00:00Z to the text's instant, rounded down
  *     pelzaune_unix_ns    the nanoseconds, where 64 bits hold them: from 1677-09-21 to 2262-04-11
@@ -6,10 +6,11 @@
  *     pelzaune_date       the text's date, as 1985-04-12
  *     pelzaune_time       the text's time, as 23:20:50.52, with the digits of a fraction that it needs
  *     pelzaune_place      where a text fails, as JSON: {"index":5,"expectation":"month","reason":".."}
+ *     pelzaune_text       the text's moment, written by a format: it takes a text, its format and the other format
  *
  * The others return NULL for a rejected text and for a value that they can't write, such as a year after 9999, and
  * pelzaune_place returns it for a text with a value. Its index and expectation are null where the text is parsed, and the
- * calendar has no such date.
+ * calendar has no such date. pelzaune_text returns NULL for a rejected text, and a moment that it can't write is an error.
  *
  * A format is 'rfc3339', the default, 'rfc2822' or 'iso8601', in any case, or a description: one with a % is of strftime,
  * and any other has a [. 'rfc3339' accepts T, t or a space between date and time. Any other format is an error, and so
@@ -64,16 +65,16 @@ static int ask_format(sqlite3_context *context, sqlite3_value *value, form *form
     return !status;
 }
 
-/* Does so once for a format that is constant in each row: SQLite caches it until the statement ends. */
-static int take_format(sqlite3_context *context, sqlite3_value *value, form *format)
+/* Does so once for an argument that is constant in each row: SQLite caches it until the statement ends. */
+static int take_format(sqlite3_context *context, sqlite3_value **values, int argument, form *format)
 {
-    const form *kept = sqlite3_get_auxdata(context, 1);
+    const form *kept = sqlite3_get_auxdata(context, argument);
     if (kept) *format = *kept;
     else {
-        if (!ask_format(context, value, format)) return 0;
+        if (!ask_format(context, values[argument], format)) return 0;
         form *copy = sqlite3_malloc(sizeof *copy);
         if (copy) *copy = *format;
-        if (copy) sqlite3_set_auxdata(context, 1, copy, sqlite3_free);
+        if (copy) sqlite3_set_auxdata(context, argument, copy, sqlite3_free);
     }
     return 1;
 }
@@ -84,7 +85,7 @@ static int ask(sqlite3_context *context, int count, sqlite3_value **values, ques
     asked->format.number = PELZAUNE_RFC3339_STRICT;
     for (int k = 0; k < count; k++)
         if (sqlite3_value_type(values[k]) == SQLITE_NULL) return 0;
-    if (count > 1 && !take_format(context, values[1], &asked->format)) return 0;
+    if (count > 1 && !take_format(context, values, 1, &asked->format)) return 0;
     return take_bytes(context, "text", values[0], &asked->text);
 }
 
@@ -114,6 +115,21 @@ static void call_rfc3339(sqlite3_context *context, int count, sqlite3_value **va
     pelzaune_status status = moment_by(&it.format, it.text, &moment);
     if (!status) status = pelzaune_format_moment(PELZAUNE_RFC3339, &moment, text, sizeof text, &length);
     if (!status) sqlite3_result_text(context, (const char *)text, (int)length, SQLITE_TRANSIENT);
+}
+
+/* An error has the library's text, since a format such as one with an `ignore` can't write any moment. */
+static void call_text(sqlite3_context *context, int count, sqlite3_value **values)
+{
+    question it;
+    form other;
+    pelzaune_moment moment;
+    uint8_t text[PELZAUNE_DESCRIBED_TEXT];
+    size_t length;
+    if (!ask(context, count, values, &it) || !take_format(context, values, 2, &other)) return;
+    if (moment_by(&it.format, it.text, &moment)) return;
+    pelzaune_status status = format_by(&other, &moment, text, sizeof text, &length);
+    if (status) sqlite3_result_error(context, pelzaune_text(status), -1);
+    else sqlite3_result_text(context, (const char *)text, (int)length, SQLITE_TRANSIENT);
 }
 
 /* The years are those of SQLite's own functions of dates. */
@@ -186,12 +202,13 @@ int sqlite3_pelzaunesqlite_init(sqlite3 *db, char **error, const sqlite3_api_rou
     const int flags = SQLITE_UTF8 | SQLITE_DETERMINISTIC | SQLITE_INNOCUOUS;
     SQLITE_EXTENSION_INIT2(routines);
     (void)error;
-    static const struct { const char *name; int more; void (*call)(sqlite3_context *, int, sqlite3_value **); } functions[] = {
-        { "pelzaune_unix", 0, call_unix }, { "pelzaune_unix_ns", 0, call_unix_ns }, { "pelzaune_rfc3339", 0, call_rfc3339 },
-        { "pelzaune_date", 0, call_date }, { "pelzaune_time", 0, call_time }, { "pelzaune_place", SQLITE_RESULT_SUBTYPE, call_place } };
+    static const struct { const char *name; int least, most, more; void (*call)(sqlite3_context *, int, sqlite3_value **); } functions[] = {
+        { "pelzaune_unix", 1, 2, 0, call_unix }, { "pelzaune_unix_ns", 1, 2, 0, call_unix_ns }, { "pelzaune_rfc3339", 1, 2, 0, call_rfc3339 },
+        { "pelzaune_date", 1, 2, 0, call_date }, { "pelzaune_time", 1, 2, 0, call_time }, { "pelzaune_text", 3, 3, 0, call_text },
+        { "pelzaune_place", 1, 2, SQLITE_RESULT_SUBTYPE, call_place } };
     int status = SQLITE_OK;
     for (size_t k = 0; !status && k < sizeof functions / sizeof *functions; k++)
-        for (int count = 1; !status && count <= 2; count++)
+        for (int count = functions[k].least; !status && count <= functions[k].most; count++)
             status = sqlite3_create_function(db, functions[k].name, count, flags | functions[k].more, NULL, functions[k].call, NULL, NULL);
     return status;
 }

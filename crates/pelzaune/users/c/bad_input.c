@@ -131,7 +131,8 @@ static void test_described_texts(void)
                 room one, two;
                 memset(&one, 0xa5, sizeof one);
                 memset(&two, 0xa5, sizeof two);
-                pelzaune_status status = pelzaune_read_format_moment(syntax, described(descriptions[d], size), size, m, one.out.bytes, fits, &length);
+                const uint8_t *at = described(descriptions[d], size);
+                pelzaune_status status = pelzaune_read_format_moment(syntax, at, size, m, one.out.bytes, fits, &length);
                 pelzaune_status fault = pelzaune_describe(syntax, at_front(descriptions[d], size), size, &stored, &index);
                 if (!fault) fault = pelzaune_described_format_moment(&stored, m, two.out.bytes, fits, &other);
                 right &= status == fault && length == other && is_whole(&one) && memcmp(&one, &two, sizeof one) == 0;

@@ -56,7 +56,8 @@ static const example examples[] = {
     { PELZAUNE_STRFTIME, "%j|%U|%W|%V|%G|%g|%u|%w", WEEK, "002|00|00|53|2020|20|6|6" },
     { PELZAUNE_STRFTIME, "%j|%U|%W|%V|%G|%g|%u|%w", HTTP, "310|45|44|44|1994|94|7|0" },
     { PELZAUNE_BRACKETS_2, "[year base:iso_week]-W[week_number]-[weekday repr:monday]", WEEK, "2020-W53-6" },
-    { PELZAUNE_BRACKETS_2, "[weekday repr:sunday][weekday repr:monday one_indexed:false][week_number repr:sunday padding:none]", HTTP, "1645" },
+    { PELZAUNE_BRACKETS_2, "[weekday repr:sunday][weekday repr:monday one_indexed:false][week_number repr:sunday padding:none]", HTTP,
+        "1645" },
     { PELZAUNE_BRACKETS_2, "[year]-[ordinal]|[ordinal padding:space]|[ordinal padding:none]", WEEK, "2021-002|  2|2" },
     /* names, also where any case is parsed, and clocks of 12 hours */
     { PELZAUNE_BRACKETS_2, "[weekday], [month repr:long] [day padding:none], [year]", HTTP, "Sunday, November 6, 1994" },
@@ -200,14 +201,15 @@ static void test_ranges(void)
 /* Errors of a description come before those of the moment, and are those of the call that checks it. */
 static void test_faults(void)
 {
-    static const char *const faults[] = { "[yaer]", "[year", "[year]-[month repr:shrot]", "[]", "a\\b", "%Z", "%", "[ignore]", "[optional year]",
-        "-----------------------------------------------------------------" };
+    static const char *const faults[] = { "[yaer]", "[year", "[year]-[month repr:shrot]", "[]", "a\\b", "%Z", "%", "[ignore]",
+        "[optional year]", "-----------------------------------------------------------------" };
     const pelzaune_moment m = ZULU, wrong = { 2021, 0, 0, 13, 1, 0, 0, 0 };
     for (size_t k = 0; k < sizeof faults / sizeof *faults; k++)
         for (uint32_t syntax = 0; syntax <= 4; syntax++) {
             size_t index, size = strlen(faults[k]);
             pelzaune_status status = pelzaune_check_description(syntax, described(faults[k], size), size, &index);
-            expect(!status || (refuses(syntax, faults[k], m) == status && refuses(syntax, faults[k], wrong) == status), faults[k], __LINE__);
+            int right = !status || (refuses(syntax, faults[k], m) == status && refuses(syntax, faults[k], wrong) == status);
+            expect(right, faults[k], __LINE__);
         }
     EXPECT(refuses(PELZAUNE_BRACKETS_2, "[year]-[month", m) == PELZAUNE_UNCLOSED_BRACKET);
     EXPECT(refuses(PELZAUNE_BRACKETS_2, "[yaer]", m) == PELZAUNE_COMPONENT_NAME);

@@ -57,12 +57,13 @@ static void read_locate(void) { pelzaune_read_locate(PELZAUNE_BRACKETS_2, BYTES(
 static void column(void) { pelzaune_column(PELZAUNE_RFC2822, BYTES("02 Jan 2021 03:04 EST\n" COMMENT "x\n"), entries, 4, &refused); }
 static void read_column(void) { pelzaune_read_column(PELZAUNE_BRACKETS_2, BYTES(BRACKETS), BYTES("2021-01-02T03:04:05.25\nx\n"), entries, 4, &refused); }
 static void described_column(void) { pelzaune_described_column(&held, BYTES("10/Oct/2000:13:55:36 -0700\nx\n"), entries, 4, &refused); }
-static void format_moment(void) { pelzaune_format_moment(PELZAUNE_RFC3339, &now, buffer, sizeof buffer, &length); }
-static void read_format(void) { pelzaune_read_format_moment(PELZAUNE_STRFTIME, BYTES("%A, %d. %B %Y %T.%N %z"), &now, buffer, sizeof buffer, &length); }
-static void read_format_deep(void) { pelzaune_read_format_moment(PELZAUNE_BRACKETS_2, BYTES(DEEP), &now, buffer, sizeof buffer, &length); }
-static void read_format_choices(void) { pelzaune_read_format_moment(PELZAUNE_BRACKETS_2, BYTES(CHOICES), &now, buffer, sizeof buffer, &length); }
-static void described_format(void) { pelzaune_described_format_moment(&held, &now, buffer, sizeof buffer, &length); }
-static void described_format_deep(void) { pelzaune_described_format_moment(&deep, &now, buffer, sizeof buffer, &length); }
+#define TO_BUFFER &now, buffer, sizeof buffer, &length
+static void format_moment(void) { pelzaune_format_moment(PELZAUNE_RFC3339, TO_BUFFER); }
+static void read_format(void) { pelzaune_read_format_moment(PELZAUNE_STRFTIME, BYTES("%A, %d. %B %Y %T.%N %z"), TO_BUFFER); }
+static void read_format_deep(void) { pelzaune_read_format_moment(PELZAUNE_BRACKETS_2, BYTES(DEEP), TO_BUFFER); }
+static void read_format_choices(void) { pelzaune_read_format_moment(PELZAUNE_BRACKETS_2, BYTES(CHOICES), TO_BUFFER); }
+static void described_format(void) { pelzaune_described_format_moment(&held, TO_BUFFER); }
+static void described_format_deep(void) { pelzaune_described_format_moment(&deep, TO_BUFFER); }
 static void write_text(void) { pelzaune_write_text(PELZAUNE_RANGE_OF_OTHERS + 256, buffer, sizeof buffer); }
 
 static const struct { const char *name; void (*run)(void); } calls[] = {

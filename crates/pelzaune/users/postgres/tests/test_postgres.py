@@ -98,7 +98,7 @@ class Postgres(unittest.TestCase):
                 OR pelzaune_timestamptz(a || 'T00Z', 'iso8601') <> day::timestamp AT TIME ZONE 'UTC'"""), ["0"])
 
     def test_texts(self):
-        """Moments of each month of the years 1 to 9931, as PostgreSQL's own function formats them."""
+        """Moments of each month of the years 1 to 9948, as PostgreSQL's own function formats them."""
         self.assertEqual(self.server.ask("""
             SELECT count(*) FROM (SELECT timestamptz '0001-01-01 00:00:00+00' + k * interval '31 days 4567.123456 seconds' AS at
                 FROM generate_series(0, 117000) k) moments

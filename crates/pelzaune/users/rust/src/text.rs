@@ -8,7 +8,8 @@ use std::str::Utf8Error;
 const ROOM: usize = 35;
 const DESCRIBED_ROOM: usize = 1024;
 
-/// The text of a moment, stored without an allocation in that many bytes. A description writes a [`DescribedText`].
+/// The text of a moment, of at most `MOST` bytes, stored without an allocation. A description writes a
+/// [`DescribedText`].
 #[derive(Clone, Copy, PartialEq, Eq, Hash)]
 pub struct MomentText<const MOST: usize = ROOM> {
     bytes: [u8; MOST],
@@ -31,7 +32,7 @@ impl<const MOST: usize> MomentText<MOST> {
         &self.bytes[..self.length]
     }
 
-    /// The text. The error is that of bytes that aren't UTF-8, which only a text by a description that has them has.
+    /// The text. A text whose description has literal bytes that aren't UTF-8 is an error.
     pub fn to_str(&self) -> Result<&str, Utf8Error> {
         std::str::from_utf8(self.as_bytes())
     }

@@ -13,7 +13,7 @@ export interface Description {
 declare const prepared: unique symbol;
 export {};
 
-/** What a text is parsed by. */
+/** What a text is parsed by, and a moment written by. */
 export type Format = FormatName | Description;
 
 /** A text: a string, or bytes that need not be UTF-8. */
@@ -72,7 +72,7 @@ type TemporalOf<Name extends string> = typeof globalThis extends { Temporal: inf
     : any
   : any;
 
-/** The parts that a text has. A part that it lacks is null. */
+/** The parts of a text, at least one. A part that the text doesn't have is null. */
 export interface Parts {
   date: PlainDate | null;
   time: PlainTime | null;
@@ -104,6 +104,7 @@ export class DescriptionError extends ParseError {}
 
 /** A moment that a format can't write. */
 export class FormatError extends RangeError {
+  /** The name of the component that the format can't write or that is out of range, if the message has one. */
   readonly component: string | null;
 }
 
@@ -124,7 +125,7 @@ export interface Parser {
   parseDate(text: Text, format?: Format): PlainDate;
   /** Parses the time of a text. */
   parseTime(text: Text, format?: Format): PlainTime;
-  /** Parses the parts that a text has. */
+  /** Parses the parts that a text has. Throws a ParseError also if it has no complete date, time or offset. */
   parseParts(text: Text, format?: Format): Parts;
   /**
    * Parses texts, or the lines of bytes, into nanoseconds since 1970. A line ends with LF or CR LF. `rejected` has the
@@ -137,8 +138,11 @@ export interface Parser {
   description(text: string): Description;
   /** Locates the error of a text, or returns null where the format matches the whole text. */
   locate(text: Text, format?: Format): Place | null;
-  /** Writes a moment. Throws a FormatError for a moment that the format can't write. */
-  format(moment: Writable, format?: FormatName): string;
+  /**
+   * Writes a moment. A description is written with all its optional items and the first item of each choice, in at most
+   * 1024 bytes of UTF-8. Throws a FormatError for a moment that the format can't write.
+   */
+  format(moment: Writable, format?: Format): string;
 }
 
 export const parse: Parser['parse'];

@@ -5,8 +5,8 @@
 
 import { kindOf } from './formats.js';
 
-// The room for what the module writes: the longest text of a status or of a moment is shorter.
-const WRITTEN_BYTES = 128;
+// The room for what the module writes: the longest text of a moment. Each text of a status is shorter.
+const WRITTEN_BYTES = 1024;
 
 /** The bytes of a block of lines, which are parsed by one call, and the entries of the most lines that it can have. */
 export const BLOCK_BYTES = 65536;
@@ -17,8 +17,8 @@ const PAGE_BYTES = 65536;
 const OUT = 0;
 const COUNT = 64;
 const WRITTEN = 128;
-const PREPARED = 256;
-const TEXT = 1344;
+const PREPARED = 1152;
+const TEXT = 2240;
 
 // In browsers a call of the encoder takes longer than a loop over a short text. In Node it doesn't.
 const SHORT_TEXT = 128;
@@ -29,7 +29,8 @@ export const KIND = { LITERAL: 1, TRAILING: 3, INSUFFICIENT: 4, RANGE: 5 };
 const MAJOR_VERSION = 1;
 
 const encoder = new TextEncoder();
-const decoder = new TextDecoder();
+// A moment's text may begin with a byte order mark, which is a character of the description.
+const decoder = new TextDecoder('utf-8', { ignoreBOM: true });
 // It validates its argument as each method of a typed array does, so it throws where the buffer is detached.
 const validate = Uint8Array.prototype.keys;
 const nameOfView = Object.getOwnPropertyDescriptor(Object.getPrototypeOf(Uint8Array.prototype), Symbol.toStringTag).get;

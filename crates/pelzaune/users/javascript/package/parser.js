@@ -8,6 +8,8 @@ import { membersOf } from './moments.js';
 import { Moment, PlainDate, PlainDateTime, PlainTime } from './values.js';
 
 const LONE_SURROGATE = 'a lone surrogate is not text';
+// The module has a status for each part alone. The Python module has this message too.
+const NO_PART = 'the text has no complete date, time or offset';
 const NO_INDEX = 0xffffffff;
 const DEFAULT_NUMBER = FORMATS.get(DEFAULT_FORMAT);
 
@@ -92,7 +94,7 @@ class Parser {
     return new PlainTime(bytes[at + 4], bytes[at + 5], bytes[at + 6], view.getUint32(at, true));
   }
 
-  /** The parts that the text has. A part that it has, and that is out of range, is an error. */
+  /** The parts that the text has. A part that is out of range is an error, and so is a text without any part. */
   parseParts(text, format) {
     this.parseInto(this.parts, text, format);
     const { view, out } = this.memory;
@@ -102,6 +104,7 @@ class Parser {
       return status === 0;
     };
     const [hasDate, hasTime, hasOffset] = [out + 20, out + 24, out + 28].map(isThere);
+    if (!hasDate && !hasTime && !hasOffset) throw new ParseError(NO_PART);
     return {
       date: hasDate ? this.dateAt(out) : null,
       time: hasTime ? this.timeAt(out + 8) : null,
@@ -197,7 +200,6 @@ class Parser {
   /** Writes a moment. */
   format(moment, format = DEFAULT_FORMAT) {
     const number = numberOf(format);
-    if (number === 0) throw new TypeError(`a moment is written in ${[...FORMATS.keys()].join(', ')}, not by a description`);
     const members = membersOf(moment);
     const { memory } = this;
     const { view, out } = memory;
@@ -205,9 +207,11 @@ class Parser {
     view.setUint32(out + 4, members.nanoseconds, true);
     view.setInt32(out + 8, members.offsetSeconds, true);
     members.small.forEach((value, index) => view.setUint8(out + 12 + index, value));
-    const status = memory.calls.pelzaune_format_moment(
-      number, memory.outAt, memory.writtenAt, memory.writtenSize, memory.countAt,
-    );
+    if (number === 0) memory.load(Description.preparedOf(format));
+    const { calls, outAt, writtenAt, writtenSize, countAt } = memory;
+    const status = number !== 0
+      ? calls.pelzaune_format_moment(number, outAt, writtenAt, writtenSize, countAt)
+      : calls.pelzaune_described_format_moment(memory.preparedAt, outAt, writtenAt, writtenSize, countAt);
     if (status !== 0) throw new FormatError(memory.message(status), memory.component(status));
     return memory.readWritten(view.getUint32(memory.count, true));
   }

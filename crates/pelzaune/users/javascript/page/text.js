@@ -55,14 +55,15 @@ function inOwnZone(moment) {
   return form.format(moment.toDate());
 }
 
-/** The rows of a moment: a title, and the text. */
-function momentRows(p, moment) {
+/** The rows of a moment: a title, and the text. `format` is what parsed it: a name or a description. */
+function momentRows(p, moment, format) {
   const zone = new Intl.DateTimeFormat().resolvedOptions().timeZone;
   return [
     ['RFC 3339', attempt(() => p.format(moment, 'rfc3339'))],
     ['In UTC', attempt(() => p.format(inUtc(moment), 'rfc3339'))],
     ['RFC 2822', attempt(() => p.format(moment, 'rfc2822'))],
     ['ISO 8601', attempt(() => p.format(moment, 'iso8601'))],
+    ...(typeof format === 'string' ? [] : [['By the description', attempt(() => p.format(moment, format))]]),
     [`In your time zone (${zone})`, attempt(() => inOwnZone(moment))],
     ['Offset', `${offsetText(moment.offsetSeconds)}, ${moment.offsetSeconds} seconds ahead of UTC`],
     ['Seconds since 1970', String(moment.epochSeconds)],
@@ -72,8 +73,8 @@ function momentRows(p, moment) {
 }
 
 /** The rows of a value. */
-function rowsOf(p, target, value) {
-  if (target === 'parse') return momentRows(p, value);
+function rowsOf(p, target, value, format) {
+  if (target === 'parse') return momentRows(p, value, format);
   if (target === 'parseDate') return [['Date', dateText(value)]];
   if (target === 'parseTime') return [['Time', timeText(value)]];
   if (target === 'parsePlain') return [['Date', dateText(value)], ['Time', timeText(value)]];
@@ -149,5 +150,5 @@ export function showText(p, state, format) {
   by('text').setAttribute('aria-invalid', String(isWrong));
   by('verdict').className = isWrong ? 'bad' : 'good';
   by('verdict').textContent = format === null ? '' : isWrong ? sentenceOf(error, text) : 'This text is accepted.';
-  showRows(value === undefined ? [] : [...rowsOf(p, target, value), ['In JavaScript', codeOf(state)]]);
+  showRows(value === undefined ? [] : [...rowsOf(p, target, value, format), ['In JavaScript', codeOf(state)]]);
 }

@@ -2,6 +2,7 @@
 
 import { test as testArguments } from './arguments.mjs';
 import { answered, Checks, utf8 } from './checks.mjs';
+import { test as testDescribed } from './described.mjs';
 import { test as testErrors } from './errors.mjs';
 import { test as testMany } from './many.mjs';
 import { test as testValues } from './values.mjs';
@@ -13,12 +14,14 @@ const RFC3339_STRICT = 4;
 function testMemory(p, memory, checks) {
   const log = p.description('%d/%b/%Y:%H:%M:%S %z');
   const lines = utf8('1970-01-01T00:00:01Z\nx\n'.repeat(20000));
+  const moment = p.parse('2021-01-02T03:04:05+05:30');
   const before = memory.buffer.byteLength;
   for (let k = 0; k < MILLION; k++) {
     p.parse('2021-01-02T03:04:05.123456789+05:30');
     if (k % 10 === 0) p.parse('02/Jan/2021:03:04:05 -0030', log);
     if (k % 100 === 0) answered(() => p.parse('2021-13-02T03:04:05Z'));
     if (k % 100 === 0) p.locate('02/Jan/2021:03:04', log);
+    if (k % 100 === 0) p.format(moment, log);
     if (k % 1000 === 0) p.description('[year]-[month]-[day]');
     if (k % 100000 === 0) p.parseMany(lines);
     if (k % 100000 === 0) p.parseMilliseconds(Array(5000).fill('1970-01-01T00:00:01Z'), log);
@@ -32,7 +35,7 @@ function testCounting({ exports }, checks) {
   const size = typeof value === 'bigint' ? BigInt : Number;
   // The package's short results are there, and its texts follow.
   const refused = (Number(value) + 63) & ~63;
-  const text = refused + 2048;
+  const text = refused + 4096;
   const column = (lines, entries, capacity) => {
     new Uint8Array(exports.memory.buffer).set(lines, text);
     const start = performance.now();
@@ -55,7 +58,7 @@ function testCounting({ exports }, checks) {
 function testModule(module, createParser, checks) {
   checks.same(WebAssembly.Module.imports(module), [], 'the imports of the module');
   const names = WebAssembly.Module.exports(module).map(({ name }) => name).filter((name) => name.startsWith('pelzaune_'));
-  checks.same(names.length, 37, 'the exports of the module');
+  checks.same(names.length, 39, 'the exports of the module');
   for (const wrong of [undefined, null, 5, {}, { exports: {} }]) checks.throws(() => createParser(wrong), 'TypeError', {}, 'no module');
 }
 
@@ -67,7 +70,7 @@ export function run(module, createParser, ready) {
   testModule(module, createParser, checks);
   testCounting(instance, checks);
   testMemory(p, instance.exports.memory, checks);
-  for (const test of [testValues, testErrors, testMany, testArguments]) {
+  for (const test of [testValues, testErrors, testMany, testDescribed, testArguments]) {
     try {
       test(p, checks);
     } catch (error) {

@@ -27,6 +27,7 @@ function testTypes(p, checks) {
     for (const call of callsOf(p)) checks.throws(() => call(value), 'TypeError', {}, `the text ${typeof value}`);
     checks.throws(() => p.description(value), 'TypeError', {}, `the description ${typeof value}`);
     if (value === undefined) continue;
+    checks.throws(() => p.format(new Date(0), value), 'TypeError', {}, `the format ${typeof value} of a moment`);
     for (const call of [...callsOf(p), p.parseMany, p.parseMilliseconds]) {
       checks.throws(() => call(call === p.parseMany || call === p.parseMilliseconds ? [] : '2021', value), 'TypeError', {}, `the format ${typeof value}`);
     }
@@ -34,6 +35,7 @@ function testTypes(p, checks) {
   for (const call of [...callsOf(p), p.parseMany]) checks.throws(() => call(), 'TypeError', {}, 'no argument');
   for (const name of ['', 'rfc9557', 'rfc-3339', '\u0130so8601', 'i\u017fo8601', 'constructor', '__proto__', 'toString', '%Y', 'rfc3339 ', 'RFC3339\0']) {
     for (const call of callsOf(p)) checks.throws(() => call('2021', name), 'RangeError', {}, `the format ${name}`);
+    checks.throws(() => p.format(new Date(0), name), 'RangeError', {}, `the format ${name} of a moment`);
   }
 }
 
@@ -41,9 +43,11 @@ function testDescriptions(p, checks) {
   const real = p.description('%Y');
   for (const form of [{ ...real }, Object.create(real), new Proxy(real, {}), { text: '%Y' }]) {
     checks.throws(() => p.parse('2021', form), 'TypeError', {}, 'a forged description');
+    checks.throws(() => p.format(new Date(0), form), 'TypeError', {}, 'a forged description of a moment');
   }
   const made = new real.constructor('%Y', new Uint8Array(1032));
   checks.same(answered(() => p.parseDate('2021', made))[0], 'ParseError', 'a description of zeros');
+  checks.same(p.format(new Date(0), made), '', 'the text by a description of zeros');
   checks.throws(() => new real.constructor('%Y', new Uint8Array(2 ** 20)), 'TypeError', {}, 'a struct that is too long');
   checks.throws(() => { 'use strict'; real.text = '%m'; }, 'TypeError', {}, 'a description is frozen');
 }
@@ -59,11 +63,13 @@ function testMoments(p, checks) {
     }
   }
   for (const name of ['year', 'month', 'day', 'offsetSeconds']) checks.throws(() => p.format({ ...moment, [name]: undefined }), 'TypeError', {}, `no ${name}`);
-  checks.throws(() => p.format(moment, p.description('%Y')), 'TypeError', {}, 'by a description');
   checks.throws(() => p.format(moment, 'rfc9557'), 'RangeError', {}, 'an unknown format');
   checks.throws(() => p.format(new Date(NaN)), 'RangeError', {}, 'an invalid Date');
   const calling = { ...moment, get second() { p.parse('1985-04-12T23:20:50.52Z'); return 7; } };
   checks.same(p.format(calling), '2021-01-02T00:00:07Z', 'a member that calls the package');
+  const [day, hour] = [p.description('%d'), p.description('%H')];
+  const describing = { ...moment, get second() { p.format(new Date(0), hour); return 7; } };
+  checks.same([p.format(describing, day), p.parseDate('03.01.2021', p.description('%d.%m.%Y')).day], ['02', 3], 'one that loads a description');
 }
 
 function testSurrogates(p, checks) {
@@ -92,6 +98,7 @@ function testOddTexts(p, checks) {
     const [call, other] = [pick(next, callsOf(p)), pick(next, callsOf(p))];
     checks.same(answered(() => call(text, form)) === undefined, false, 'a made text');
     answered(() => other('2021', p.description(text)));
+    answered(() => p.format(new Date(k), p.description(text)));
   }
 }
 

@@ -131,6 +131,7 @@ export async function descriptions(tab, checks) {
   await focus(tab, '#text');
   await tab.type('10/Oct/2000:13:55:36 -0700');
   checks.same((await rowsOf(tab))['In UTC'], '2000-10-10T20:55:36Z', 'its value');
+  checks.same((await rowsOf(tab))['By the description'], '10/Oct/2000:13:55:36 -0700', 'the text by the description');
   checks.same((await rowsOf(tab))['In JavaScript'], `parse('10/Oct/2000:13:55:36 -0700', description('${DESCRIBED}'))`, 'the call');
 }
 

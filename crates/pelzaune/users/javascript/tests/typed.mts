@@ -26,7 +26,7 @@ const lines: Float64Array = parseMilliseconds(new Uint8Array(10), 'rfc3339').epo
 parseMany(new ArrayBuffer(3), day);
 parseMany(new Set(['x']));
 const place: Place | null = locate('2021-13', name);
-const written: string[] = [format(moment), format(new Date(), 'rfc2822'), format({ year: 2021, month: 1, day: 2, offsetSeconds: 0 })];
+const written: string[] = [format(moment), format(new Date(), 'rfc2822'), format(moment, day), format({ year: 2021, month: 1, day: 2, offsetSeconds: 0 })];
 const least: bigint = NO_COUNT;
 const other: Parser = createParser(new WebAssembly.Module(new Uint8Array(8)));
 

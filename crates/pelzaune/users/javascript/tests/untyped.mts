@@ -9,5 +9,6 @@ description(new Uint8Array(1)); // wrong: bytes
 parseMany(5); // wrong: a number
 parseMany([5]); // wrong: numbers
 format({ year: 2021 }); // wrong: no month
-format(new Date(), description('%Y')); // wrong: a description
+format(new Date(), '%Y'); // wrong: no description
+format(new Date(), { text: '%Y' }); // wrong: no description
 const text: string = parse('2021'); // wrong: a moment

@@ -83,8 +83,20 @@ function testParts(p, checks) {
   checks.same(parts('23:59 -0030', p.description('%H:%M %z')), [null, '23 59 0 0 0 0', -1800], 'a time and an offset');
   checks.same(parts('2021-01-02T03:04:05.5Z'), ['2021 1 2', '3 4 5 500 0 0', 0], 'all parts');
   checks.same(parts('0000-05-13 +2559', p.description('%Y-%m-%d %z')), ['0 5 13', null, 93540], 'the largest offset');
-  checks.same(parts('', p.description('')), [null, null, null], 'no part');
+  checks.same(parts('+05', p.description('[offset_hour]')), [null, null, 18000], 'an offset');
   checks.throws(() => parts('2021-02-30T03:04:05Z'), 'ParseError', { component: 'day', index: null }, 'an impossible date');
+}
+
+/** A text without a complete date, time or offset, though it matches its format. */
+function testNoPart(p, checks) {
+  const none = { message: 'the text has no complete date, time or offset', component: null, index: null, expected: null };
+  const rows = [
+    ['', ''], ['x', 'x'], ['2021', '%Y'], ['2021-01', '[year]-[month]'], [':30', ':[minute]'], ['', '[optional [[hour]]]'],
+    ['10', '[subsecond]'], ['1', '%s'],
+  ];
+  for (const [text, form] of rows) {
+    for (const given of [text, utf8(text)]) checks.throws(() => p.parseParts(given, p.description(form)), 'ParseError', none, `no part in ${text}`);
+  }
 }
 
 /** A text of ISO 8601 is a moment if and only if it has a date, a time and an offset. */
@@ -101,6 +113,7 @@ function testPartsOfIso(p, checks) {
     const parts = answered(() => p.parseParts(text, 'iso8601'));
     if (Array.isArray(parts)) continue;
     const { date, time, offsetSeconds } = parts;
+    checks.isTrue(date !== null || time !== null || offsetSeconds !== null, `a part of ${text}`);
     const isWhole = date !== null && time !== null && offsetSeconds !== null;
     const moment = answered(() => p.parse(text, 'iso8601'));
     checks.same(Array.isArray(moment) ? null : plainly(moment), isWhole ? `${plainly(date)} ${plainly(time)} ${offsetSeconds}` : null, text);
@@ -212,6 +225,7 @@ function testStrftime(p, checks) {
     };
     for (const [form, text] of Object.entries(texts)) {
       checks.same(plainly(p.parsePlain(text, p.description(form))), plainly(p.parsePlain(date.toISOString())), `${text} by ${form}`);
+      checks.same(p.format(date, p.description(form)), text, `written by ${form}`);
     }
   }
 }
@@ -258,6 +272,7 @@ function testWritten(p, checks) {
 export function test(p, checks) {
   testTables(p, checks);
   testParts(p, checks);
+  testNoPart(p, checks);
   testPartsOfIso(p, checks);
   testNames(p, checks);
   testInstants(p, checks);

@@ -23,12 +23,13 @@ has_day r =
 abbrev pub has_iso_day : Record → Bool
 has_iso_day r = is_some r.iso_week_number && is_some r.weekday
 
--- The component that a record lacks for a date: the day or the year. None if it has both, of the calendar year or of
--- the ISO 8601 week year.
+-- The component that a record lacks for a date: the year if it has a day of a year, the month if it has only the day of
+-- a month, otherwise the day. None if it has a day and its year, of the calendar year or of the ISO 8601 week year.
 abbrev pub missing_for_date : Record → Option (List ℕ)
 missing_for_date r =
     if (has_year r && has_day r) || (has_iso_year r && has_iso_day r) then None else
-    if has_day r || has_iso_day r then Some (codes "year") else Some (codes "day")
+    if has_day r || has_iso_day r then Some (codes "year") else
+    if is_some r.day then Some (codes "month") else Some (codes "day")
 
 -- The component that a record lacks for an hour of the day: the half of the day if it has an hour from 1 to 12,
 -- otherwise the hour. None if it has an hour from 0 to 23, or an hour from 1 to 12 and the half of the day.

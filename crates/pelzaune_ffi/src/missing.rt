@@ -45,7 +45,7 @@ fn has_iso_day(parsed: &Parsed) -> bool
     parsed.iso_week_number().is_some() && parsed.weekday().is_some()
 }
 
-// The status of what a record lacks for a date, the day or the year; 0 if it lacks nothing.
+// The status of what a record lacks for a date: the year, the month of a day, or the day; 0 if it lacks nothing.
 fn missing_for_date(parsed: &Parsed) -> u32
     ensures { result ≡ spec.missing_status (spec.missing_for_date parsed.now) }
 {
@@ -54,6 +54,8 @@ fn missing_for_date(parsed: &Parsed) -> u32
         0
     } else if day || iso_day {
         4 + 256
+    } else if parsed.day().is_some() {
+        4 + 256 * 2
     } else {
         4 + 256 * 3
     }

@@ -3,7 +3,7 @@
 
 enum { DATE = PELZAUNE_NEEDS_DATE, TIME = PELZAUNE_NEEDS_TIME, OFFSET = PELZAUNE_NEEDS_OFFSET, MOMENT = DATE + TIME + OFFSET };
 #define MISSING(component) (PELZAUNE_INSUFFICIENT + 256u * (component))
-enum { YEAR = 1, DAY = 3, HOUR = 8, MINUTE = 9, SECOND = 10, PERIOD = 13, OFFSET_HOUR = 14 };
+enum { YEAR = 1, MONTH = 2, DAY = 3, HOUR = 8, MINUTE = 9, SECOND = 10, PERIOD = 13, OFFSET_HOUR = 14 };
 
 /* A description in brackets, a text, what is needed, and the status that is expected. */
 static const struct {
@@ -17,6 +17,7 @@ static const struct {
     { "[month]-[day] [hour]:[minute]", "01-02 03:04", MOMENT, MISSING(YEAR) },
     { "[month]-[day] [hour]:[minute]", "01-02 03:04", TIME, PELZAUNE_OK },
     { "[year]-[month]", "2021-01", DATE, MISSING(DAY) },
+    { "[year] [day]", "2021 02", DATE, MISSING(MONTH) },
     { "[year]-[month]", "2021-01", TIME, MISSING(HOUR) },
     { "[year]-[month]", "2021-01", OFFSET, MISSING(OFFSET_HOUR) },
     { "[year]-[month]", "2021-01", 0, PELZAUNE_OK },

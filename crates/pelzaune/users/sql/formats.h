@@ -91,20 +91,33 @@ static inline const char *text_of_fault(pelzaune_status status)
         : pelzaune_text(status);
 }
 
-/* Parses a text by a format into the value of the call's name. */
-#define PARSED_BY_FORM(name, type) \
+/* The status of a rejected text, with the component that is missing for what is needed, if one is. */
+static inline pelzaune_status with_missing(pelzaune_status status, uint32_t needs, const form *by, bytes it)
+{
+    if (status != PELZAUNE_INSUFFICIENT) return status;
+    pelzaune_status missing = by->number ? pelzaune_missing(needs, by->number, it.at, it.length)
+        : pelzaune_described_missing(needs, &by->held, it.at, it.length);
+    return missing ? missing : status;
+}
+
+/* What values need. */
+enum { NEEDS_DATE = PELZAUNE_NEEDS_DATE, NEEDS_TIME = PELZAUNE_NEEDS_TIME, NEEDS_LOCAL = NEEDS_DATE + NEEDS_TIME,
+    NEEDS_MOMENT = NEEDS_LOCAL + PELZAUNE_NEEDS_OFFSET };
+
+/* Parses a text by a format into the value of the call's name, which needs that. */
+#define PARSED_BY_FORM(name, type, needs) \
     static inline pelzaune_status name##_by(const form *by, bytes it, type *out) \
     { \
-        return by->number ? pelzaune_parse_##name(by->number, it.at, it.length, out) \
-            : pelzaune_described_##name(&by->held, it.at, it.length, out); \
+        return with_missing(by->number ? pelzaune_parse_##name(by->number, it.at, it.length, out) \
+            : pelzaune_described_##name(&by->held, it.at, it.length, out), needs, by, it); \
     }
-PARSED_BY_FORM(moment, pelzaune_moment)
-PARSED_BY_FORM(instant, pelzaune_instant)
-PARSED_BY_FORM(nanoseconds, int64_t)
-PARSED_BY_FORM(local, pelzaune_local)
-PARSED_BY_FORM(date, pelzaune_date)
-PARSED_BY_FORM(time, pelzaune_time)
-PARSED_BY_FORM(parts, pelzaune_parts)
+PARSED_BY_FORM(moment, pelzaune_moment, NEEDS_MOMENT)
+PARSED_BY_FORM(instant, pelzaune_instant, NEEDS_MOMENT)
+PARSED_BY_FORM(nanoseconds, int64_t, NEEDS_MOMENT)
+PARSED_BY_FORM(local, pelzaune_local, NEEDS_LOCAL)
+PARSED_BY_FORM(date, pelzaune_date, NEEDS_DATE)
+PARSED_BY_FORM(time, pelzaune_time, NEEDS_TIME)
+PARSED_BY_FORM(parts, pelzaune_parts, 0)
 #undef PARSED_BY_FORM
 
 /* Writes a moment by a format over the start of the buffer, where PELZAUNE_DESCRIBED_TEXT bytes hold any text. */

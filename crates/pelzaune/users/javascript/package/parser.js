@@ -13,19 +13,23 @@ const NO_PART = 'the text has no complete date, time or offset';
 const NO_INDEX = 0xffffffff;
 const DEFAULT_NUMBER = FORMATS.get(DEFAULT_FORMAT);
 
-/** The calls of the module for a target: by the number of a format, and by a prepared description. */
-function callsFor(calls, target) {
-  return { byNumber: calls[`pelzaune_parse_${target}`], byDescription: calls[`pelzaune_described_${target}`] };
+// What a value needs: a sum of these.
+const NEEDS = { DATE: 1, TIME: 2, OFFSET: 4 };
+const NEEDS_MOMENT = NEEDS.DATE + NEEDS.TIME + NEEDS.OFFSET;
+
+/** The calls of the module for a target, which needs that: by the number of a format, and by a prepared description. */
+function callsFor(calls, target, needs) {
+  return { byNumber: calls[`pelzaune_parse_${target}`], byDescription: calls[`pelzaune_described_${target}`], needs };
 }
 
 class Parser {
   constructor(instance) {
     this.memory = new Memory(instance);
     const { calls } = this.memory;
-    this.local = callsFor(calls, 'local');
-    this.date = callsFor(calls, 'date');
-    this.time = callsFor(calls, 'time');
-    this.parts = callsFor(calls, 'parts');
+    this.local = callsFor(calls, 'local', NEEDS.DATE + NEEDS.TIME);
+    this.date = callsFor(calls, 'date', NEEDS.DATE);
+    this.time = callsFor(calls, 'time', NEEDS.TIME);
+    this.parts = callsFor(calls, 'parts', 0);
   }
 
   /** Copies a text and, where the format is a description, that. Returns the text's length. */
@@ -38,14 +42,14 @@ class Parser {
   }
 
   /** Parses a text into the memory at `out`, or throws its error. */
-  parseInto({ byNumber, byDescription }, text, format) {
+  parseInto({ byNumber, byDescription, needs }, text, format) {
     const { memory } = this;
     const number = format === undefined ? DEFAULT_NUMBER : numberOf(format);
     const length = this.prepare(text, format, number);
     const status = number !== 0
       ? byNumber(number, memory.textAt, memory.size(length), memory.outAt)
       : byDescription(memory.preparedAt, memory.textAt, memory.size(length), memory.outAt);
-    if (status !== 0) throw this.error(status, text, length, format);
+    if (status !== 0) throw this.error(status, needs, text, length, format);
   }
 
   // As `parseInto`, but with calls of its own, which engines then make without a lookup.
@@ -57,7 +61,7 @@ class Parser {
     const status = number !== 0
       ? calls.pelzaune_parse_moment(number, memory.textAt, memory.size(length), memory.outAt)
       : calls.pelzaune_described_moment(memory.preparedAt, memory.textAt, memory.size(length), memory.outAt);
-    if (status !== 0) throw this.error(status, text, length, format);
+    if (status !== 0) throw this.error(status, NEEDS_MOMENT, text, length, format);
     const { view, bytes } = memory;
     return new Moment(
       view.getInt32(out, true), bytes[out + 12], bytes[out + 13], bytes[out + 14], bytes[out + 15], bytes[out + 16],
@@ -178,9 +182,20 @@ class Parser {
     return new ParseError(this.memory.message(status), { component: this.memory.component(status) });
   }
 
-  /** The error of a text that is in the memory. */
-  error(status, text, length, format = DEFAULT_FORMAT) {
-    const found = this.errorWithoutPlace(status);
+  /** The status of a text that is in the memory, with the component that is missing for what is needed, if one is. */
+  withMissing(status, needs, length, format) {
+    if (status !== KIND.INSUFFICIENT) return status;
+    const { memory } = this;
+    const { calls } = memory;
+    const number = numberOf(format);
+    return (number !== 0
+      ? calls.pelzaune_missing(needs, number, memory.textAt, memory.size(length))
+      : calls.pelzaune_described_missing(needs, memory.preparedAt, memory.textAt, memory.size(length))) || status;
+  }
+
+  /** The error of a text that is in the memory, for a value that needs that. */
+  error(status, needs, text, length, format = DEFAULT_FORMAT) {
+    const found = this.errorWithoutPlace(this.withMissing(status, needs, length, format));
     const place = this.placeOf(text, length, format);
     if (place) [found.index, found.expected] = [place.index, place.expected];
     return found;

@@ -7,7 +7,7 @@ import { colourOf, partsOf } from './parts.js';
 // A longer text is shown without its parts, since each of its characters would be damaged in turn.
 const MOST_COLOURED = 500;
 // The library's message of a text with too few parts names a type of Rust.
-const INSUFFICIENT = /did not include enough information/;
+const MISSING = /^missing /;
 
 const two = (number) => String(number).padStart(2, '0');
 
@@ -110,7 +110,9 @@ function displayText(text, parts, wrongAt) {
 
 /** The sentence of an error. */
 function sentenceOf(error, text) {
-  if (INSUFFICIENT.test(error.message)) return 'The text lacks a part that this needs: choose another under “Parse as”.';
+  if (MISSING.test(error.message)) {
+    return `The text has no ${error.message.replace(MISSING, '')}: choose another under “Parse as”.`;
+  }
   const sentence = `${error.message[0].toUpperCase()}${error.message.slice(1)}.`;
   if (!(error instanceof ParseError) || error.index === null) return sentence;
   const where = error.index >= text.length ? 'At the end of the text' : `At character ${[...text.slice(0, error.index)].length + 1}`;

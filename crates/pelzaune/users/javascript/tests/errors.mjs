@@ -3,7 +3,6 @@
 import { utf8 } from './checks.mjs';
 import { formOf } from './values.mjs';
 
-const INSUFFICIENT = 'the `Parsed` struct did not include enough information to construct the type';
 const SEPARATOR = "the 'separator' component could not be parsed";
 const TRAILING = 'unexpected trailing characters; the end of input was expected';
 
@@ -23,7 +22,9 @@ const TEXTS = [
   ['1985-04-12923:20:50Z', 'rfc3339', SEPARATOR, 'separator', 10, 'separator'],
   ['1985-04-12_23:20:50Z', 'rfc3339', SEPARATOR, 'separator', 10, 'separator'],
   ['1985-13-12923:20:50Z', 'rfc3339', SEPARATOR, 'separator', 5, 'month'],
-  ['2021-01-02', 'iso8601', INSUFFICIENT, null, null, null],
+  ['2021-01-02', 'iso8601', 'missing hour', 'hour', null, null],
+  ['2021-01-02T03:04', 'iso8601', 'missing offset', 'offset hour', null, null],
+  ['02/Jan', '%d/%b', 'missing year', 'year', null, null],
   ['2021-13', 'iso8601', undefined, undefined, null, null],
   ['2021-13-02', 'iso8601', undefined, undefined, 7, undefined],
   ['02/Jan-2021', '%d/%b/%Y', 'a character literal was not valid', null, 6, "'/'"],

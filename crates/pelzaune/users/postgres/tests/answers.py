@@ -7,7 +7,6 @@ LITERAL = "a character literal was not valid"
 YEAR = "the 'year' component could not be parsed"
 MONTH = "the 'month' component could not be parsed"
 SEPARATOR = "the 'separator' component could not be parsed"
-MISSING = "the `Parsed` struct did not include enough information to construct the type"
 NO_FORMAT = "format must be rfc3339, rfc2822, iso8601, or a description with % or ["
 NO_YEAR = "the 'year' component has no text in that format"
 NO_IGNORE = "the 'ignore' component has no text in that format"
@@ -66,7 +65,7 @@ ANSWERS = [
     ("place('2021/01-02T03:04:05Z')", f"(4,'-',\"{LITERAL}\")"),
     ("place('2021-01-02T03:04:05Zx')", f'(20,"the end","{TRAILING}")'),
     ("place('2021-02-30', '[year]-[month]-[day]')", '(,,"day is out of range for the other components")'),
-    ("place('2021', '[year]')", f'(,,"{MISSING}")'),
+    ("place('2021', '[year]')", '(,,"missing day")'),
     ("place('2021-01-02T03:04:05Z')", "NULL"),
     ("place('2021-01-02', '[year]-[month]-[day]')", "NULL"),
     ("place('12:34', '[hour]:[minute]')", "NULL"),
@@ -137,7 +136,8 @@ ERRORS = [
     ("timestamptz('2021-01-02T03:04:05Zx')", "22007", TRAILING,
      'Expected the end at index 20 of "2021-01-02T03:04:05Zx".'),
     ("date('2021-02-30', '[year]-[month]-[day]')", "22008", "day is out of range for the other components", 'The text is "2021-02-30".'),
-    ("timestamptz('12:34', '[hour]:[minute]')", "22007", MISSING, 'The text is "12:34".'),
+    ("timestamptz('12:34', '[hour]:[minute]')", "22007", "missing day", 'The text is "12:34".'),
+    ("timestamptz('02 Jan 12:34', '%d %b %H:%M')", "22007", "missing year", 'The text is "02 Jan 12:34".'),
     (r"date(E'2021-\x1b', '[year]-[month]')", "22007", MONTH, r'Expected month at index 5 of "2021-\x1b".'),
     ("date(repeat('y', 101))", "22007", YEAR, f'Expected year at index 0 of "{"y" * 100}...".'),
     ("date('2021', 'RFC3339')", "22007", LITERAL, "Expected '-' at index 4 of \"2021\"."),

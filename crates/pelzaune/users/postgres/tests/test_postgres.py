@@ -209,7 +209,7 @@ class Postgres(unittest.TestCase):
             INSERT INTO kept SELECT '02 Jan 2021 03:04 GMT (' || repeat('x', 100000) || ')', '[day]' || repeat('[ignore count:1]', 5)
                 || '[year][ignore' || repeat(' ', 100000) || 'count:1' || repeat('0', k) || ']' FROM generate_series(0, 1) k;
             SELECT pelzaune_timestamptz(a, 'rfc2822'), pelzaune_place(left(a, 12), f) FROM kept"""),
-            ['2021-01-02 03:04:00+00|(,,"the `Parsed` struct did not include enough information to construct the type")',
+            ['2021-01-02 03:04:00+00|(,,"missing month")',
              '2021-01-02 03:04:00+00|(11,ignore,"the \'ignore\' component could not be parsed")'])
 
     def test_cancelled(self):

@@ -73,7 +73,8 @@ static PyObject *parse(GIVEN)
     if (has_no_offset(&asked) && ASK(local, asked, &l) == PELZAUNE_OK) return naive_of(&l);
     pelzaune_status status = ASK(moment, asked, &m);
     if (status == PELZAUNE_OK) return datetime_of(&m, zone_of(m.offset));
-    return status == PELZAUNE_INSUFFICIENT && ASK(local, asked, &l) == PELZAUNE_OK ? naive_of(&l) : refuse(status, &asked);
+    return status == PELZAUNE_INSUFFICIENT && ASK(local, asked, &l) == PELZAUNE_OK ? naive_of(&l)
+        : refuse(status, NEEDS_MOMENT, &asked);
 }
 
 static PyObject *date_of(const pelzaune_date *d)
@@ -93,7 +94,7 @@ static PyObject *parse_date(GIVEN)
     (void)self;
     if (!ask("parse_date", given, count, named, &asked)) return NULL;
     pelzaune_status status = ASK(date, asked, &d);
-    return status == PELZAUNE_OK ? date_of(&d) : refuse(status, &asked);
+    return status == PELZAUNE_OK ? date_of(&d) : refuse(status, PELZAUNE_NEEDS_DATE, &asked);
 }
 
 static PyObject *parse_time(GIVEN)
@@ -103,7 +104,7 @@ static PyObject *parse_time(GIVEN)
     (void)self;
     if (!ask("parse_time", given, count, named, &asked)) return NULL;
     pelzaune_status status = ASK(time, asked, &t);
-    return status == PELZAUNE_OK ? time_of(&t) : refuse(status, &asked);
+    return status == PELZAUNE_OK ? time_of(&t) : refuse(status, PELZAUNE_NEEDS_TIME, &asked);
 }
 
 static PyObject *parse_parts(GIVEN)
@@ -113,10 +114,10 @@ static PyObject *parse_parts(GIVEN)
     (void)self;
     if (!ask("parse_parts", given, count, named, &asked)) return NULL;
     pelzaune_status status = ASK(parts, asked, &p);
-    if (status != PELZAUNE_OK) return refuse(status, &asked);
+    if (status != PELZAUNE_OK) return refuse(status, 0, &asked);
     pelzaune_status each[] = { p.date_status, p.time_status, p.offset_status };
     for (int k = 0; k < 3; k++)
-        if (each[k] != PELZAUNE_OK && each[k] != PELZAUNE_INSUFFICIENT) return refuse(each[k], &asked);
+        if (each[k] != PELZAUNE_OK && each[k] != PELZAUNE_INSUFFICIENT) return refuse(each[k], 0, &asked);
     if (each[0] && each[1] && each[2]) return raise(parse_error, "the text has no complete date, time or offset", Py_NewRef(Py_None));
     PyObject *date = p.date_status ? Py_NewRef(Py_None) : date_of(&p.date);
     /* After a raised error no more Python code is called. */
@@ -138,7 +139,7 @@ static PyObject *unix_ns(GIVEN)
     if (!ask("unix_ns", given, count, named, &asked)) return NULL;
     pelzaune_status status = ASK(nanoseconds, asked, &nanoseconds);
     if (status == PELZAUNE_OK) return PyLong_FromLongLong(nanoseconds);
-    if (status != PELZAUNE_TOO_WIDE || ASK(instant, asked, &i) != PELZAUNE_OK) return refuse(status, &asked);
+    if (status != PELZAUNE_TOO_WIDE || ASK(instant, asked, &i) != PELZAUNE_OK) return refuse(status, NEEDS_MOMENT, &asked);
     PyObject *seconds = PyLong_FromLongLong(i.seconds), *billion = PyLong_FromLong(1000000000);
     PyObject *whole = seconds && billion ? PyNumber_Multiply(seconds, billion) : NULL;
     PyObject *rest = PyLong_FromUnsignedLong(i.nanoseconds);

@@ -17,9 +17,23 @@ static PyObject *index_of(const question *asked)
     return status == PELZAUNE_OK ? Py_NewRef(Py_None) : PyLong_FromSize_t(place.index);
 }
 
-/* Raises the error of a rejected text. */
-static PyObject *refuse(pelzaune_status status, const question *asked)
+/* What a moment needs. */
+#define NEEDS_MOMENT (PELZAUNE_NEEDS_DATE + PELZAUNE_NEEDS_TIME + PELZAUNE_NEEDS_OFFSET)
+
+/* The status of a rejected text, with the component that is missing for what is needed, if one is. */
+static pelzaune_status with_missing(pelzaune_status status, uint32_t needs, const question *asked)
 {
+    if (status != PELZAUNE_INSUFFICIENT) return status;
+    pelzaune_status missing = asked->held
+        ? pelzaune_described_missing(needs, asked->held, asked->bytes, asked->length)
+        : pelzaune_missing(needs, asked->number, asked->bytes, asked->length);
+    return missing ? missing : status;
+}
+
+/* Raises the error of a rejected text, for what is needed. */
+static PyObject *refuse(pelzaune_status status, uint32_t needs, const question *asked)
+{
+    status = with_missing(status, needs, asked);
     return raise_at(parse_error, pelzaune_text(status), name_of(PELZAUNE_COMPONENT(status)), index_of(asked));
 }
 

@@ -75,6 +75,7 @@ static size_t without_count(const batch *these)
 static void refuse_text(pelzaune_status status, question *asked, size_t index)
 {
     char said[128];
+    status = with_missing(status, NEEDS_MOMENT, asked);
     snprintf(said, sizeof said, "text %zu: %s", index, pelzaune_text(status));
     raise_at(parse_error, said, name_of(PELZAUNE_COMPONENT(status)), index_of(asked));
     tell_text(index);

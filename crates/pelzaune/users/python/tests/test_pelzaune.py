@@ -223,8 +223,17 @@ class Refusals(unittest.TestCase):
         self.refused("2021-01-02T03:04:0\u0665Z", "the 'second' component could not be parsed", "second")
         self.refused("", "the 'year' component could not be parsed", "year")
         self.refused("2021-01-02T03:04:05Z\n", "unexpected trailing characters; the end of input was expected", None)
-        self.refused("2021-01-02", "the `Parsed` struct did not include enough information to construct the type", None,
-                     format=pelzaune.ISO8601, call=pelzaune.unix_ns)
+        self.refused("2021-01-02", "missing hour", "hour", format=pelzaune.ISO8601, call=pelzaune.unix_ns)
+        self.refused("2021-01-02T03:04", "missing offset", "offset hour", format=pelzaune.ISO8601, call=pelzaune.unix_ns)
+        self.refused("T03:04Z", "missing day", "day", format=pelzaune.ISO8601)
+        self.refused("T03:04Z", "missing day", "day", format=pelzaune.ISO8601, call=pelzaune.parse_date)
+        self.refused("2021-01-02", "missing hour", "hour", format=pelzaune.ISO8601, call=pelzaune.parse_time)
+        syslog = pelzaune.Description("%b %d %H:%M:%S")
+        self.refused("Jan 02 03:04:05", "missing year", "year", format=syslog)
+        self.refused("Jan 02 03:04:05", "missing year", "year", format=syslog, call=pelzaune.parse_date)
+        self.refused("03:04", "missing AM or PM", "period", format=pelzaune.Description("%I:%M"), call=pelzaune.parse_time)
+        with self.assertRaisesRegex(pelzaune.ParseError, "missing year"):
+            pelzaune.parse_many(["Jan 02 03:04:05"], syslog)
 
     def test_places(self):
         def index(text, form=pelzaune.RFC3339, call=pelzaune.parse):

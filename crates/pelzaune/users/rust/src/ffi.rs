@@ -57,6 +57,8 @@ extern "C" {
     pub fn pelzaune_described_instant(description: *const Description, text: *const u8, length: usize, out: *mut Instant) -> u32;
     pub fn pelzaune_described_nanoseconds(description: *const Description, text: *const u8, length: usize, out: *mut i64) -> u32;
     pub fn pelzaune_described_parts(description: *const Description, text: *const u8, length: usize, out: *mut Parts) -> u32;
+    pub fn pelzaune_missing(needs: u32, format: u32, text: *const u8, length: usize) -> u32;
+    pub fn pelzaune_described_missing(needs: u32, description: *const Description, text: *const u8, length: usize) -> u32;
     pub fn pelzaune_locate(format: u32, text: *const u8, length: usize, out: *mut Place) -> u32;
     pub fn pelzaune_read_locate(syntax: u32, description: *const u8, size: usize, text: *const u8, length: usize, out: *mut Place) -> u32;
     pub fn pelzaune_parse_parts(format: u32, text: *const u8, length: usize, out: *mut Parts) -> u32;

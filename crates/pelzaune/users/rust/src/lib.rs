@@ -168,18 +168,42 @@ pub(crate) fn answer<T>(call: impl FnOnce(*mut T) -> u32) -> Result<T, Error> {
     }
 }
 
+// What a value needs: a sum of these.
+pub(crate) const DATE: u32 = 1;
+pub(crate) const TIME: u32 = 2;
+pub(crate) const OFFSET: u32 = 4;
+
+// The error of a text, which names the missing component if the text lacks one for what is needed.
+pub(crate) fn with_missing(error: Error, needs: u32, text: &[u8], format: Format<'_>) -> Error {
+    if error.kind() != Kind::Insufficient {
+        return error;
+    }
+    // SAFETY: the pointers and the lengths are those of slices.
+    let status = unsafe {
+        match format {
+            Format::Described(Description { held, .. }) => {
+                ffi::pelzaune_described_missing(needs, held, text.as_ptr(), text.len())
+            }
+            _ => ffi::pelzaune_missing(needs, format.number(), text.as_ptr(), text.len()),
+        }
+    };
+    NonZeroU32::new(status).map_or(error, Error::new)
+}
+
 // Calls the library on a text, given as text or as bytes: the first function by a format's number, the second by a
-// description.
+// description. `$needs` is what the value needs.
 macro_rules! parse {
-    ($parse:ident, $described:ident, $text:expr, $format:expr) => {{
+    ($parse:ident, $described:ident, $needs:expr, $text:expr, $format:expr) => {{
         let text = $text.as_ref();
         let format = $format;
-        if let Format::Described(Description { held, .. }) = format {
+        let parsed = if let Format::Described(Description { held, .. }) = format {
             // SAFETY: the pointer and the length are those of a slice, and nothing else accesses the value.
-            return answer(|out| unsafe { ffi::$described(held, text.as_ptr(), text.len(), out) });
-        }
-        // SAFETY: the pointer and the length are those of a slice, and nothing else accesses the value.
-        answer(|out| unsafe { ffi::$parse(format.number(), text.as_ptr(), text.len(), out) })
+            answer(|out| unsafe { ffi::$described(held, text.as_ptr(), text.len(), out) })
+        } else {
+            // SAFETY: the pointer and the length are those of a slice, and nothing else accesses the value.
+            answer(|out| unsafe { ffi::$parse(format.number(), text.as_ptr(), text.len(), out) })
+        };
+        parsed.map_err(|error| crate::with_missing(error, $needs, text, format))
     }};
 }
 
@@ -188,40 +212,40 @@ pub(crate) use parse;
 impl Date {
     /// The date of a whole text.
     pub fn parse(text: impl AsRef<[u8]>, format: Format<'_>) -> Result<Date, Error> {
-        parse!(pelzaune_parse_date, pelzaune_described_date, text, format)
+        parse!(pelzaune_parse_date, pelzaune_described_date, DATE, text, format)
     }
 }
 
 impl Time {
     /// The time of a whole text.
     pub fn parse(text: impl AsRef<[u8]>, format: Format<'_>) -> Result<Time, Error> {
-        parse!(pelzaune_parse_time, pelzaune_described_time, text, format)
+        parse!(pelzaune_parse_time, pelzaune_described_time, TIME, text, format)
     }
 }
 
 impl Local {
     /// The date and time of a whole text. An offset is parsed and dropped.
     pub fn parse(text: impl AsRef<[u8]>, format: Format<'_>) -> Result<Local, Error> {
-        parse!(pelzaune_parse_local, pelzaune_described_local, text, format)
+        parse!(pelzaune_parse_local, pelzaune_described_local, DATE + TIME, text, format)
     }
 
     /// The date and time in UTC of a whole text. A text without an offset is taken as UTC.
     pub fn parse_utc(text: impl AsRef<[u8]>, format: Format<'_>) -> Result<Local, Error> {
-        parse!(pelzaune_parse_utc, pelzaune_described_utc, text, format)
+        parse!(pelzaune_parse_utc, pelzaune_described_utc, DATE + TIME, text, format)
     }
 }
 
 impl Moment {
     /// The date, time and offset of a whole text.
     pub fn parse(text: impl AsRef<[u8]>, format: Format<'_>) -> Result<Moment, Error> {
-        parse!(pelzaune_parse_moment, pelzaune_described_moment, text, format)
+        parse!(pelzaune_parse_moment, pelzaune_described_moment, DATE + TIME + OFFSET, text, format)
     }
 }
 
 impl Instant {
     /// The instant of a whole text that has a date, a time and an offset.
     pub fn parse(text: impl AsRef<[u8]>, format: Format<'_>) -> Result<Instant, Error> {
-        parse!(pelzaune_parse_instant, pelzaune_described_instant, text, format)
+        parse!(pelzaune_parse_instant, pelzaune_described_instant, DATE + TIME + OFFSET, text, format)
     }
 
     /// This instant as a `SystemTime`, or `None` if the system's clock can't represent it. `TryFrom` does the same.
@@ -238,13 +262,13 @@ impl Instant {
 
 /// The offset of a whole text, in seconds ahead of UTC.
 pub fn parse_offset(text: impl AsRef<[u8]>, format: Format<'_>) -> Result<i32, Error> {
-    parse!(pelzaune_parse_offset, pelzaune_described_offset, text, format)
+    parse!(pelzaune_parse_offset, pelzaune_described_offset, OFFSET, text, format)
 }
 
 /// The nanoseconds from 1970-01-01T00:00:00Z to the instant of a whole text. The error is [`Kind::TooWide`] where they
 /// don't fit 64 bits.
 pub fn parse_nanoseconds(text: impl AsRef<[u8]>, format: Format<'_>) -> Result<i64, Error> {
-    parse!(pelzaune_parse_nanoseconds, pelzaune_described_nanoseconds, text, format)
+    parse!(pelzaune_parse_nanoseconds, pelzaune_described_nanoseconds, DATE + TIME + OFFSET, text, format)
 }
 
 /// The version of the library's interface: 256 times its major number, and its minor number.

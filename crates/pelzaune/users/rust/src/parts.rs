@@ -30,6 +30,6 @@ impl Parts {
     }
 
     fn found(text: &[u8], format: Format<'_>) -> Result<ffi::Parts, Error> {
-        parse!(pelzaune_parse_parts, pelzaune_described_parts, text, format)
+        parse!(pelzaune_parse_parts, pelzaune_described_parts, 0, text, format)
     }
 }

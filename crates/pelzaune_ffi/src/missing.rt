@@ -1,5 +1,5 @@
 //! Finds the component that a text lacks for a value.
-ghost use Rattle.std.specs.Prelude.{◌≡◌};
+ghost use Rattle.std.specs.Prelude.{◌≡◌, if◌then◌else◌};
 ghost use Rattle.pelzaune_ffi.specs.Described as Described;
 ghost use Rattle.pelzaune_ffi.specs.Described.{StoresByDescription, StoresBySteps};
 ghost use Rattle.pelzaune_ffi.specs.Missing as spec;
@@ -47,7 +47,7 @@ fn has_iso_day(parsed: &Parsed) -> bool
 
 // The status of what a record lacks for a date: the year, the month of a day, or the day; 0 if it lacks nothing.
 fn missing_for_date(parsed: &Parsed) -> u32
-    ensures { result ≡ spec.missing_status (spec.missing_for_date parsed.now) }
+    ensures { result ≡ spec.missing_for_date parsed.now }
 {
     let (day, iso_day) = (has_day(parsed), has_iso_day(parsed));
     if (has_year(parsed) && day) || (has_iso_year(parsed) && iso_day) {
@@ -63,7 +63,7 @@ fn missing_for_date(parsed: &Parsed) -> u32
 
 // The status of what a record lacks for an hour of the day, the half of the day or the hour; 0 if it lacks nothing.
 fn missing_for_hour(parsed: &Parsed) -> u32
-    ensures { result ≡ spec.missing_status (spec.missing_for_hour parsed.now) }
+    ensures { result ≡ spec.missing_for_hour parsed.now }
 {
     if parsed.hour_24().is_some() {
         return 0;
@@ -77,7 +77,7 @@ fn missing_for_hour(parsed: &Parsed) -> u32
 
 // The status of what a record lacks between its hour and its smallest part, a minute or a second; 0 for no such gap.
 fn missing_below_hour(parsed: &Parsed) -> u32
-    ensures { result ≡ spec.missing_status (spec.missing_below_hour parsed.now) }
+    ensures { result ≡ spec.missing_below_hour parsed.now }
 {
     match (parsed.minute(), parsed.second(), parsed.subsecond()) {
         (None, Some(_), _) | (None, None, Some(_)) => 4 + 256 * 9,
@@ -86,19 +86,30 @@ fn missing_below_hour(parsed: &Parsed) -> u32
     }
 }
 
+// The first of two statuses that isn't 0, or 0.
+fn first_status(status: u32, other: u32) -> u32
+    ensures { result ≡ spec.first_status status other }
+{
+    if status == 0 { other } else { status }
+}
+
+// The status if it is selected, and otherwise 0.
+fn selected(is_selected: bool, status: u32) -> u32
+    ensures { result ≡ if is_selected then status else 0 }
+{
+    if is_selected { status } else { 0 }
+}
+
 // The status of what a record lacks for a time; 0 if it lacks nothing.
 fn missing_for_time(parsed: &Parsed) -> u32
-    ensures { result ≡ spec.missing_status (spec.missing_for_time parsed.now) }
+    ensures { result ≡ spec.missing_for_time parsed.now }
 {
-    match missing_for_hour(parsed) {
-        0 => missing_below_hour(parsed),
-        status => status,
-    }
+    first_status(missing_for_hour(parsed), missing_below_hour(parsed))
 }
 
 // The status of what a record lacks for an offset: its hour; 0 if it lacks nothing.
 fn missing_for_offset(parsed: &Parsed) -> u32
-    ensures { result ≡ spec.missing_status (spec.missing_for_offset parsed.now) }
+    ensures { result ≡ spec.missing_for_offset parsed.now }
 {
     if parsed.offset_hour().is_some() {
         0
@@ -109,28 +120,15 @@ fn missing_for_offset(parsed: &Parsed) -> u32
 
 // The status of what a record lacks for the values that `needs` selects; 0 if it lacks nothing.
 fn missing_for(needs: u32, parsed: &Parsed) -> u32
-    ensures { result ≡ spec.missing_status (spec.missing_for needs parsed.now) }
+    ensures { result ≡ spec.missing_for needs parsed.now }
 {
     if needs % 8 == 7 && parsed.unix_timestamp_nanos().is_some() {
         return 0;
     }
-    if needs % 2 == 1 {
-        let status = missing_for_date(parsed);
-        if status != 0 {
-            return status;
-        }
-    }
-    if needs / 2 % 2 == 1 {
-        let status = missing_for_time(parsed);
-        if status != 0 {
-            return status;
-        }
-    }
-    if needs / 4 % 2 == 1 {
-        missing_for_offset(parsed)
-    } else {
-        0
-    }
+    let date = selected(needs % 2 == 1, missing_for_date(parsed));
+    let time = selected(needs / 2 % 2 == 1, missing_for_time(parsed));
+    let offset = selected(needs / 4 % 2 == 1, missing_for_offset(parsed));
+    first_status(date, first_status(time, offset))
 }
 
 // The status of what a text lacks, by the format, for the values that `needs` selects; 0 if it lacks nothing. If the

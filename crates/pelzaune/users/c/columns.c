@@ -51,7 +51,7 @@ static void test_described_columns(void)
     EXPECT(pelzaune_read_column(PELZAUNE_STRFTIME, NULL, 0, TEXT("\nx"), entries, 3, &refused) == 2 && refused == 2);
 }
 
-/* Whether a column equals its lines, parsed alone. */
+/* Whether a column equals its lines, parsed alone without CR at their ends. */
 static int is_each_alone(const char *text, size_t length)
 {
     static int64_t entries[PAGE];
@@ -62,7 +62,8 @@ static int is_each_alone(const char *text, size_t length)
         if (k < length && text[k] != '\n') continue;
         int64_t alone = PELZAUNE_NO_COUNT;
         if (k == length && k == start) break;
-        without += pelzaune_parse_nanoseconds(PELZAUNE_RFC3339, (const uint8_t *)text + start, k - start, &alone) != PELZAUNE_OK;
+        size_t end = k > start && text[k - 1] == '\r' ? k - 1 : k;
+        without += pelzaune_parse_nanoseconds(PELZAUNE_RFC3339, (const uint8_t *)text + start, end - start, &alone) != PELZAUNE_OK;
         right &= line < count && entries[line++] == alone;
         start = k + 1;
     }

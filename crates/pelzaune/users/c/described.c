@@ -132,13 +132,14 @@ static const pair forms[] = {
 };
 enum { FORMS = sizeof forms / sizeof *forms };
 
-/* Whether a line among others is stored as it is alone, by the parsed description and by its text. */
+/* Whether a line among others is stored as it is alone without CR at its end, by the parsed description and by its text. */
 static int is_column(const pair *it, const pelzaune_description *d, const char *text)
 {
     char lines[3 * 64];
     int64_t alone = PELZAUNE_NO_COUNT, read[3] = { 7, 7, 7 }, entries[3] = { 7, 7, 7 };
-    size_t size = strlen(it->description), length = (size_t)sprintf(lines, "\n%s\n", text), refused, other;
-    int wrong = pelzaune_read_nanoseconds(it->syntax, described(it->description, size), size, at_end(text, strlen(text)), strlen(text), &alone) != PELZAUNE_OK;
+    size_t size = strlen(it->description), length = (size_t)sprintf(lines, "\n%s\n", text), refused, other, end = strlen(text);
+    if (end && text[end - 1] == '\r') end--;
+    int wrong = pelzaune_read_nanoseconds(it->syntax, described(it->description, size), size, at_end(text, end), end, &alone) != PELZAUNE_OK;
     int right = pelzaune_described_column(d, at_end(lines, length), length, entries, 3, &refused) == 2;
     right &= pelzaune_read_column(it->syntax, described(it->description, size), size, at_front(lines, length), length, read, 3, &other) == 2;
     return right && refused == (size_t)wrong + 1 && other == refused && entries[0] == PELZAUNE_NO_COUNT && entries[1] == alone

@@ -83,7 +83,7 @@ static void test_texts(void)
 /* A text without one of these values lacks a component of it, and only then. */
 static void test_parts(void)
 {
-    static const char *const texts[] = { "2021-01-02T03:04Z", "2021-01-02T03:04", "2021-01-02", "T03:04Z", "T03:04", "2020-W53-6", "2020-366T24:00Z" };
+    static const char *const texts[] = { "2021-01-02T03:04Z", "2021-01-02T03:04", "2021-01-02", "T03:04Z", "T03:04", "2020-W53-6", "2020-366T23Z" };
     for (size_t k = 0; k < sizeof texts / sizeof *texts; k++) {
         size_t length = strlen(texts[k]);
         const uint8_t *text = at_end(texts[k], length);

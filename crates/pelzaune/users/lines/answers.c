@@ -44,8 +44,12 @@ static int print_nanoseconds(uint32_t format, const uint8_t *text, size_t length
     lines = pelzaune_column(format, text, length, &entry, 1, &refused);
     if (status == PELZAUNE_OK) printf("%" PRId64 "\n", count);
     else if (status == PELZAUNE_TOO_WIDE) puts("too wide");
-    else printf("error: %s\n", pelzaune_text(status));
-    if (length && (lines != 1 || entry != count || refused != (status != PELZAUNE_OK))) return 0;
+    else {
+        uint32_t needs = PELZAUNE_NEEDS_DATE + PELZAUNE_NEEDS_TIME + PELZAUNE_NEEDS_OFFSET;
+        pelzaune_status missing = status == PELZAUNE_INSUFFICIENT ? pelzaune_missing(needs, format, text, length) : PELZAUNE_OK;
+        printf("error: %s\n", pelzaune_text(missing ? missing : status));
+    }
+    if (length && text[length - 1] != '\r' && (lines != 1 || entry != count || refused != (status != PELZAUNE_OK))) return 0;
     if (status == PELZAUNE_TOO_WIDE) return why == PELZAUNE_OK;
     int64_t rest = (count % 1000000000 + 1000000000) % 1000000000;
     return status == why && (status || (rest == m->nanosecond && count / 1000000000 - (count % 1000000000 < 0) == seconds_of(m)));

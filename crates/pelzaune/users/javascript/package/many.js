@@ -25,22 +25,6 @@ function millisecondsOf(high, low) {
   return ((high - rest) / 15625) * 67108864 + Math.floor((rest * 67108864 + (low >>> 6)) / 15625);
 }
 
-/** Removes each CR before an LF, and returns how many bytes are left at the start. */
-function removeReturns(bytes) {
-  const { length } = bytes;
-  const first = bytes.indexOf(CR);
-  if (first < 0) return length;
-  let kept = first;
-  let last = 0;
-  for (let index = first; index < length; index++) {
-    const byte = bytes[index];
-    if (byte === LF && last === CR) kept--;
-    bytes[kept++] = byte;
-    last = byte;
-  }
-  return kept;
-}
-
 class Column {
   constructor(memory, number, prepared, inMilliseconds) {
     this.memory = memory;
@@ -96,29 +80,21 @@ class Column {
     this.values[this.count++] = !isRejected ? this.storedOne() : this.inMilliseconds ? NaN : NO_COUNT;
   }
 
-  /**
-   * Appends the values of a block of lines, each of which ends with LF or CR LF. Searching for a CR takes as long as
-   * parsing. A named format rejects a line that ends with a CR, so its lines are first parsed with their CRs, and
-   * parsed again without them only if one is rejected.
-   */
+  /** The length of a line of the memory without the CR at its end. */
+  textLength(at, length) {
+    return length > 0 && this.memory.bytes[at + length - 1] === CR ? length - 1 : length;
+  }
+
+  /** Appends the values of a block of lines, each of which ends with LF or CR LF. */
   addBlock(block) {
     const { memory } = this;
     const { text } = memory;
     const length = memory.putBytes(block, text);
-    const copy = memory.bytes.subarray(text, text + length);
     if (length > BLOCK_BYTES) {
-      const kept = removeReturns(copy);
-      this.addOne(text, copy[kept - 1] === LF ? kept - 1 : kept);
-      return;
+      this.addOne(text, this.textLength(text, memory.bytes[text + length - 1] === LF ? length - 1 : length));
+    } else {
+      this.addEntries(this.parseLines(length, memory.entriesAt, BLOCK_BYTES), length);
     }
-    const isNamed = this.prepared === undefined;
-    let kept = isNamed ? length : removeReturns(copy);
-    let lines = this.parseLines(kept, memory.entriesAt, BLOCK_BYTES);
-    if (isNamed && memory.view.getUint32(memory.count, true) !== 0) {
-      kept = removeReturns(copy);
-      if (kept < length) lines = this.parseLines(kept, memory.entriesAt, BLOCK_BYTES);
-    }
-    this.addEntries(lines, kept);
   }
 
   /** Appends the entries of as many lines of the memory. */
@@ -166,7 +142,8 @@ class Column {
     for (const k of found) {
       for (; line < k; line++) start = bytes.indexOf(LF, start) + 1;
       const next = bytes.indexOf(LF, start);
-      const isRejected = this.parseOne(start, (next < 0 || next > end ? end : next) - start) !== 0;
+      const length = this.textLength(start, (next < 0 || next > end ? end : next) - start);
+      const isRejected = this.parseOne(start, length) !== 0;
       if (isRejected) this.rejected.push(this.count + k);
       this.values[this.count + k] = !isRejected ? this.storedOne() : this.inMilliseconds ? NaN : NO_COUNT;
     }
@@ -200,7 +177,8 @@ class Column {
     let units = 0;
     let index = 0;
     for (const text of texts) {
-      const isShort = typeof text === 'string' && text.length < BATCH_UNITS;
+      // The end of a line may have a CR, but not that of a text.
+      const isShort = typeof text === 'string' && text.length < BATCH_UNITS && text.charCodeAt(text.length - 1) !== CR;
       if (!isShort || units + text.length >= BATCH_UNITS) {
         this.addBatch(batch);
         batch = [];

@@ -20,6 +20,7 @@ typedef struct {
     uint8_t *column;
     size_t length, room;
     size_t count, missing;         /* the number of texts, and of missing ones */
+    int has_return;                /* whether a text ends with CR, which the end of a column's line may have */
     size_t places[MOST_TEXTS + 1]; /* where each text starts, and the end: equal to the next where the text is missing */
     int64_t entries[MOST_TEXTS];   /* the number of each text */
     int64_t refused[MOST_TEXTS];   /* the indices of rejected texts */
@@ -54,6 +55,7 @@ static uint8_t *make_place(batch *into, size_t length)
 static int end_text(batch *into, size_t length)
 {
     into->length += length;
+    into->has_return |= length && into->column[into->length - 1] == '\r';
     into->column[into->length++] = '\n';
     into->places[++into->count] = into->length;
     return TEXT;

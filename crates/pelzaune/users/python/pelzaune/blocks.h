@@ -15,7 +15,7 @@ enum { MOST_NANOSECONDS = 20000000 };
 typedef struct {
     Py_buffer held;
     int is_held;         /* whether the text is such a buffer, whose bytes others may change meanwhile */
-    uint8_t *copy;       /* of a block of such a buffer, or of one with CR */
+    uint8_t *copy;       /* of a block of such a buffer */
     size_t room;         /* of the copy */
     const uint8_t *next; /* the start of the next block */
     size_t left;         /* the number of bytes after it */
@@ -68,23 +68,7 @@ static size_t whole_lines(const uint8_t *block, size_t size)
     return size;
 }
 
-/* Copies bytes without each CR before LF, to their own start or to other memory. Returns how many are left. */
-static size_t copy_without_returns(uint8_t *to, const uint8_t *from, size_t length)
-{
-    size_t kept = 0;
-    while (length) {
-        const uint8_t *at = memchr(from, '\r', length);
-        int ends_line = at && at + 1 < from + length && at[1] == '\n';
-        size_t part = at ? (size_t)(at - from) + !ends_line : length, passed = at ? (size_t)(at - from) + 1 : length;
-        memmove(to + kept, from, part);
-        kept += part;
-        from += passed;
-        length -= passed;
-    }
-    return kept;
-}
-
-/* Gets the next block: whole lines, without CR before LF. Needs no lock, and returns 0 if there is no memory. */
+/* Gets the next block: whole lines. Needs no lock, and returns 0 if there is no memory. */
 static int next_block(lines *these)
 {
     size_t size = 0, end = 0;
@@ -101,10 +85,6 @@ static int next_block(lines *these)
     these->asked.length = end;
     these->next += end;
     these->left -= end;
-    if (!end || !memchr(these->asked.bytes, '\r', end)) return 1;
-    if (!make_copy_room(these, end)) return 0;
-    these->asked.length = copy_without_returns(these->copy, these->asked.bytes, end);
-    these->asked.bytes = these->copy;
     return 1;
 }
 
@@ -115,10 +95,11 @@ static size_t parse_lines(const question *block, int64_t *entries, size_t capaci
     size_t count = 0;
     *refused = 0;
     if (block->held == &block->read) line.held = &line.read;
-    for (size_t at = 0; at < block->length && !has_raised(block); at += line.length + 1, count++) {
+    for (size_t at = 0, size; at < block->length && !has_raised(block); at += size + 1, count++) {
         line.bytes = block->bytes + at;
         const uint8_t *end = memchr(line.bytes, '\n', block->length - at);
-        line.length = end ? (size_t)(end - line.bytes) : block->length - at;
+        size = end ? (size_t)(end - line.bytes) : block->length - at;
+        line.length = size && line.bytes[size - 1] == '\r' ? size - 1 : size;
         if (count >= capacity || !nanoseconds_of(&line, &entries[count])) continue;
         entries[count] = PELZAUNE_NO_COUNT;
         ++*refused;

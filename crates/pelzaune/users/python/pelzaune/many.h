@@ -44,11 +44,11 @@ static void spread(batch *these)
 }
 
 /* Parses the texts of a batch by a format, as the lines of a column, and returns how many are rejected. There are more
- * lines than texts if a text contains LF: then each is parsed by itself. */
+ * lines than texts if a text contains LF, and a line has no CR at its end: then each text is parsed by itself. */
 static size_t parse_column(batch *these, question *asked)
 {
     size_t refused, there = these->count - these->missing;
-    if (pelzaune_column(asked->number, these->column, these->length, these->entries, there, &refused) != there)
+    if (these->has_return || pelzaune_column(asked->number, these->column, these->length, these->entries, there, &refused) != there)
         return parse_each(these, asked);
     spread(these);
     return refused;

@@ -268,6 +268,7 @@ static int next_object(const source *from, batch *into)
 static int gather(source *from, batch *into)
 {
     into->count = into->missing = into->length = into->places[0] = 0;
+    into->has_return = 0;
     int found = from->elements ? hold(from) : 1;
     if (found == 0) PyErr_SetString(PyExc_RuntimeError, "the array of texts was changed while it was read");
     if (found != 1) return ERROR;

@@ -37,11 +37,12 @@ class Returns(unittest.TestCase):
         return got
 
     def test_returns(self):
-        """A CR before LF ends the line with it. Any other is a byte of the line."""
+        """A CR at the end of a line isn't part of it. Any other is a byte of the line."""
         text = LINE[:-1]
         self.assertEqual(self.column(text + b"\r\n" + text + b"\r\n"), [10**9] * 2)
         self.assertEqual(self.column(text + b"\n" + text + b"\r\n" + text), [10**9] * 3)
-        self.assertEqual(self.column(b"\r\n" + text + b"\r\r\n" + text + b"\r"), [NONE] * 3)
+        self.assertEqual(self.column(b"\r\n" + text + b"\r\r\n" + text + b"\r"), [NONE, NONE, 10**9])
+        self.assertEqual(pelzaune.parse_many([text + b"\r", text], errors="none")[0].tolist(), [NONE, 10**9])
         self.assertEqual(self.column(b"\r" + text + b"\n\r\n\r"), [NONE] * 3)
         self.assertEqual(pelzaune.column("1\r\n2\r\n", "[unix_timestamp]").tolist(), [10**9, 2 * 10**9])
         self.assertEqual(pelzaune.column("1\r\r\n2", "[unix_timestamp]\r").tolist(), [10**9, NONE])

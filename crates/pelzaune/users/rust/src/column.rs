@@ -1,5 +1,5 @@
 //! Columns: the lines of a text, each as the nanoseconds of its moment.
-use crate::{ffi, parse_nanoseconds, Description, Format};
+use crate::{ffi, Description, Format};
 
 /// The outcome of a column.
 #[derive(Clone, Copy, Debug, PartialEq, Eq)]
@@ -15,9 +15,6 @@ pub struct Column {
 /// with LF or CR LF, which are optional after the last one.
 pub fn column(text: impl AsRef<[u8]>, format: Format<'_>, entries: &mut [i64]) -> Column {
     let text = text.as_ref();
-    if text.contains(&b'\r') {
-        return each_line(text, format, entries);
-    }
     let (start, room) = (entries.as_mut_ptr(), entries.len());
     let mut refused = 0;
     let lines = if let Format::Described(Description { held, .. }) = format {
@@ -28,20 +25,4 @@ pub fn column(text: impl AsRef<[u8]>, format: Format<'_>, entries: &mut [i64]) -
         unsafe { ffi::pelzaune_column(format.number(), text.as_ptr(), text.len(), start, room, &mut refused) }
     };
     Column { lines, refused }
-}
-
-// Parses each line by itself, without the CR before its LF.
-fn each_line(text: &[u8], format: Format<'_>, entries: &mut [i64]) -> Column {
-    let mut found = Column { lines: 0, refused: 0 };
-    for line in text.split_inclusive(|byte| *byte == b'\n') {
-        if let Some(entry) = entries.get_mut(found.lines) {
-            let line = line.strip_suffix(b"\r\n").or_else(|| line.strip_suffix(b"\n")).unwrap_or(line);
-            *entry = parse_nanoseconds(line, format).unwrap_or_else(|_| {
-                found.refused += 1;
-                i64::MIN
-            });
-        }
-        found.lines += 1;
-    }
-    found
 }

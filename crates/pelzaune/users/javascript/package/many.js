@@ -25,6 +25,11 @@ function millisecondsOf(high, low) {
   return ((high - rest) / 15625) * 67108864 + Math.floor((rest * 67108864 + (low >>> 6)) / 15625);
 }
 
+/** The end of a line's text, given that of the line: before a CR. */
+function textEnd(bytes, start, end) {
+  return end > start && bytes[end - 1] === CR ? end - 1 : end;
+}
+
 class Column {
   constructor(memory, number, prepared, inMilliseconds) {
     this.memory = memory;
@@ -45,10 +50,10 @@ class Column {
   }
 
   /** Calls the module for the lines of the text in the memory, and returns how many lines it has. */
-  parseLines(length, entriesAt, capacity) {
+  parseLines(length) {
     const { memory } = this;
     const { calls, size } = memory;
-    const text = [memory.textAt, size(length), entriesAt, size(capacity), memory.countAt];
+    const text = [memory.textAt, size(length), memory.entriesAt, size(BLOCK_BYTES), memory.countAt];
     if (this.prepared === undefined) return Number(calls.pelzaune_column(this.number, ...text));
     memory.load(this.prepared);
     return Number(calls.pelzaune_described_column(memory.preparedAt, ...text));
@@ -80,21 +85,14 @@ class Column {
     this.values[this.count++] = !isRejected ? this.storedOne() : this.inMilliseconds ? NaN : NO_COUNT;
   }
 
-  /** The length of a line of the memory without the CR at its end. */
-  textLength(at, length) {
-    return length > 0 && this.memory.bytes[at + length - 1] === CR ? length - 1 : length;
-  }
-
-  /** Appends the values of a block of lines, each of which ends with LF or CR LF. */
+  /** Appends the values of a block of lines, each of which ends with LF or CR LF, or of one line that is longer. */
   addBlock(block) {
     const { memory } = this;
     const { text } = memory;
     const length = memory.putBytes(block, text);
-    if (length > BLOCK_BYTES) {
-      this.addOne(text, this.textLength(text, memory.bytes[text + length - 1] === LF ? length - 1 : length));
-    } else {
-      this.addEntries(this.parseLines(length, memory.entriesAt, BLOCK_BYTES), length);
-    }
+    if (length <= BLOCK_BYTES) return this.addEntries(this.parseLines(length), length);
+    const end = text + length;
+    this.addOne(text, textEnd(memory.bytes, text, memory.bytes[end - 1] === LF ? end - 1 : end) - text);
   }
 
   /** Appends the entries of as many lines of the memory. */
@@ -142,8 +140,7 @@ class Column {
     for (const k of found) {
       for (; line < k; line++) start = bytes.indexOf(LF, start) + 1;
       const next = bytes.indexOf(LF, start);
-      const length = this.textLength(start, (next < 0 || next > end ? end : next) - start);
-      const isRejected = this.parseOne(start, length) !== 0;
+      const isRejected = this.parseOne(start, textEnd(bytes, start, next < 0 || next > end ? end : next) - start) !== 0;
       if (isRejected) this.rejected.push(this.count + k);
       this.values[this.count + k] = !isRejected ? this.storedOne() : this.inMilliseconds ? NaN : NO_COUNT;
     }
@@ -158,14 +155,14 @@ class Column {
     }
   }
 
-  /** Appends the values of texts. Texts without LF are the lines of a block. */
+  /** Appends the values of texts. Texts without LF, and without a CR at their end, are the lines of a block. */
   addBatch(batch) {
     const { memory } = this;
     if (batch.length === 0) return;
     const joined = `${batch.join('\n')}\n`;
-    if (isWellFormed(joined)) {
+    if (isWellFormed(joined) && !joined.includes('\r\n')) {
       const length = memory.putString(joined, memory.text);
-      const lines = this.parseLines(length, memory.entriesAt, BLOCK_BYTES);
+      const lines = this.parseLines(length);
       if (lines === batch.length) return this.addEntries(lines, length);
     }
     for (const text of batch) this.addOne(memory.text, memory.put(text));

@@ -160,25 +160,27 @@ function compareLines(p, checks, text, format, counts, what) {
   checks.isTrue(utf8(text).every((byte, index) => byte === lines[index]), `${what} is unchanged`);
 }
 
-/** A CR before an LF ends the line with it. Any other is a byte of the line. */
+/** A CR at the end of a line is part of that end, also where the last line has no LF. Any other is a byte of the line. */
 function testReturns(p, checks) {
   const stamp = p.description('[unix_timestamp]');
   const ended = p.description('[unix_timestamp]\r');
   const rows = [
     [`${TEXT}\r\n${TEXT}\r\n`, undefined, [SECOND, SECOND]],
     [`${TEXT}\n${TEXT}\r\n${TEXT}`, undefined, [SECOND, SECOND, SECOND]],
-    [`\r\n${TEXT}\r\r\n${TEXT}\r`, undefined, [NO_COUNT, NO_COUNT, NO_COUNT]],
+    [`\r\n${TEXT}\r\r\n${TEXT}\r`, undefined, [NO_COUNT, NO_COUNT, SECOND]],
     [`\r${TEXT}\n\r\n\r`, undefined, [NO_COUNT, NO_COUNT, NO_COUNT]],
     [`${MAIL}\r\n?\r\n${MAIL} (x)\r\n${MAIL}\r\r\n`, 'rfc2822', [DAY, NO_COUNT, DAY, NO_COUNT]],
     ['1970-01-02T00Z\r\n?\r\n19700102T000000Z\r\n1970-01-02T00Z\r\r\n', 'iso8601', [DAY, NO_COUNT, DAY, NO_COUNT]],
     ['1\r\n2\r\n', stamp, [SECOND, 2n * SECOND]],
     ['1\r\r\n2', ended, [SECOND, NO_COUNT]],
-    ['1\r\n2\r', ended, [NO_COUNT, 2n * SECOND]],
+    ['1\r\n2\r\r', ended, [NO_COUNT, 2n * SECOND]],
+    ['1\r\r\n2\r', ended, [SECOND, NO_COUNT]],
   ];
   for (const [text, format, counts] of rows) compareLines(p, checks, text, format, counts, JSON.stringify(text));
   for (const texts of [[`${TEXT}\r`, TEXT], [`${TEXT}\r`], [utf8(`${TEXT}\r\n`), TEXT]]) {
     checks.same(many(p, texts)[1], [0], 'a text of a list is no line');
   }
+  checks.same(many(p, ['1\r', '2\r', '3'], ended), [[SECOND, 2n * SECOND, NO_COUNT], [2]], 'texts that end with a CR');
 }
 
 /** CR LF around the ends of blocks, and lines that are longer than a block. */

@@ -5,7 +5,7 @@
 //
 // The second runs them over another module of its folder. Newer engines need no flag for it.
 
-import { readFileSync } from 'node:fs';
+import { existsSync, readFileSync } from 'node:fs';
 import { register } from 'node:module';
 import { resolve } from 'node:path';
 import { pathToFileURL } from 'node:url';
@@ -17,6 +17,14 @@ const { createParser } = await import(new URL('parser.js', folder));
 const ready = await import(new URL('index.js', folder));
 const module = new WebAssembly.Module(readFileSync(new URL(name, folder)));
 const { passed, failed } = run(module, createParser, ready);
+
+// The module exports what the header declares. Where the tests are without the library, there is no header.
+const header = new URL('../../../include/pelzaune.h', import.meta.url);
+if (existsSync(header)) {
+  const declared = [...readFileSync(header, 'utf8').matchAll(/^\w+ (pelzaune_\w+)\(/gm)].map(([, found]) => found).sort();
+  const exported = WebAssembly.Module.exports(module).map((it) => it.name).filter((it) => it.startsWith('pelzaune_')).sort();
+  if (String(exported) !== String(declared)) failed.push(`the module exports ${exported}, and the header declares ${declared}`);
+}
 
 // An edge worker imports a module of WebAssembly by its name. This makes Node do so.
 const loader = `export const load = (url, context, next) => (!url.endsWith('.wasm') ? next(url, context) : {

@@ -225,7 +225,7 @@ static int add_names(PyObject *made)
     int failed = !array_of_q || !frombytes || !least || PyModule_AddObjectRef(made, "NO_COUNT", least);
     Py_XDECREF(arrays);
     Py_XDECREF(least);
-    return failed || add_formats(made);
+    return failed || make_names() || add_formats(made);
 }
 
 /* Whether the processor has the instructions of the library, which are those of x86-64-v2. */

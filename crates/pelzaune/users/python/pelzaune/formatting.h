@@ -4,6 +4,17 @@
 
 #include "zones.h"
 
+static PyObject *utcoffset, *astimezone, *nanosecond; /* names of a datetime's attributes */
+
+/* Makes these names once, since a call by a name that is made for it is slower. */
+static int make_names(void)
+{
+    utcoffset = PyUnicode_InternFromString("utcoffset");
+    astimezone = PyUnicode_InternFromString("astimezone");
+    nanosecond = PyUnicode_InternFromString("nanosecond");
+    return !utcoffset || !astimezone || !nanosecond;
+}
+
 /* The format and the zone of the texts of one datetime or of many. It isn't copied: `asked` may point into itself. */
 typedef struct {
     question asked; /* only its format */
@@ -23,7 +34,7 @@ static PyObject *refuse_value(const layout *in, const char *text, PyObject *comp
 /* The offset of a datetime in seconds ahead of UTC. */
 static int offset_of(const layout *in, PyObject *value, int32_t *offset)
 {
-    PyObject *delta = PyObject_CallMethod(value, "utcoffset", NULL);
+    PyObject *delta = PyObject_CallMethodNoArgs(value, utcoffset);
     int known = delta && PyDelta_Check(delta);
     if (delta && !known) refuse_value(in, "a datetime without a zone has no text", PyUnicode_FromString("offset hour"));
     if (known && !seconds_of(delta, offset)) {
@@ -34,12 +45,12 @@ static int offset_of(const layout *in, PyObject *value, int32_t *offset)
     return known;
 }
 
-/* Gets the nanoseconds after the microsecond, which a Timestamp of pandas has. */
-static int nanosecond_of(PyObject *value, uint32_t *nanosecond)
+/* Gets the nanoseconds after the second, also those after the microsecond, which a Timestamp of pandas has. */
+static int nanosecond_of(PyObject *value, uint32_t *out)
 {
-    *nanosecond = 1000 * (uint32_t)PyDateTime_DATE_GET_MICROSECOND(value);
+    *out = 1000 * (uint32_t)PyDateTime_DATE_GET_MICROSECOND(value);
     if (PyDateTime_CheckExact(value)) return 1;
-    PyObject *rest = PyObject_GetAttrString(value, "nanosecond");
+    PyObject *rest = PyObject_GetAttr(value, nanosecond);
     if (!rest && PyErr_ExceptionMatches(PyExc_AttributeError)) {
         PyErr_Clear();
         return 1;
@@ -48,7 +59,7 @@ static int nanosecond_of(PyObject *value, uint32_t *nanosecond)
     Py_XDECREF(rest);
     if (!PyErr_Occurred() && (count < 0 || count > 999)) PyErr_SetString(PyExc_ValueError, "nanosecond must be in 0..999");
     if (PyErr_Occurred()) return 0;
-    *nanosecond += (uint32_t)count;
+    *out += (uint32_t)count;
     return 1;
 }
 
@@ -67,7 +78,7 @@ static PyObject *shown_in(const layout *in, PyObject *value)
     int32_t offset;
     if (!is_datetime(in, value)) return NULL;
     if (!in->zone) return Py_NewRef(value);
-    PyObject *shown = offset_of(in, value, &offset) ? PyObject_CallMethod(value, "astimezone", "O", in->zone) : NULL;
+    PyObject *shown = offset_of(in, value, &offset) ? PyObject_CallMethodOneArg(value, astimezone, in->zone) : NULL;
     if (shown && !PyDateTime_Check(shown)) {
         PyErr_Format(PyExc_TypeError, "astimezone() returned %s instead of datetime", Py_TYPE(shown)->tp_name);
         Py_CLEAR(shown);
@@ -95,9 +106,9 @@ static PyObject *text_of(const layout *in, PyObject *value)
     uint8_t text[PELZAUNE_DESCRIBED_TEXT];
     size_t length;
     int32_t offset;
-    uint32_t nanosecond;
-    if (!offset_of(in, value, &offset) || !nanosecond_of(value, &nanosecond)) return NULL;
-    pelzaune_moment m = { PyDateTime_GET_YEAR(value), nanosecond, offset, (uint8_t)PyDateTime_GET_MONTH(value),
+    uint32_t rest;
+    if (!offset_of(in, value, &offset) || !nanosecond_of(value, &rest)) return NULL;
+    pelzaune_moment m = { PyDateTime_GET_YEAR(value), rest, offset, (uint8_t)PyDateTime_GET_MONTH(value),
         (uint8_t)PyDateTime_GET_DAY(value), (uint8_t)PyDateTime_DATE_GET_HOUR(value), (uint8_t)PyDateTime_DATE_GET_MINUTE(value),
         (uint8_t)PyDateTime_DATE_GET_SECOND(value) };
     pelzaune_status status = in->asked.held

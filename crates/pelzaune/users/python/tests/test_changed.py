@@ -187,6 +187,8 @@ class Threads(unittest.TestCase):
 
 
 class Held(unittest.TestCase):
+    FEW = 800  # fewer bytes than a hundred objects
+
     def calls(self):
         text, byte, odd, wrong = "".join([TEXT]), bytes(bytearray(TEXT.encode())), "".join(["\u00e9", TEXT]), "".join([TEXT, "\ud800"])
         form, other = pelzaune.Description(LOG), object()
@@ -237,9 +239,10 @@ class Held(unittest.TestCase):
             self.assertEqual([sys.getrefcount(it) for it in values], before)
 
     def grown(self, call):
-        """The bytes that a hundred calls leak: the least of some rounds, since Python's own caches grow occasionally."""
+        """The bytes that a hundred calls leak: the least of some rounds, since Python's own caches grow for a while, as by the
+        names that datetime makes for each call of a tzinfo."""
         found = []
-        for _ in range(4):
+        while len(found) < 20 and (not found or min(found) >= self.FEW):
             gc.collect()
             before = tracemalloc.get_traced_memory()[0]
             for _ in range(100):
@@ -253,7 +256,7 @@ class Held(unittest.TestCase):
         tracemalloc.start()
         try:
             for number, call in enumerate(calls):
-                self.assertTrue(self.grown(call) < 800, number)
+                self.assertLess(self.grown(call), self.FEW, number)
         finally:
             tracemalloc.stop()
 

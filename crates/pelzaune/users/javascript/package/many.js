@@ -174,8 +174,7 @@ class Column {
     let units = 0;
     let index = 0;
     for (const text of texts) {
-      // The end of a line may have a CR, but not that of a text.
-      const isShort = typeof text === 'string' && text.length < BATCH_UNITS && text.charCodeAt(text.length - 1) !== CR;
+      const isShort = typeof text === 'string' && text.length < BATCH_UNITS;
       if (!isShort || units + text.length >= BATCH_UNITS) {
         this.addBatch(batch);
         batch = [];

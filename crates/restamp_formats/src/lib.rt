@@ -22,7 +22,6 @@ pub use local::{Clocks, Fold};
 pub use missing_field::{MissingField, Part};
 pub use naming::{FormatFault, find_reading, find_writing};
 pub use reading::{
-    Defaults, MOST_STEPS, Match, Reading, complete, has_year, parse, parse_outlined, read,
-    read_front_3339,
+    Defaults, MOST_STEPS, Match, Reading, complete, has_year, parse, read, read_front_3339,
 };
 pub use reason::{OffsetParts, Reason, ReasonDisplay, TwoOffsets};

@@ -334,9 +334,9 @@ pub fn parse<E: FromReason>(
     }
 }
 
-/// [`parse`], but not inlined, so that a caller needs no stack for formats that few logs use, or for parsing again.
+/// [`parse`], but not inlined: for [`read`], and for texts that are parsed again with other defaults.
 #[inline(never)]
-pub fn parse_outlined<E: FromReason>(
+pub(crate) fn parse_outlined<E: FromReason>(
     reading: &Reading,
     is_prefix: bool,
     text: &[u8],

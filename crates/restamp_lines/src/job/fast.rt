@@ -2,7 +2,7 @@
 ghost use Rattle.std.specs.Prelude.{◌≡◌, ◌+◌, ◌≤◌, length, Ok, IfSome};
 ghost use Rattle.restamp_formats.specs.Reading.{ParsesAs};
 
-use restamp_formats::{Brief, Defaults, Match, Reading, parse_outlined};
+use restamp_formats::{Brief, Defaults, Match, Reading};
 
 /// Parses a text by the format: a prefix of it if `is_prefix` is true, otherwise the whole text. `None` if the format
 /// rejects the text, or if the defaults have a zone for local times or a latest moment, even if the format would match.
@@ -20,12 +20,5 @@ pub(super) fn parse(
     if defaults.tries_more() {
         return None;
     }
-    // A call of `parse` is inlined, and clears the stack for each format that it may still be.
-    let parsed = match reading {
-        Reading::Rfc3339 | Reading::Iso8601 => {
-            restamp_formats::parse::<Brief>(reading, is_prefix, text, defaults)
-        }
-        _ => parse_outlined::<Brief>(reading, is_prefix, text, defaults),
-    };
-    parsed.ok()
+    restamp_formats::parse::<Brief>(reading, is_prefix, text, defaults).ok()
 }

@@ -75,7 +75,7 @@ def row_of(form, text):
     if not reason:
         return None
     at, wanted = place_of(form, text) or (None, None)
-    return {"index": at, "expectation": wanted, "reason": reason.text()}
+    return {"index": at, "expectation": wanted, "reason": reason.message()}
 
 
 def value(form, call, text):
@@ -115,7 +115,7 @@ def answer(form, call, text):
     except Refused as fault:
         place = place_of(form, text)
         detail = f"Expected {place[1]} at index {place[0]} of" if place else "The text is"
-        told = f"{'22008' if fault.kind == 'range' else '22007'}|{fault.text()}|{detail} \"{shown(text)}\"."
+        told = f"{'22008' if fault.kind == 'range' else '22007'}|{fault.message()}|{detail} \"{shown(text)}\"."
     return None if call.startswith("try_") else told
 
 

@@ -110,7 +110,7 @@ def answer(call, form, text, kind):
     try:
         return value(call, form, text)
     except Refused as fault:
-        return ["ParseError", fault.text(), fault.name, *place]
+        return ["ParseError", fault.message(), fault.name, *place]
 
 
 def count(call, form, text):

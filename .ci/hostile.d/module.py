@@ -118,12 +118,12 @@ def answer(call, form, text):
         if call == "within":
             return within(form, text)
         lines = text.split(b"\n")
-        return [count(form, line) for line in (lines if lines[-1] else lines[:-1])]
+        return [count(form, line.removesuffix(b"\r")) for line in (lines if lines[-1] else lines[:-1])]
     except Told as error:
         return ["ParseError", *error.args, None, None]
     except Refused as fault:
         place = form.place(text, {})
-        return ["ParseError", fault.text(), fault.name, None, place and place[0]]
+        return ["ParseError", fault.message(), fault.name, None, place and place[0]]
 
 
 def within(form, text):

@@ -36,6 +36,14 @@ def year_of(record, kind):
     return None
 
 
+def missing_of_date(record):
+    """What a record without a date lacks: the year of its day, the month of its day, or the day."""
+    days = [("ordinal",), ("month", "day"), ("iso_week", "weekday"), ("sunday_week", "weekday"), ("monday_week", "weekday")]
+    if any(has(record, *it) for it in days):
+        return "year"
+    return "month" if "day" in record else "day"
+
+
 def date_of(record):
     year, iso_year = year_of(record, ""), year_of(record, "iso_")
     if year is not None and "ordinal" in record:
@@ -47,7 +55,7 @@ def date_of(record):
     for part, letter in (("sunday_week", "U"), ("monday_week", "W")):
         if year is not None and has(record, part, "weekday"):
             return counted_week_date(year, letter, record[part], record["weekday"])
-    raise Refused("missing")
+    raise Refused("missing", missing_of_date(record))
 
 
 def time_of(record):
@@ -56,16 +64,16 @@ def time_of(record):
     elif has(record, "hour_12", "is_pm"):
         hour = record["hour_12"] % 12 + 12 * record["is_pm"]
     else:
-        raise Refused("missing")
+        raise Refused("missing", "period" if "hour_12" in record else "hour")
     parts = [it in record for it in ("minute", "second", "subsecond")]
     if parts != sorted(parts, reverse=True):
-        raise Refused("missing")
+        raise Refused("missing", "second" if "minute" in record else "minute")
     return clock_time(hour, record.get("minute", 0), record.get("second", 0), record.get("subsecond", 0))
 
 
 def zone_of(record):
     if "offset_hour" not in record:
-        raise Refused("missing")
+        raise Refused("missing", "offset hour")
     sign = -1 if record.get("offset_negative") else 1
     minute = sign * record.get("offset_minute", 0)
     second = sign * record.get("offset_second", 0) if "offset_minute" in record else 0

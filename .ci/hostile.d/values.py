@@ -19,7 +19,8 @@ WEEKDAYS = "Monday Tuesday Wednesday Thursday Friday Saturday Sunday".split()
 
 
 class Refused(Exception):
-    """The error of a text without a value. The kind is `literal`, `component`, `trailing`, `missing` or `range`."""
+    """The error of a text without a value. The kind is `literal`, `component`, `trailing`, `missing` or `range`; the name
+    is that of the component, also of one that is missing."""
 
     def __init__(self, kind, name=None, conditional=False):
         super().__init__(kind, name, conditional)
@@ -34,6 +35,12 @@ class Refused(Exception):
             "trailing": "unexpected trailing characters; the end of input was expected",
             "missing": "the `Parsed` struct did not include enough information to construct the type",
         }[self.kind]
+
+    def message(self):
+        """The message of the bindings, which name what is missing."""
+        if self.kind != "missing" or not self.name:
+            return self.text()
+        return "missing " + {"period": "AM or PM", "offset hour": "offset"}.get(self.name, self.name)
 
 
 def turned(year):

@@ -28,6 +28,7 @@ for line in sys.stdin:
     call, given, form = json.loads(line)
     try:
         if call == "format_datetime":
+            form = form if isinstance(form, int) else pelzaune.Description(bytes.fromhex(form))
             answer = pelzaune.format_datetime(__import__("datetime").datetime.fromisoformat(given), form)
         else:
             form = form if isinstance(form, int) else bytes.fromhex(form)
@@ -153,12 +154,12 @@ def answer_many(form, many, errors):
     return [kind, f"text {refused[0]}: {said}", name, refused[0], place]
 
 
-def written(value, name):
-    """The expected result of `format_datetime`."""
+def written(value, form):
+    """The expected result of `format_datetime` by the name of a format or the tree of a description."""
     moment = ((value.year, value.month, value.day), (value.hour, value.minute, value.second, value.microsecond * 1000),
               int(value.utcoffset().total_seconds()))
     try:
-        return writing.of_form(name, "auto", None, moment).decode()
+        return writing.of_form(form, "auto", None, moment, None).decode()
     except writing.Unwritable as why:
         part = str(why).split()[1].replace("_", " ")
         return ["FormatError", f"the '{part}' component has no text in that format", part, None, None]
@@ -180,10 +181,14 @@ def random_form(rng):
 def ask(rng):
     """A call, as it is sent, and its expected result."""
     if rng.random() < 0.1:
-        value, name = agreeing.random_value(rng), rng.choice(list(NUMBERS))
+        value, (sent, form, _) = agreeing.random_value(rng), random_form(rng)
         if rng.random() < 0.3:
             value = value.replace(year=rng.randint(1890, 1910), tzinfo=zone_of(rng.randint(-86_399, 86_399)))
-        return ["format_datetime", value.isoformat(), NUMBERS[name]], written(value, name)
+        by = form.tree if isinstance(form, ByTree) else next(name for name, number in NUMBERS.items() if number == sent)
+        try:
+            return ["format_datetime", value.isoformat(), sent], written(value, by)
+        except UnicodeDecodeError:  # a description may have any bytes
+            return ask(rng)
     sent, form, made = random_form(rng)
     if rng.random() < 0.1:
         text = b"\n".join(texts.some_text(rng, made(rng)) for _ in range(rng.randint(0, 5))) + rng.choice([b"", b"\n"])
@@ -209,6 +214,7 @@ def kind_of(rng, text):
 def snippet(sent):
     call, text, form = sent
     if call == "format_datetime":
+        form = form if isinstance(form, int) else f"pelzaune.Description({bytes.fromhex(form)!r})"
         return f"pelzaune.format_datetime(datetime.datetime.fromisoformat({text!r}), {form})"
     form = form if isinstance(form, int) else bytes.fromhex(form)
     if call == "parse_many":

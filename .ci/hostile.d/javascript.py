@@ -83,6 +83,8 @@ def parse_parts(form, text):
             if fault.kind != "missing":
                 raise
             found.append(None)
+    if found == [None] * 3:
+        raise module.Told("the text has no complete date, time or offset", None)
     return found
 
 
@@ -109,6 +111,8 @@ def answer(call, form, text, kind):
         return None if place[0] is None else place
     try:
         return value(call, form, text)
+    except module.Told as error:
+        return ["ParseError", *error.args, None, None]
     except Refused as fault:
         return ["ParseError", fault.message(), fault.name, *place]
 
@@ -137,9 +141,9 @@ def cased(rng, name):
 
 
 def lines_of(text):
-    """The lines of bytes, each of which ends with LF or CR LF. The last may have no end."""
+    """The lines of bytes without LF, which may be missing at the end, and without CR at their ends."""
     *ended, rest = text.split(b"\n")
-    return [it.removesuffix(b"\r") for it in ended] + ([rest] if rest else [])
+    return [it.removesuffix(b"\r") for it in [*ended, *([rest] if rest else [])]]
 
 
 def random_form(rng):
@@ -156,14 +160,14 @@ def random_form(rng):
 
 def ask_written(rng):
     """A moment to write, as it is sent, and the expected text or error."""
-    value, name = module.agreeing.random_value(rng), rng.choice(list(module.NUMBERS))
+    value, (form, reader, _) = module.agreeing.random_value(rng), random_form(rng)
     if rng.random() < 0.3:
         value = value.replace(year=rng.randint(1890, 1910), tzinfo=module.zone_of(rng.randint(-86_399, 86_399)))
     offset = int(value.utcoffset().total_seconds())
     sent = {"year": value.year, "month": value.month, "day": value.day, "hour": value.hour, "minute": value.minute, "second": value.second,
             "millisecond": value.microsecond // 1000, "microsecond": value.microsecond % 1000, "offsetSeconds": offset}
-    wanted = module.written(value, name)
-    return ["format", sent, ["name", cased(rng, name)]], [*wanted[:3], None, None] if isinstance(wanted, list) else wanted
+    wanted = module.written(value, reader.tree if isinstance(reader, module.ByTree) else form[1].lower())
+    return ["format", sent, form], [*wanted[:3], None, None] if isinstance(wanted, list) else wanted
 
 
 def ask_many(rng, sent, form, made):

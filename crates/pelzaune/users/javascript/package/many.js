@@ -4,7 +4,7 @@
 // counted first, and the memory doesn't grow with what is parsed. A block starts at the start of a line, so that it has
 // both bytes of each CR LF or neither.
 
-import { kindOf } from './formats.js';
+import { FORMATS, kindOf } from './formats.js';
 import { BLOCK_BYTES, isBytes, isWellFormed, validateBytes } from './memory.js';
 
 /** The entry of a rejected text, the least number. It is also the count of one instant, so `rejected` decides. */
@@ -17,6 +17,8 @@ const LEAST_HIGH_HALF = -(2 ** 31);
 const BATCH_UNITS = Math.floor(BLOCK_BYTES / 3);
 const FIRST_ROOM = 1024;
 const IS_LITTLE_ENDIAN = new Uint8Array(new Uint16Array([1]).buffer)[0] === 1;
+// A mail date may have line ends in it.
+const WITHOUT_LINE_ENDS = [FORMATS.get('rfc3339'), FORMATS.get('iso8601')];
 
 /** The milliseconds, rounded down, of nanoseconds that are given as their high and low 32 bits. */
 function millisecondsOf(high, low) {
@@ -30,12 +32,31 @@ function textEnd(bytes, start, end) {
   return end > start && bytes[end - 1] === CR ? end - 1 : end;
 }
 
+/** The index of the first LF of the memory between two indexes, or the second. Words of four bytes are tested at once. */
+function lineEnd({ bytes, words }, start, end) {
+  let at = start;
+  while ((at & 3) !== 0 && at < end && bytes[at] !== LF) at++;
+  if ((at & 3) !== 0) return at;
+  const last = end >> 2;
+  let word = at >> 2;
+  for (; word < last; word++) {
+    // An LF becomes a byte of 0, from which the subtraction borrows.
+    const mixed = words[word] ^ 0x0a0a0a0a;
+    if (((mixed - 0x01010101) & ~mixed & 0x80808080) !== 0) break;
+  }
+  at = word << 2;
+  while (at < end && bytes[at] !== LF) at++;
+  return at;
+}
+
 class Column {
   constructor(memory, number, prepared, inMilliseconds) {
     this.memory = memory;
     this.number = number;
     this.prepared = prepared;
     this.inMilliseconds = inMilliseconds;
+    // Each call of a module with a memory of 64 bits takes BigInts.
+    this.isSplit = !memory.isWide && prepared === undefined && WITHOUT_LINE_ENDS.includes(number);
     this.values = inMilliseconds ? new Float64Array(FIRST_ROOM) : new BigInt64Array(FIRST_ROOM);
     this.count = 0;
     this.rejected = [];
@@ -53,10 +74,42 @@ class Column {
   parseLines(length) {
     const { memory } = this;
     const { calls, size } = memory;
+    if (this.isSplit) return this.parseEach(length);
     const text = [memory.textAt, size(length), memory.entriesAt, size(BLOCK_BYTES), memory.countAt];
     if (this.prepared === undefined) return Number(calls.pelzaune_column(this.number, ...text));
     memory.load(this.prepared);
     return Number(calls.pelzaune_described_column(memory.preparedAt, ...text));
+  }
+
+  /**
+   * Does what `pelzaune_column` does for the text in the memory. The module is built without vectors, so its search for
+   * the ends of lines takes a third of that call's time. Here a line is first taken to be as long as the one before: if
+   * the module accepts that text, it has no LF.
+   */
+  parseEach(length) {
+    const { memory, number } = this;
+    const { calls, bytes, view, text, entries } = memory;
+    const end = text + length;
+    let [lines, refused, width] = [0, 0, -1];
+    for (let start = text; start < end; lines++) {
+      const entry = entries + 8 * lines;
+      const isLikely = width >= 0 && start + width < end && bytes[start + width] === LF;
+      let to = isLikely ? start + width : lineEnd(memory, start, end);
+      let status = calls.pelzaune_parse_nanoseconds(number, start, textEnd(bytes, start, to) - start, entry);
+      if (status !== 0 && isLikely) {
+        to = lineEnd(memory, start, end);
+        status = calls.pelzaune_parse_nanoseconds(number, start, textEnd(bytes, start, to) - start, entry);
+      }
+      width = status === 0 ? to - start : -1;
+      if (status !== 0) {
+        view.setInt32(entry, 0, true);
+        view.setInt32(entry + 4, LEAST_HIGH_HALF, true);
+        refused++;
+      }
+      start = to + 1;
+    }
+    view.setUint32(memory.count, refused, true);
+    return lines;
   }
 
   /** Parses bytes of the memory as one text, into `out`, as a count of nanoseconds or as an instant. */

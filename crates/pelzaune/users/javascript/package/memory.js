@@ -94,6 +94,7 @@ export class Memory {
   renew() {
     this.bytes = new Uint8Array(this.calls.memory.buffer);
     this.view = new DataView(this.calls.memory.buffer);
+    this.words = new Int32Array(this.calls.memory.buffer);
     this.shortText = this.bytes.subarray(this.text, this.text + 3 * SHORT_TEXT);
   }
 

@@ -199,6 +199,30 @@ function testReturnsOfBlocks(p, checks) {
   }
 }
 
+/** Two lines that are together as long as the line before, and lines of many lengths. */
+function testLengths(p, checks) {
+  const longMail = 'Fri, 02 Jan 1970   00:00:00 GMT';
+  const rows = [
+    [`${TEXT}\n1970-01-01\n00:00:01Z\n${TEXT}`, 'rfc3339', [SECOND, NO_COUNT, NO_COUNT, SECOND]],
+    [`${TEXT}\n1970-01-01\n00:00:01Z\n${TEXT}\n`, 'iso8601', [SECOND, NO_COUNT, NO_COUNT, SECOND]],
+    [`${TEXT}\n${'\n'.repeat(20)}${TEXT}`, 'rfc3339', [SECOND, ...Array(20).fill(NO_COUNT), SECOND]],
+    // A mail date may be folded.
+    [`${longMail}\nFri, 02 Jan 1970\r\n 00:00:00 GMT\n${longMail}`, 'rfc2822', [DAY, NO_COUNT, NO_COUNT, DAY]],
+  ];
+  for (const [text, format, counts] of rows) compareLines(p, checks, text, format, counts, JSON.stringify(text));
+  const next = random(20);
+  const pool = [TEXT, TEXT, '1970-01-01T00:00:02.5Z', '1970-01-01T00:00:02,5Z', '1970-01-01', '00:00:01Z', '', 'x', `${TEXT}Z`,
+    '1970-01-01T00:00:01+00:00', '19700101T000001Z', MAIL, longMail, '9999-12-31T23:59:59Z'];
+  for (let k = 0; k < 600; k++) {
+    const format = pick(next, ['rfc3339', 'rfc2822', 'iso8601']);
+    const lines = [...Array.from({ length: 1 + next(30) }, () => pick(next, pool)), pick(next, [TEXT, 'y'])];
+    const text = utf8(lines.join('\n') + pick(next, ['', '\n']));
+    checks.same(many(p, text, format), alone(p, lines, format), `lines by ${format}`);
+    checks.same(p.parseMilliseconds(text, format), aloneInMilliseconds(p, lines, format), `lines by ${format} in milliseconds`);
+    checks.same(many(p, lines, format), alone(p, lines, format), `texts by ${format}`);
+  }
+}
+
 function testLong(p, checks) {
   const long = [1, 9, 1000, 1000000].map((length) => `1970-01-01T00:00:01.${'0'.repeat(length)}Z`);
   checks.same(many(p, long), [[SECOND, SECOND, SECOND, SECOND], []], 'long texts');
@@ -255,6 +279,7 @@ export function test(p, checks) {
   testLineEnds(p, checks);
   testReturns(p, checks);
   testReturnsOfBlocks(p, checks);
+  testLengths(p, checks);
   testLong(p, checks);
   testBytes(p, checks);
   testWrong(p, checks);

@@ -160,13 +160,13 @@ class Threads(unittest.TestCase):
         while thread.is_alive():
             turns += 1
         thread.join()
-        self.assertTrue(turns > 1000)
+        self.assertTrue(turns > 100)
         return found[0]
 
     def test_others_run_meanwhile(self):
         texts = ["02/Jan/2021:03:04:05 -0030"] * 200000
         self.assertEqual(set(self.others_run(pelzaune.parse_many, texts, LOG)), {pelzaune.unix_ns(texts[0], LOG)})
-        self.assertEqual(set(self.others_run(pelzaune.format_many, [WHEN] * 200000)), {TEXT})
+        self.assertEqual(set(self.others_run(pelzaune.format_many, [WHEN] * 2000000)), {TEXT})
 
     def test_same_list_in_many_threads(self):
         texts, form = made_texts(MANY), pelzaune.Description("[year]-[month]-[day]T[hour]:[minute]:[second]Z")

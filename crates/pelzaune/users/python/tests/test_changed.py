@@ -153,20 +153,22 @@ class Changed(unittest.TestCase):
 
 class Threads(unittest.TestCase):
     def others_run(self, call, *given):
-        """The result of a call in another thread, while this one runs."""
-        turns, found = 0, []
-        thread = threading.Thread(target=lambda: found.append(call(*given)))
-        thread.start()
-        while thread.is_alive():
-            turns += 1
-        thread.join()
-        self.assertTrue(turns > 100)
-        return found[0]
+        """The result of a call in another thread, while this one runs. A loaded machine may not let it run each time."""
+        for _ in range(20):
+            turns, found = 0, []
+            thread = threading.Thread(target=lambda: found.append(call(*given)))
+            thread.start()
+            while thread.is_alive():
+                turns += 1
+            thread.join()
+            if turns > 1000:
+                return found[0]
+        self.fail(f"this thread had at most {turns} turns")
 
     def test_others_run_meanwhile(self):
         texts = ["02/Jan/2021:03:04:05 -0030"] * 200000
         self.assertEqual(set(self.others_run(pelzaune.parse_many, texts, LOG)), {pelzaune.unix_ns(texts[0], LOG)})
-        self.assertEqual(set(self.others_run(pelzaune.format_many, [WHEN] * 2000000)), {TEXT})
+        self.assertEqual(set(self.others_run(pelzaune.format_many, [WHEN] * 200000)), {TEXT})
 
     def test_same_list_in_many_threads(self):
         texts, form = made_texts(MANY), pelzaune.Description("[year]-[month]-[day]T[hour]:[minute]:[second]Z")

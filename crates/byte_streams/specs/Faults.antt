@@ -13,7 +13,7 @@ HasCause result before now = MatchResult result (λ _. now ≡ before) (λ _. Ri
 abbrev pub count_more : ℕ → ℕ → ℕ
 count_more before n = min (before + n) (2 ^ 64 - 1)
 
--- A read added the number of bytes that it returned to their count. A failed read left the count unchanged.
+-- A read added the number of bytes that it returned to their count, up to 2^64 - 1. A failed read left it unchanged.
 abbrev pub HasGiven : {E : Type 0} → Result ℕ E → ℕ → ℕ → Type 0
 HasGiven result before now = MatchResult result (λ n. now ≡ count_more before n) (λ _. now ≡ before)
 

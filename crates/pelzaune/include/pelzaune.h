@@ -117,9 +117,9 @@ pelzaune_status pelzaune_parse_nanoseconds(uint32_t format, const uint8_t *text,
 #define PELZAUNE_NEEDS_TIME 2u
 #define PELZAUNE_NEEDS_OFFSET 4u
 
-/* After PELZAUNE_INSUFFICIENT, which component a text lacks: PELZAUNE_INSUFFICIENT + 256 * component, whose text is such as
- * "missing year" or "missing offset". PELZAUNE_OK if it lacks nothing; or the error of a text that isn't parsed. Of
- * several the date's is first, then the time's. A text with a Unix timestamp lacks nothing for all three. */
+/* After PELZAUNE_INSUFFICIENT, the missing component: PELZAUNE_INSUFFICIENT + 256 * component, whose text is such as
+ * "missing year" or "missing offset". PELZAUNE_OK if nothing is; or the error of a text that isn't parsed. Of
+ * several the date's is first, then the time's. If all three are selected, a Unix timestamp gives them. */
 pelzaune_status pelzaune_missing(uint32_t needs, uint32_t format, const uint8_t *text, size_t length);
 
 /* The date, the time and the offset of a text. Each has a status of its own: PELZAUNE_OK, or the error with which it is
@@ -168,7 +168,7 @@ pelzaune_status pelzaune_read_nanoseconds(uint32_t syntax, const uint8_t *descri
 pelzaune_status pelzaune_read_parts(uint32_t syntax, const uint8_t *description, size_t description_length,
     const uint8_t *text, size_t length, pelzaune_parts *out);
 
-/* What a text lacks, as by pelzaune_missing. */
+/* What a text is missing, as by pelzaune_missing. */
 pelzaune_status pelzaune_read_missing(uint32_t needs, uint32_t syntax, const uint8_t *description, size_t description_length,
     const uint8_t *text, size_t length);
 
@@ -192,7 +192,7 @@ pelzaune_status pelzaune_described_instant(const pelzaune_description *descripti
 pelzaune_status pelzaune_described_nanoseconds(const pelzaune_description *description, const uint8_t *text, size_t length, int64_t *out);
 pelzaune_status pelzaune_described_parts(const pelzaune_description *description, const uint8_t *text, size_t length, pelzaune_parts *out);
 
-/* What a text lacks, as by pelzaune_missing. */
+/* What a text is missing, as by pelzaune_missing. */
 pelzaune_status pelzaune_described_missing(uint32_t needs, const pelzaune_description *description, const uint8_t *text, size_t length);
 
 /* Where a text fails: at the start of the expected component, even of a truncated one, at the first byte that doesn't

@@ -161,8 +161,8 @@ pub extern "C" fn pelzaune_described_parts(
     parts(description, text, out)
 }
 
-/// As `pelzaune_column`, by a stored description, which is prepared once. Each line is parsed as by
-/// `pelzaune_described_nanoseconds`.
+/// As `pelzaune_column`, by a stored description: stores each line's nanoseconds since 1970-01-01T00:00:00Z in its
+/// entry, or `i64::MIN` for a rejected line, which `refused` counts. Returns the number of lines.
 #[unsafe(no_mangle)]
 pub extern "C" fn pelzaune_described_column(
     description: &StoredDescription,
@@ -188,8 +188,8 @@ pub extern "C" fn pelzaune_locate(format: u32, text: &[u8], out: &mut Place) -> 
     locate_by(format, text, out)
 }
 
-/// As `pelzaune_locate`, by a description in the syntax with this number. For a malformed description or an unknown
-/// syntax, returns the status that `pelzaune_check_description` returns, and leaves `out` unchanged.
+/// As `pelzaune_locate`, by a description in the syntax with this number: stores where a text fails, and returns what
+/// was expected; `out` is unchanged for a match (0), a malformed description (9 to 16) or an unknown syntax (17).
 #[unsafe(no_mangle)]
 pub extern "C" fn pelzaune_read_locate(
     syntax: u32,
@@ -226,8 +226,8 @@ pub extern "C" fn pelzaune_column(
     column_by(format, text, entries, refused)
 }
 
-/// As `pelzaune_column`, by a description in the syntax with this number, which is parsed once. Each line is parsed as
-/// by `pelzaune_read_nanoseconds`. A malformed description or an unknown syntax rejects each line.
+/// As `pelzaune_column`, by a description in this syntax: stores each line's nanoseconds since 1970, and returns the
+/// number of lines. A malformed description or an unknown syntax rejects each line, which then stores `i64::MIN`.
 #[unsafe(no_mangle)]
 pub extern "C" fn pelzaune_read_column(
     syntax: u32,

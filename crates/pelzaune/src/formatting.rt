@@ -46,7 +46,7 @@ pub extern "C" fn pelzaune_read_format_moment(
     format_read(syntax, description, moment, buffer, count)
 }
 
-/// As `pelzaune_read_format_moment`, by a stored description, which has no error of its own.
+/// As `pelzaune_read_format_moment`, by a stored description: writes the text over `buffer`, and its length to `count`.
 #[unsafe(no_mangle)]
 pub extern "C" fn pelzaune_described_format_moment(
     description: &StoredDescription,

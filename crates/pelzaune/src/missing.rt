@@ -1,4 +1,4 @@
-//! Reports what a text lacks for a value.
+//! Reports what a text is missing for a value.
 ghost use Rattle.pelzaune_ffi.specs.Described as Described;
 ghost use Rattle.pelzaune_ffi.specs.Described.{StoresByDescription, StoresBySteps};
 ghost use Rattle.pelzaune_ffi.specs.Missing.{IsMissing};
@@ -7,8 +7,8 @@ ghost use Rattle.pelzaune_ffi.specs.Results.{format_of, of_record, StoresBy};
 use pelzaune_ffi::missing::{missing_by, missing_read, missing_stored};
 use pelzaune_ffi::stored::StoredDescription;
 
-/// Returns the status of what a text lacks, by the format with this number, for some values: 4 plus 256 times the
-/// component's number, or 0 if it lacks nothing. `needs` selects the values: it is the sum of 1 for a date, 2 for a
+/// Returns the status of what a text is missing, by the format with this number, for some values: 4 plus 256 times the
+/// component's number, or 0 if nothing is. `needs` selects the values: it is the sum of 1 for a date, 2 for a
 /// time and 4 for an offset. If all three are selected, and only then, a Unix timestamp gives them. Of several missing
 /// components the date's is reported first, then the time's, then the offset's.
 ///
@@ -20,8 +20,8 @@ pub extern "C" fn pelzaune_missing(needs: u32, format: u32, text: &[u8]) -> u32
     missing_by(needs, format, text)
 }
 
-/// As `pelzaune_missing`, by a description in the syntax with this number. A malformed description has its error's
-/// status, and an unknown syntax 17.
+/// As `pelzaune_missing`, by a description in the syntax with this number: returns 4 plus 256 times the number of the
+/// missing component, 0 for none, or the status of the text's or the description's error, 17 for an unknown syntax.
 #[unsafe(no_mangle)]
 pub extern "C" fn pelzaune_read_missing(
     needs: u32,
@@ -35,7 +35,7 @@ pub extern "C" fn pelzaune_read_missing(
     missing_read(needs, syntax, description, text)
 }
 
-/// As `pelzaune_missing`, by a stored description.
+/// As `pelzaune_missing`, by a stored description: 4 plus 256 * the missing component, 0 for none, or the text's error.
 #[unsafe(no_mangle)]
 pub extern "C" fn pelzaune_described_missing(
     needs: u32,

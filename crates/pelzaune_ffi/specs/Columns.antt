@@ -10,8 +10,8 @@ use Rattle.pelzaune_ffi.specs.declared.parts.Nanoseconds.{Nanoseconds}
 abbrev pub Counting : Type 1
 Counting = List ℕ → ℕ → Nanoseconds → Nanoseconds → Type 0
 
--- The line is parsed by the description with this tree, and the nanoseconds of its moment are stored in the entry; or
--- the status is the error's, and the entry is unchanged.
+-- The line is parsed by the tree: the status is 0, and the new entry has the nanoseconds of its moment; or the status
+-- is the error's, or 7 if they don't fit 64 bits, and the entry is unchanged.
 abbrev pub by_tree : Tree → Counting
 by_tree tree line status old new = StoresByTree IsCountStored of_moment (Ok tree) line status old new
 

@@ -30,8 +30,8 @@ IsFormatted (Ok bytes) status buffer new_buffer count new_count =
 IsFormatted (Err why) status buffer new_buffer count new_count =
     (status ≡ unformattable_status why) × (new_buffer ≡ buffer) × (new_count ≡ count)
 
--- The moment with these parts is formatted by the tree; or the status of the first part that is out of range, and
--- buffer and count are unchanged.
+-- The moment with these parts is formatted by the tree, or rejected, as by `IsFormatted`; or the status of the first
+-- part that is out of range, and buffer and count are unchanged.
 abbrev pub FormatsParts : Option ParseRefusal → MomentParts → Tree → ℕ → List ℕ → List ℕ → ℕ → ℕ → Type 0
 FormatsParts None s tree status buffer new_buffer count new_count =
     (v : OffsetDateTime) × HasMoment v s
@@ -39,16 +39,16 @@ FormatsParts None s tree status buffer new_buffer count new_count =
 FormatsParts (Some e) s tree status buffer new_buffer count new_count =
     (status ≡ status_of e) × (new_buffer ≡ buffer) × (new_count ≡ count)
 
--- The moment with these parts is formatted by the described tree. A malformed description has its fault's status, and
--- buffer and count are unchanged.
+-- The moment with these parts is formatted by the described tree, or rejected, as by `FormatsParts`. A malformed
+-- description has its fault's status, and buffer and count are unchanged.
 abbrev pub FormatsByTree : Result Tree Refusal → MomentParts → ℕ → List ℕ → List ℕ → ℕ → ℕ → Type 0
 FormatsByTree (Ok tree) s status buffer new_buffer count new_count =
     FormatsParts (moment_refusal s) s tree status buffer new_buffer count new_count
 FormatsByTree (Err e) s status buffer new_buffer count new_count =
     (status ≡ fault_status e) × (new_buffer ≡ buffer) × (new_count ≡ count)
 
--- The moment with these parts is formatted by a description in the syntax. An unknown syntax has the status 17, and
--- buffer and count are unchanged.
+-- The moment with these parts is formatted by a description in the syntax, or rejected, as by `FormatsByTree`. An
+-- unknown syntax has the status 17, and buffer and count are unchanged.
 abbrev pub FormatsByDescription : Option Syntax → List ℕ → MomentParts → ℕ → List ℕ → List ℕ → ℕ → ℕ → Type 0
 FormatsByDescription (Some s) description parts status buffer new_buffer count new_count =
     (described : Result Tree Refusal) × IsDescribed s description described

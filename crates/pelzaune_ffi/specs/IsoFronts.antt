@@ -6,8 +6,8 @@ use Rattle.time_readers.specs.IsoDates.{date_text, iso_date}
 use Rattle.time_readers.specs.IsoTimes.{time_text}
 use Rattle.pelzaune_ffi.specs.declared.moments.fast.iso8601.Front.{Front}
 
--- The text starts with the date of the front, then its time, and then its rest. The date and the time are of the
--- front's kind, with separators or without.
+-- The text starts with the date of the front, then a `T` and its time, and then its rest. The date and the time are of
+-- the front's kind, with separators or without.
 abbrev pub IsFront : List ℕ → Front → Type 0
 IsFront text f =
     (between : List ℕ)

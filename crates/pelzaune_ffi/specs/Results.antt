@@ -239,8 +239,8 @@ reason_of Rfc2822 v = unwritable_2822 v
 reason_of Iso8601 v = unwritable_3339 v
 reason_of Rfc3339Strict v = unwritable_3339 v
 
--- The text of a moment in a format. RFC 3339 has the digits of a fraction up to the last that isn't 0, RFC 2822 none,
--- ISO 8601 all nine.
+-- The text of a moment in a format. RFC 3339, strict or not, has the digits of a fraction up to the last that isn't 0,
+-- RFC 2822 has none, and ISO 8601 has all nine.
 abbrev pub IsTextOf : Format → OffsetDateTime → List ℕ → Type 0
 IsTextOf Rfc3339 v bytes = bytes ≡ moment_text (significant 9 (nanosecond (offset_time v))) v
 IsTextOf Rfc2822 v bytes = IsMailText v bytes

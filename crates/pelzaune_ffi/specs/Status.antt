@@ -101,7 +101,7 @@ kind_text kind name =
     if nat_eq kind 19 then codes "the text has more than 1024 bytes" else
     []
 
--- What a text lacks, by the component's number: AM or PM for 13, the offset for 14, otherwise the component.
+-- What a text is missing, by the component's number: AM or PM for 13, the offset for 14, otherwise its name, if any.
 abbrev pub missing_name : ℕ → List ℕ
 missing_name number =
     if nat_eq number 13 then codes "AM or PM" else

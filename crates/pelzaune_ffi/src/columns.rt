@@ -41,7 +41,7 @@ impl Count for ByNumber {
     }
 }
 
-// Parses lines by a prepared description.
+// Parses lines by a prepared description, and stores the nanoseconds of their moments.
 impl Count for Prepared<MOST_STEPS> {
     ghost stores = { λ s. by_tree (steps_shape s) };
 
@@ -136,8 +136,8 @@ pub fn column_by(
     column(&ByNumber(format), text, entries, refused)
 }
 
-// As [`column_by`], by a description that is parsed once. Each line is parsed as by [`count`]. A malformed description
-// rejects each line.
+// Stores in each line's entry its nanoseconds since 1970 by a description, or `i64::MIN` if it is rejected, and in
+// `refused` how many are. A malformed description rejects each line. Returns how many lines the whole text has.
 fn described_column(
     syntax: Syntax,
     description: &[u8],
@@ -155,8 +155,8 @@ fn described_column(
     }
 }
 
-/// As [`column_by`], by a description in the syntax with this number, which is parsed once. Each line is parsed as by
-/// [`count_read`](crate::results::count_read). A malformed description or an unknown syntax rejects each line.
+/// As [`column_by`], by a description in the syntax with this number: stores each line's nanoseconds since 1970, and
+/// returns the number of lines. A malformed description or an unknown syntax rejects each line, storing `i64::MIN`.
 #[inline(always)]
 pub fn column_read(
     syntax: u32,
@@ -175,7 +175,7 @@ pub fn column_read(
     }
 }
 
-/// As [`column_by`], by a stored description, which is prepared once. Each line is parsed as by [`count`].
+/// As [`column_by`], by a stored description: stores nanoseconds since 1970 by line, and returns the number of lines.
 #[inline(always)]
 pub fn column_stored(
     description: &StoredDescription,

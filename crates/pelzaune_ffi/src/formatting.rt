@@ -48,8 +48,8 @@ fn format_value(steps: &[Step], value: OffsetDateTime, buffer: &mut [u8], count:
     }
 }
 
-// As `format_value`, for the moment with these parts. If a part is out of range, returns the status of the first such
-// part, and leaves `buffer` and `count` unchanged.
+// Formats the moment with these parts by the steps into `buffer`, truncated to its length, stores the whole length in
+// `count` and returns 0. Or returns the status of the first part out of range or of the error; then both are unchanged.
 fn format_parts(steps: &[Step], parts: &MomentParts, buffer: &mut [u8], count: &mut usize) -> u32
     ensures { spec.FormatsParts (moment_refusal parts.now) parts.now (steps_shape steps.now) result
         buffer.old buffer.new count.old count.new }
@@ -80,7 +80,7 @@ pub fn format_read(
     by_description!(syntax, description, found => format_parts(found.steps(), moment, buffer, count))
 }
 
-/// As [`format_read`], by a stored description, which has no error of its own.
+/// As [`format_read`], by a stored description: writes the text over the start of `buffer`, and its length to `count`.
 pub fn format_stored(
     description: &StoredDescription,
     moment: &MomentParts,

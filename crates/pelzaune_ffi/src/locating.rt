@@ -76,8 +76,8 @@ pub fn locate_by(format: u32, text: &[u8], out: &mut Place) -> u32
     }
 }
 
-/// As [`locate_by`], by a description in the syntax with this number. For a malformed description or an unknown syntax,
-/// returns the status that [`check`](crate::descriptions::check) returns, and leaves `out` unchanged.
+/// As [`locate_by`], by a description in the syntax with this number: stores where a text fails, and returns what was
+/// expected; `out` is unchanged for a match (0), a malformed description (9 to 16) or an unknown syntax (17).
 #[inline(always)]
 pub fn locate_read(syntax: u32, description: &[u8], text: &[u8], out: &mut Place) -> u32
     ensures { StoresPlaceByDescription (Described.syntax_of syntax) description.now text.now result out.old out.new }

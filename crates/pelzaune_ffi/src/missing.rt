@@ -1,4 +1,4 @@
-//! Finds the component that a text lacks for a value.
+//! Finds the component that is missing for a value.
 ghost use Rattle.std.specs.Prelude.{◌≡◌, if◌then◌else◌};
 ghost use Rattle.pelzaune_ffi.specs.Described as Described;
 ghost use Rattle.pelzaune_ffi.specs.Described.{StoresByDescription, StoresBySteps};
@@ -45,7 +45,7 @@ fn has_iso_day(parsed: &Parsed) -> bool
     parsed.iso_week_number().is_some() && parsed.weekday().is_some()
 }
 
-// The status of what a record lacks for a date: the year, the month of a day, or the day; 0 if it lacks nothing.
+// The status of what a record is missing for a date: the year, the month of a day, or the day; 0 if nothing is.
 fn missing_for_date(parsed: &Parsed) -> u32
     ensures { result ≡ spec.missing_for_date parsed.now }
 {
@@ -61,7 +61,7 @@ fn missing_for_date(parsed: &Parsed) -> u32
     }
 }
 
-// The status of what a record lacks for an hour of the day, the half of the day or the hour; 0 if it lacks nothing.
+// The status of what a record is missing for an hour of the day, the half of the day or the hour; 0 if nothing is.
 fn missing_for_hour(parsed: &Parsed) -> u32
     ensures { result ≡ spec.missing_for_hour parsed.now }
 {
@@ -75,7 +75,7 @@ fn missing_for_hour(parsed: &Parsed) -> u32
     }
 }
 
-// The status of what a record lacks between its hour and its smallest part, a minute or a second; 0 for no such gap.
+// The status of what is missing between a record's hour and its smallest part, a minute or a second; 0 for no such gap.
 fn missing_below_hour(parsed: &Parsed) -> u32
     ensures { result ≡ spec.missing_below_hour parsed.now }
 {
@@ -100,14 +100,14 @@ fn selected(is_selected: bool, status: u32) -> u32
     if is_selected { status } else { 0 }
 }
 
-// The status of what a record lacks for a time; 0 if it lacks nothing.
+// The status of what a record is missing for a time; 0 if nothing is.
 fn missing_for_time(parsed: &Parsed) -> u32
     ensures { result ≡ spec.missing_for_time parsed.now }
 {
     first_status(missing_for_hour(parsed), missing_below_hour(parsed))
 }
 
-// The status of what a record lacks for an offset: its hour; 0 if it lacks nothing.
+// The status of what a record is missing for an offset: its hour; 0 if nothing is.
 fn missing_for_offset(parsed: &Parsed) -> u32
     ensures { result ≡ spec.missing_for_offset parsed.now }
 {
@@ -118,7 +118,7 @@ fn missing_for_offset(parsed: &Parsed) -> u32
     }
 }
 
-// The status of what a record lacks for the values that `needs` selects; 0 if it lacks nothing.
+// The status of what a record is missing for a date, time or offset, as the bits 1, 2 and 4 of `needs` select, or 0.
 fn missing_for(needs: u32, parsed: &Parsed) -> u32
     ensures { result ≡ spec.missing_for needs parsed.now }
 {
@@ -131,8 +131,8 @@ fn missing_for(needs: u32, parsed: &Parsed) -> u32
     first_status(date, first_status(time, offset))
 }
 
-// The status of what a text lacks, by the format, for the values that `needs` selects; 0 if it lacks nothing. If the
-// whole text isn't parsed, the error's status.
+// The status of what a text is missing, by the format, for a date, time or offset, as the bits 1, 2 and 4 of `needs`
+// select; 0 if nothing is. If the whole text isn't parsed, the error's status.
 fn missing<F: Parsable>(format: &F, needs: u32, text: &[u8]) -> u32
     ensures { IsResultStored (spec.IsMissing needs)
         (of_record (F.path format.now) (F.reads format.now) (F.refuses format.now) text.now) result tt tt }
@@ -143,8 +143,8 @@ fn missing<F: Parsable>(format: &F, needs: u32, text: &[u8]) -> u32
     }
 }
 
-/// The status of what a text lacks, by the format with this number, for some values: 4 plus 256 times the component's
-/// number, or 0 if it lacks nothing. `needs` selects the values: it is the sum of 1 for a date, 2 for a time and 4 for
+/// The status of what is missing, by the format with this number, for some values: 4 plus 256 times the component's
+/// number, or 0 if nothing is. `needs` selects the values: it is the sum of 1 for a date, 2 for a time and 4 for
 /// an offset. If all three are selected, and only then, a Unix timestamp gives them. Of several missing components the
 /// date's is reported first, then the time's, then the offset's.
 ///
@@ -162,8 +162,8 @@ pub fn missing_by(needs: u32, format: u32, text: &[u8]) -> u32
     }
 }
 
-/// As [`missing_by`], by a description in the syntax with this number. A malformed description or an unknown syntax has
-/// the status that [`check`](crate::descriptions::check) returns.
+/// As [`missing_by`], by a description in the syntax with this number: 4 plus 256 times the number of the missing
+/// component, 0 for none, or the status of the text's or the description's error, 17 for an unknown syntax.
 #[inline(never)]
 pub fn missing_read(needs: u32, syntax: u32, description: &[u8], text: &[u8]) -> u32
     ensures { StoresByDescription (spec.IsMissing needs) of_record (Described.syntax_of syntax) description.now
@@ -172,7 +172,7 @@ pub fn missing_read(needs: u32, syntax: u32, description: &[u8], text: &[u8]) ->
     by_description!(syntax, description, found => missing(&found, needs, text))
 }
 
-/// As [`missing_by`], by a stored description.
+/// As [`missing_by`], by a stored description: 4 plus 256 * the missing component, 0 for none, or the text's error.
 #[inline(never)]
 pub fn missing_stored(needs: u32, description: &StoredDescription, text: &[u8]) -> u32
     ensures { StoresBySteps (spec.IsMissing needs) of_record description.now text.now result tt tt }

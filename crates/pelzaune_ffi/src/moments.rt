@@ -62,7 +62,7 @@ fn moment_8601<P: From<OffsetDateTime> + Copy>(text: &[u8], out: &mut P) -> u32
     }
 }
 
-// [`store_value`], not inlined.
+// Parses a text as a `V`, and stores it in `out` as a `P`. Returns 0, or the error's status and leaves `out` unchanged.
 #[inline(never)]
 fn parsed<V: Target, P: From<V> + Copy, F: Parsable>(format: &F, text: &[u8], out: &mut P) -> u32
     ensures { IsResultStored (IsStored P.from_gives)
@@ -123,7 +123,7 @@ fn count_8601(text: &[u8], out: &mut Nanoseconds) -> u32
     }
 }
 
-// [`count`], not inlined.
+// Parses a text, and stores its nanoseconds since 1970. Returns 0, or the error's status and leaves `out` unchanged.
 #[inline(never)]
 fn parsed_count<F: Parsable>(format: &F, text: &[u8], out: &mut Nanoseconds) -> u32
     ensures { IsResultStored IsCountStored

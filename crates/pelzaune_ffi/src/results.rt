@@ -37,8 +37,8 @@ pub fn store_value<V: Target, P: From<V> + Copy, F: Parsable>(
     }
 }
 
-/// As [`store_value`], by the format with this number. An unknown number has the status [`UNKNOWN_FORMAT`], and leaves
-/// `out` unchanged.
+/// Parses a whole text by the format with this number, and stores its value in `out`, as a `P`. Returns 0; or the
+/// error's status, [`UNKNOWN_FORMAT`] for an unknown number, and leaves `out` unchanged.
 #[inline(always)]
 pub fn store_value_by<V: Target, P: From<V> + Copy>(format: u32, text: &[u8], out: &mut P) -> u32
     ensures { StoresValue P.from_gives V.outcome (Formats.format_of format) text.now result out.old out.new }
@@ -123,8 +123,8 @@ pub fn parts<F: Parsable>(format: &F, text: &[u8], out: &mut Parts) -> u32
     }
 }
 
-/// As [`parts`], by the format with this number. An unknown number has the status [`UNKNOWN_FORMAT`], and leaves `out`
-/// unchanged.
+/// Stores a text's date, time and offset, each with a status, as [`parts`], by the format with this number. Returns 0;
+/// or the error's status, [`UNKNOWN_FORMAT`] for an unknown number, and leaves `out` unchanged.
 #[inline(always)]
 pub fn parts_by(format: u32, text: &[u8], out: &mut Parts) -> u32
     ensures { StoresParts (Formats.format_of format) text.now result out.old out.new }
@@ -138,8 +138,8 @@ pub fn parts_by(format: u32, text: &[u8], out: &mut Parts) -> u32
     }
 }
 
-/// As [`store_value`], by a description in the syntax with this number. A malformed description or an unknown syntax
-/// has the status that [`check`](crate::descriptions::check) returns, and leaves `out` unchanged.
+/// Parses a whole text by a description in the syntax with this number, and stores its value in `out` as a `P`. Returns
+/// 0; or the status of the text's or the description's error, 17 for an unknown syntax, and leaves `out` unchanged.
 pub fn store_value_read<V: Target, P: From<V> + Copy>(
     syntax: u32,
     description: &[u8],
@@ -154,8 +154,8 @@ pub fn store_value_read<V: Target, P: From<V> + Copy>(
     })
 }
 
-/// As [`count`], by a description in the syntax with this number. A malformed description or an unknown syntax has the
-/// status that [`check`](crate::descriptions::check) returns, and leaves `out` unchanged.
+/// Stores a text's nanoseconds since 1970, as [`count`], by a description in the syntax with this number. Returns 0; or
+/// the status of the text's or the description's error, 17 for an unknown syntax, and leaves `out` unchanged.
 pub fn count_read(syntax: u32, description: &[u8], text: &[u8], out: &mut Nanoseconds) -> u32
     ensures { StoresByDescription IsCountStored of_moment (Described.syntax_of syntax) description.now
         text.now result out.old out.new }
@@ -163,8 +163,8 @@ pub fn count_read(syntax: u32, description: &[u8], text: &[u8], out: &mut Nanose
     by_description!(syntax, description, found => count(&found, text, out))
 }
 
-/// As [`parts`], by a description in the syntax with this number. A malformed description or an unknown syntax has the
-/// status that [`check`](crate::descriptions::check) returns, and leaves `out` unchanged.
+/// Stores a text's date, time and offset, each with a status, as [`parts`], by a description in this syntax. Returns 0;
+/// or the status of the text's or the description's error, 17 for an unknown syntax, and leaves `out` unchanged.
 pub fn parts_read(syntax: u32, description: &[u8], text: &[u8], out: &mut Parts) -> u32
     ensures { StoresByDescription ArePartsStored of_record (Described.syntax_of syntax) description.now
         text.now result out.old out.new }

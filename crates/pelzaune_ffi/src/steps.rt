@@ -130,7 +130,7 @@ fn chosen(kind: u8, choice: u8, flag: bool) -> StoredStep
 // Each of the next seven macros is for the components with certain modifiers: `step` makes a component from the numbers
 // of a stored step, and `stored` makes the stored step of a component.
 
-// Components with a padding only.
+// Makes the step (`step`) or the stored step (`stored`) of a component with only a padding.
 macro_rules! padded {
     (step $name:ident, $stored:ident, $padding:ident, $flag:ident) => {
         Step::Component(Component::$name(modifier::$name {
@@ -142,7 +142,7 @@ macro_rules! padded {
     };
 }
 
-// Components with a padding, and whether a sign is mandatory.
+// Makes the step (`step`) or stored step (`stored`) of a component with a padding and whether a sign is mandatory.
 macro_rules! signed {
     (step $name:ident, $stored:ident, $padding:ident, $flag:ident) => {
         Step::Component(Component::$name(modifier::$name {
@@ -159,7 +159,7 @@ macro_rules! signed {
     };
 }
 
-// Components whose only modifier is a bool: a mandatory sign, case sensitivity, or days that count from 1.
+// Makes the step or stored step of a component with only a bool: a mandatory sign, case sensitivity or days from 1.
 macro_rules! flagged {
     (step $name:ident, $stored:ident, $padding:ident, $flag:ident, $field:ident) => {
         Step::Component(Component::$name(modifier::$name { $field: $flag }))
@@ -169,7 +169,7 @@ macro_rules! flagged {
     };
 }
 
-// The half of the day: whether `AM` and `PM` are in capitals, and whether case counts.
+// Makes the step or stored step of the half of the day: whether `AM` and `PM` are in capitals, and whether case counts.
 macro_rules! halved {
     (step $name:ident, $stored:ident, $padding:ident, $flag:ident) => {
         Step::Component(Component::$name(modifier::$name {
@@ -186,7 +186,7 @@ macro_rules! halved {
     };
 }
 
-// The fraction of a second, with how many digits it has.
+// Makes the step (`step`) or stored step (`stored`) of a fraction of a second, with how many digits it has.
 macro_rules! fractional {
     (step $name:ident, $stored:ident, $padding:ident, $flag:ident) => {
         Step::Component(Component::$name(modifier::$name {
@@ -198,7 +198,7 @@ macro_rules! fractional {
     };
 }
 
-// Skipped bytes, with how many they are.
+// Makes the step (`step`) or stored step (`stored`) that skips bytes, with how many they are.
 macro_rules! skipped {
     (step $name:ident, $stored:ident, $padding:ident, $flag:ident) => {
         skipping($stored.count)
@@ -211,7 +211,7 @@ macro_rules! skipped {
     };
 }
 
-// The end of the text, with the treatment of trailing bytes.
+// Makes the step (`step`) or stored step (`stored`) of the end of the text, with the treatment of trailing bytes.
 macro_rules! ended {
     (step $name:ident, $stored:ident, $padding:ident, $flag:ident) => {
         Step::Component(Component::$name(modifier::$name {

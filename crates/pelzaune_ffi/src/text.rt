@@ -35,7 +35,7 @@ fn component_name(number: u32) -> &'static str
     }
 }
 
-// The text of the status 4 with a component of this number, in three pieces that are to be joined.
+// The error text for a missing component of this number (0: not enough information), in three pieces to be joined.
 fn missing_pieces(number: u32) -> [&'static str; 3]
     ensures text { Status.text_of result ≡ Status.missing_text number }
     ensures bound { length (Status.missing_text number) ≤ 128 }

@@ -95,8 +95,8 @@ fn write_value(format: Format, value: OffsetDateTime, buffer: &mut [u8], count: 
     }
 }
 
-// As `write_value`, for the moment with these parts. If a part is out of range, returns the status of the first such
-// part, and leaves `buffer` and `count` unchanged.
+// Writes the text of the moment with these parts into `buffer`, truncated to its length, stores the whole length in
+// `count` and returns 0. Or returns the status of a part out of range or not writable, and leaves both unchanged.
 fn write_moment(format: Format, parts: &MomentParts, buffer: &mut [u8], count: &mut usize) -> u32
     ensures { StoresMomentText format (moment_refusal parts.now) parts.now result
         buffer.old buffer.new count.old count.new }

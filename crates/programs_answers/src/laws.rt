@@ -7,9 +7,9 @@ use crate::serving::{LineHandler, Stop, serve};
 use byte_streams::{BufferedSink, Sink, Source};
 use std::alloc::Allocator;
 
-/// Calls [`serve`]. It returns early only after a read or a write that failed, when memory runs out, or when 4294967296
-/// reads don't reach the end. So if there is memory, the end is reached, and no call of the source or the sink fails,
-/// the answers to all lines are written.
+/// Calls [`serve`], which answers each line of the input. It returns early only after a failed read or write, when
+/// memory runs out, or when 4294967296 reads don't reach the end. So if there is memory, the end is reached, and no
+/// call of the source or the sink fails, the answers to all lines are written.
 pub fn law_done<A: LineHandler, R: Source, W: Sink, G: Allocator>(
     handler: &A,
     alloc: G,

@@ -147,7 +147,7 @@ fn write_leading_digits<W: Sink>(year: u32, out: &mut W) -> Result<(), Unwritten
     out.write_all(buffer.format(year / 10_000).as_bytes())
 }
 
-// Writes the text before the last four digits of a date's year, a minus and further digits: nothing for 0 to 9999.
+// Writes what precedes the last four digits of a date's year: a minus if it is negative, and then any further digits.
 #[inline(always)]
 fn write_year_front<W: Sink>(date: Date, out: &mut W) -> Result<(), Unwritten>
     ensures bytes { OnOk result (Appends (W.contents out.old) (W.contents out.new) (year_front (Dates.year date))) }

@@ -131,7 +131,7 @@ fn read_all<R: Source, G: Allocator>(alloc: G, input: &mut R) -> Result<Vec<u8, 
 }
 
 /// Reads the input to its end, with at most 4294967296 reads, and writes the answer to each of its lines and an LF
-/// after it, as [`run`] does.
+/// after it, as [`run`] does: it drops the buffered bytes. If the reads don't reach the end, it returns `Unread`.
 ///
 /// A failed read isn't retried, not even an interrupted one. The sink isn't flushed. After [`Stop::Unread`] or
 /// [`Stop::Memory`] nothing was written, and `out` is unchanged. After [`Stop::Unwritten`] it is unspecified how much

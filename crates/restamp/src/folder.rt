@@ -91,7 +91,7 @@ impl<'a, R: Files + Clock + Eprint + AllocGlobal> DiskFolder<'a, R> {
         Ok(self.path.join(self.rt.alloc(), name)?)
     }
 
-    // The meter of a file of that size in bytes (0: unknown); `None` if progress isn't reported or `begin` returns it.
+    // The meter of a file of that size in bytes (0: unknown); `None` without reports, memory or a clock.
     fn meter(&self, size: u64) -> Option<Meter> {
         if !self.progress.is_enabled() {
             return None;
@@ -101,7 +101,7 @@ impl<'a, R: Files + Clock + Eprint + AllocGlobal> DiskFolder<'a, R> {
             .begin(self.rt.alloc(), self.shown.as_bytes(), size)
     }
 
-    // Sets the group and owner of a file to those of the original, if they differ. Failures to set them are ignored.
+    // Tries to set a file's group and owner to the original's. An error only if memory or its metadata is unavailable.
     fn keep_owner(&self, name: &str, original: &Original) -> io::Result<()> {
         let path = self.path_of(name)?;
         let made = fs::symlink_metadata(self.rt, path.as_path())?;
@@ -140,7 +140,7 @@ impl<'a, R: Files + Clock + Eprint + AllocGlobal> Folder for DiskFolder<'a, R> {
         ))
     }
 
-    // Allows a second name, which the file has after `link`.
+    // Whether the file of that name is in the original's state. It may have a second name, as after `link`.
     fn is_at(&self, name: &str, original: &Original) -> io::Result<bool> {
         let path = self.path_of(name)?;
         Ok(state_of(&fs::symlink_metadata(self.rt, path.as_path())?) == *original)

@@ -238,7 +238,7 @@ fn moment_from(
 }
 
 // The moment of a text as a word, or an error: `Unread` with `reason` if it is no word, `NoClock` if `now` is `None`,
-// or one of `moment_from`.
+// or else that the moment is out of range, or that the day has no start in the default zone.
 fn find_named(
     now: Option<UtcDateTime>,
     text: &str,

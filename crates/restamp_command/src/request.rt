@@ -71,7 +71,7 @@ fn find_fields<'a>(options: &Options<'_, 'a>) -> Result<Fields, Fault<'a>>
     }
 }
 
-// The place of the field of that number, counted from 1. An error if the text is no such number, or by `find_fields`.
+// The place of the field of that number, from 1. An error if the text is no such number, or for a bad delimiter.
 fn find_field<'a>(options: &Options<'_, 'a>, number: &'a str) -> Result<Place<'a>, Fault<'a>>
     ensures { MatchResult result (λ place. spec.IsFieldPlace options.now (Some number.now) (spec.erased_place (Some place)))
         (λ fault. text_behind options.now.field ≡ Some number.now → spec.IsFault options.now (erased_fault fault)) }
@@ -81,7 +81,7 @@ fn find_field<'a>(options: &Options<'_, 'a>, number: &'a str) -> Result<Place<'a
     Ok(Place::Field(fields, index))
 }
 
-// The place of a line's timestamp: the whole line without an option, `None` for `--anywhere`. An error by `find_field`.
+// A timestamp's place: by default the whole line, `None` for `--anywhere`. An error for a bad `--field` or delimiter.
 fn find_place<'a>(options: &Options<'_, 'a>) -> Result<Option<Place<'a>>, Fault<'a>>
     ensures { MatchResult result (λ place. spec.IsPlace options.now (spec.erased_place place))
         (λ fault. spec.IsFault options.now (erased_fault fault)) }
@@ -149,8 +149,8 @@ fn reported_zone_name(name: &str) -> &str
     }
 }
 
-// The default for an omitted offset: the zone of `--in`, or without it the offset of `find_given_offset`. An error if
-// an option rejects its value, or the zone can't be loaded.
+// The default for an omitted offset: the zone of `--in`, or else the offset of `--offset`, or else UTC. An error if an
+// option rejects its value, or the zone can't be loaded.
 fn find_local<'a, R: Env + Files + AllocGlobal>(
     rt: &R,
     options: &Options<'_, 'a>,
@@ -169,7 +169,7 @@ fn find_local<'a, R: Env + Files + AllocGlobal>(
 }
 
 // The defaults for an omitted year and an omitted offset, without a latest moment. An error if an option rejects its
-// value.
+// value, or the zone of `--in` can't be loaded.
 fn find_parts<'a, R: Env + Files + AllocGlobal>(
     rt: &R,
     options: &Options<'_, 'a>,
@@ -204,8 +204,8 @@ fn find_bound<'a>(
     Ok(Some(moment))
 }
 
-// The defaults for what a timestamp omits: those of `find_parts`, and the moment of `--latest`, parsed with them by the
-// formats or the clock at `now`. An error if an option rejects its value.
+// The defaults for an omitted year and offset, and the moment of `--latest`, parsed with them by the formats, or as a
+// word by the clock at `now`. An error if an option rejects its value, or the zone of `--in` can't be loaded.
 #[tactic(auto, using(crate::proofs::FormatLemmas::fault_at))]
 fn find_given<'a, R: Env + Files + AllocGlobal>(
     rt: &R,
@@ -275,7 +275,7 @@ fn find_in_place<'a>(options: &Options<'_, 'a>) -> Result<Option<&'a str>, Fault
     Ok(Some(suffix))
 }
 
-// Whether reports have colours, by `--color`. An error if its value isn't `auto`, `always` or `never`.
+// Whether reports have colours: for `always`, or for `auto` on a terminal, not for `never`. An error for another text.
 fn find_colors<'a>(options: &Options<'_, 'a>, is_terminal: bool) -> Result<bool, Fault<'a>>
     ensures { MatchResult result (λ shows. spec.AreColors options.now is_terminal shows)
         (λ fault. spec.IsFault options.now (erased_fault fault)) }
@@ -356,7 +356,7 @@ impl<'a> Request<'a> {
         })
     }
 
-    /// The settings for the lines of files. Their `strict` is `self.stops`.
+    /// The settings for the lines of files: `output`, `reports` and `style.suffix` of `self`, and `stops` as `strict`.
     pub fn settings(&self) -> Settings<'_>
         ensures { spec.AreSettingsOf self.now result }
     {

@@ -164,7 +164,7 @@ const READING: &[Row] = &[
     },
 ];
 
-// The options for how moments are written.
+// The options for how moments are written, and `--only`, which writes nothing else of a line.
 const WRITING: &[Row] = &[
     Row {
         name: "to",

@@ -25,7 +25,7 @@ pub fn find_positive(text: &str) -> Option<usize>
     text.parse::<usize>().ok().filter(|number| *number != 0)
 }
 
-/// Parses a year from -999999 to 999999 in ASCII digits, after an optional `+` or `-`. `None` for any other text.
+/// A year from -999999 to 999999 in ASCII digits, maybe with leading zeros, after an optional `+` or `-`; else `None`.
 pub fn find_year(text: &str) -> Option<i32>
     ensures { spec.IsYear text.now result }
 {

@@ -1,5 +1,5 @@
 -- A moment of RFC 3339 that is all of some bytes is also a prefix of more.
-use Rattle.std.proofs.Common.{◌≡◌, ◌≤◌, ◌-◌, ◌∙◌, ℕ, Bool, IsTrue, true, false, List, [], ◌∷◌, ◌++◌, length, take, drop, length-drop, take-append-drop, ap, refl, subst, inl, inr, arith, append_assoc, Option, Some, None, Ok, ◌+◌, Err, sym, length-append, nat_lt, ◌&&◌}
+use Rattle.std.proofs.Common.{◌≡◌, ◌≤◌, ◌-◌, ◌∙◌, ℕ, ℤ, Bool, IsTrue, true, false, List, [], ◌∷◌, ◌++◌, length, take, drop, length-drop, take-append-drop, ap, refl, subst, inl, inr, arith, append_assoc, Option, Some, None, Ok, ◌+◌, Err, sym, length-append, nat_lt, ◌&&◌}
 use Rattle.std.proofs.{Math.Seq.take-length, Math.Seq.take-append_seam, Math.Seq.drop-append_seam, lemmas.Bool.and_parts, lemmas.Bool.Decides.nat_tests}
 use Rattle.std.specs.Char.{to_ascii_lowercase}
 use Rattle.time_zones.specs.Suffix.{is_time_end}
@@ -7,11 +7,12 @@ use Rattle.time_digits.specs.Digits.{Cut, IsDigit, IsDigitRun, NoDigitFirst, sig
 use Rattle.time_readers.specs.Rfc3339.{PlaceSyntax, HasForm, IsOffsetColon, IsOffsetMinute, IsSubsecond, NoDotFirst, date_places, nothing_read, offset_places, time_places, to_second_places}
 use Rattle.time_readers.specs.{Readers.MatchesPlaces, declared.rfc3339.Numbers.Numbers, declared.rfc3339.Place.Place}
 use Rattle.time_readers.proofs.Walking.{MatchesPlaces-append, MatchesPlaces-ends, MatchesPlaces-split}
+use Rattle.time_parsing.specs.Iso8601 as Iso8601
 use Rattle.time_parsing.specs.Rfc3339Strict.{Reads, Refuses}
 use Rattle.time_parsing.proofs.StrictTexts.{separator-append, strict_texts}
-use Rattle.restamp_formats.specs.Common.{greatest_year, OffsetDateTime, AgreesWith, IsSuffix, Tag, ZoneTag, critical_key, Zones, RefusesDirectly, empty, IsMoment, IsOutcome, IsFront, direct, Defaults, Match, Reading}
+use Rattle.restamp_formats.specs.Common.{greatest_year, OffsetDateTime, UtcOffset, Record, is_some, AgreesWith, IsSuffix, Tag, ZoneTag, critical_key, Zones, RefusesDirectly, empty, IsMoment, IsOutcome, IsFront, direct, Defaults, Match, Reading}
 use Rattle.restamp_formats.specs.Zoned.{IsLongestSuffix, IsSuffixed, Suffix, has_tail, has_local_offset}
-use Rattle.restamp_formats.specs.{Reading.IsReadBy, Reading.IsReadInFront, Reading.said, Reading.ParsesAs, Laws.ReadsSuffixedBack}
+use Rattle.restamp_formats.specs.{Reading.IsReadBy, Reading.IsReadInFront, Reading.IsReadWith, Reading.said, Reading.with_offset, Reading.with_year, Reading.ParsesAs, Laws.ReadsSuffixedBack}
 use Rattle.restamp_formats.proofs.OneReading.{one_has}
 
 -- places without a fraction
@@ -129,6 +130,40 @@ front_said text end v fits moment =
       subst (λ (b : List ℕ). IsFront (IsMoment greatest_year) (Reads greatest_year) (Refuses greatest_year) b empty (Ok (v, rest)))
           (take-append-drop end text) (front-moment (take end text) rest v moment),
       ap (λ (k : ℕ). Ok (said v k)) long,
+    )
+
+-- ---- A text of ISO 8601 with a year and an offset
+
+-- the defaults change no record with a year and the hour of an offset
+unchanged : (year : Option ℤ) (offset : Option UtcOffset) (r : Record) → is_some r.year ≡ true → is_some r.offset_hour ≡ true
+    → with_offset offset (with_year year r) ≡ r
+unchanged None None r has_year has_offset = refl
+unchanged None (Some o) r has_year has_offset = rw has_offset refl
+unchanged (Some y) None r has_year has_offset = rw has_year refl
+unchanged (Some y) (Some o) r has_year has_offset = rw (has_year, has_offset) refl
+
+-- a moment before the rest of a text, with any defaults; if the rest is empty, it is the moment of the whole text
+pub front_completed : (is_prefix : Bool) (text rest : List ℕ) (v : OffsetDateTime) (defaults : Defaults)
+    → Iso8601.ReadsMoment greatest_year text v rest → (is_prefix ≡ false → rest ≡ [])
+    → IsReadWith is_prefix (Iso8601.Reads greatest_year) (Iso8601.Refuses greatest_year) text defaults
+    (Ok (said v (length text - length rest)))
+front_completed true text rest v defaults (r, read, moment, year, offset) whole =
+    let same = unchanged defaults.year defaults.offset r year offset in (
+      Ok (v, rest),
+      (r, read, subst (λ (q : Record). IsMoment greatest_year q (Ok v)) (sym same) moment),
+      refl,
+    )
+front_completed false text rest v defaults (r, read, moment, year, offset) whole =
+    let same = unchanged defaults.year defaults.offset r year offset in
+    let none = whole refl in
+    let long : length text - length rest ≡ length text = omega (arith, ap length none) in (
+      Ok v,
+      (
+        r,
+        subst (λ (l : List ℕ). Iso8601.Reads greatest_year text empty l r) none read,
+        subst (λ (q : Record). IsMoment greatest_year q (Ok v)) (sym same) moment,
+      ),
+      ap (λ (n : ℕ). Ok (said v n)) long,
     )
 
 -- ---- A timestamp at the start of a text ends with a digit or the letter of UTC

@@ -83,8 +83,8 @@ ReadsTree (Reading.Counted d) defaults tree v =
     × (is_negative_fraction (whole_text v (pieces tree)) ≡ false)
 ReadsTree format defaults tree v = ⊥
 
--- the record with the component's value of the moment set; unchanged for `end`; `None` for a century or the last two
--- digits of a year, the year or week of ISO 8601, a week number, a count from 1970 and `ignore`
+-- The record with the component's value set, for an offset's minute or second its magnitude; unchanged for `end`;
+-- `None` for a year's century or last two digits, an ISO year or week, a week number, a count from 1970, `ignore`.
 abbrev pub with_value_of : OffsetDateTime → Component → Record → Option Record
 with_value_of v (Component.Day m) r = Some (record r { day = Some (Dates.day (offset_date v)) })
 with_value_of v (Component.MonthShort m) r = Some (record r { month = Some (Dates.month (offset_date v)) })

@@ -154,7 +154,7 @@ AreEquivalent bytes format other =
     ⊎ ((zones same : Zones) × (format ≡ Reading.Zoned zones) × (other ≡ Reading.Zoned same)
     × SameZones bytes zones same)
 
--- two lists of equally many formats are equivalent in pairs, as above
+-- equally many formats, which in pairs are equal, or RFC 9557 with tables that agree on the names in the bytes
 abbrev pub AllEquivalent : List ℕ → List Reading → List Reading → Type 0
 AllEquivalent bytes [] [] = Unit {0}
 AllEquivalent bytes [] (other ∷ others) = ⊥

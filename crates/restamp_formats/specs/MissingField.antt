@@ -135,9 +135,9 @@ has_full_date has_year t =
     (has_day t && (has_whole_year t || (has_year && not (always Part.Year t))))
     || (has_iso_day t && has_whole_iso_year t)
 
--- The first of a day, its year, an hour and its half of the day that all texts of a tree omit, so that none of them is
--- a moment. `None` if there is none, or with a count from 1970, which is a whole moment. The `Bool` is true if there is
--- a default year. Offsets aren't checked.
+-- The first of a day, its year, an hour and its half that all texts of a tree omit, so that none is a moment:
+-- `WholeYear` if no default can give the year, else `Year`. `None` if there is none, or with a count from 1970. The
+-- `Bool` is true if there is a default year. Offsets, minutes and seconds aren't checked.
 abbrev pub missing_field_of : Bool → Tree → Option MissingField
 missing_field_of has_year t =
     if has_kind Kind.Count t then None else

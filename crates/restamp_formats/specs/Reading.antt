@@ -127,8 +127,8 @@ IsRead3339 is_prefix = IsReadBy is_prefix (direct (Rfc3339.RefusesDirectly great
 abbrev pub IsReadInFront : List ℕ → Result Match Refusal → Type 0
 IsReadInFront = IsRead3339 true
 
--- The match of a text by any of the formats, or its error; for RFC 9557, of the prefix before the suffix. Only ISO
--- 8601, `Described` and `Counted` use defaults.
+-- The match of a text, or of a prefix of it if the `Bool` is true, by a format, or its error; for RFC 9557, always of
+-- the prefix before the suffix. Only ISO 8601, `Described` and `Counted` use the defaults.
 abbrev pub IsRead : Reading → Bool → List ℕ → Defaults → Result Match Refusal → Type 0
 IsRead Reading.Rfc3339 is_prefix text defaults = IsRead3339 is_prefix text
 IsRead (Reading.Zoned zones) is_prefix text defaults = IsReadInFront text
@@ -171,7 +171,7 @@ abbrev pub guarded : Reading → List ℕ → Match → Result Match Reason
 guarded format text s =
     if is_counted format && is_negative_fraction (take s.length text) then Err negative_fraction else Ok s
 
--- the match, or an error by `guarded`; for RFC 9557, the match extended by the longest suffix after it, or an error
+-- the match, or an error if `Counted` has a `-` first and a `.`; for RFC 9557, with the suffix after it, or an error
 abbrev pub IsGuarded : Reading → Bool → List ℕ → Match → Result Match Reason → Type 0
 IsGuarded format is_prefix text s result =
     MatchOption (zones_of format) (result ≡ guarded format text s) (λ zones. IsSuffixed zones is_prefix text s result)
@@ -280,9 +280,9 @@ AreYearsTried u (suc n) year reason result =
     (λ why. (final : Bool) × IsFinal u year why final
     × MatchBool final (result ≡ Err why) (AreYearsTried u n (year -ℤ pos 1) why result))
 
--- The match of a text by a format, also as a local time in the zone of the defaults. If the text is rejected and the
--- defaults have a latest moment, ten years are tried, from the one after that moment's down. The error is that of the
--- last attempt that fails.
+-- The match of a text by a format, also as a local time in the zone of the defaults. If there is none and the defaults
+-- have a latest moment, the first match that isn't after it, in ten years from the one after its own down. Otherwise
+-- the error of the last attempt that fails; a nonexistent or ambiguous local time may end the attempts.
 abbrev pub IsDated : Reading → Bool → List ℕ → Defaults → Result Match Reason → Type 0
 IsDated format is_prefix text defaults result =
     (plain : Result Match Reason) × ParsesLocally format is_prefix text defaults plain

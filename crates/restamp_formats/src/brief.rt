@@ -46,7 +46,7 @@ impl FromReason for Reason {
     }
 }
 
-/// The part of a reason that the choice of a year needs.
+/// The part of a reason that the choice of a year needs: whether it is `Nonexistent` or `Ambiguous`.
 #[derive(Clone, Copy, Debug, PartialEq, Eq)]
 pub struct Brief {
     /// Whether the reason is `Nonexistent` or `Ambiguous`.

@@ -68,7 +68,7 @@ impl Clock<'_> {
     }
 }
 
-// The error for bytes after a timestamp and its suffix, if the whole text is parsed.
+// The error for bytes after a timestamp and its suffix, where the whole text must match and not only a prefix.
 const TRAILING: Parse = Parse::ParseFromDescription(
     ParseFromDescription::UnexpectedTrailingCharacters,
 );

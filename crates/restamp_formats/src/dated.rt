@@ -219,7 +219,7 @@ pub fn parse_in_turn<E: FromReason>(
     }
 }
 
-/// [`parse_in_turn`] with the whole [`Reason`] as its error, which is the first format's.
+/// Parses a text by the first format that matches, as [`parse_in_turn`]. The error is the first format's [`Reason`].
 pub fn read_in_turn(
     first: &Reading,
     others: &[Reading],

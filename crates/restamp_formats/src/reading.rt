@@ -58,7 +58,7 @@ pub struct Defaults<'a> {
     pub latest: Option<OffsetDateTime>,
 }
 
-/// Which bytes of a text match a format, and the moment that they mean.
+/// Which bytes at the start of a text, maybe after white space, match a format, and the moment that they mean.
 #[derive(Clone, Copy, Debug)]
 pub struct Match {
     /// The moment.
@@ -261,13 +261,16 @@ fn read_3339(is_prefix: bool, text: &[u8]) -> Result<Match, Parse>
 }
 
 // Parses a prefix of the text by ISO 8601 if `is_prefix` is true, otherwise the whole text, with the defaults that
-// `complete` sets. Not inlined, so that it needs no stack beside other formats.
+// `complete` sets, and without a record where possible. Not inlined, so that it needs no stack beside other formats.
 #[inline(never)]
 fn read_8601(is_prefix: bool, text: &[u8], defaults: &Defaults<'_>) -> Result<Match, Parse>
     ensures said { spec.IsReadWith is_prefix (iso8601.Reads greatest_year) (iso8601.Refuses greatest_year) text.now
         defaults.now (spec.erased_match result) }
     ensures within { IfOk result (λ said. said.start + said.length ≤ length text.now) }
 {
+    if let Some(said) = fast::read_8601(is_prefix, text) {
+        return Ok(said);
+    }
     read_with(&Iso8601, is_prefix, text, defaults)
 }
 
@@ -348,7 +351,7 @@ pub(crate) fn parse_outlined<E: FromReason>(
     parse(reading, is_prefix, text, defaults)
 }
 
-/// [`parse`] with the whole [`Reason`] as its error. The defaults `clocks` and `latest` have no effect.
+/// Parses a text by the format, as [`parse`] does, with a whole [`Reason`] as error. It ignores `clocks` and `latest`.
 pub fn read(
     reading: &Reading,
     is_prefix: bool,

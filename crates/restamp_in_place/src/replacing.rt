@@ -194,12 +194,12 @@ fn finish<F: Folder, S: Drop>(
 /// replaced, or the error.
 ///
 /// It writes the new bytes to a new file beside the old one, stores that on the disk, and renames it. If a backup's
-/// name is given, which must be unused, the old file has that name from then on. The old file isn't replaced if the
-/// maker returns `Same`, if another program replaced or changed it meanwhile, or if a step fails. Then the new file is
-/// removed, unless that fails too. There are two exceptions: if a rename fails after it was made, or if only the last
-/// write of the folder to the disk fails, the new file is in place, and the result is an error.
+/// name is given, which must be unused, the old file has that name afterwards. The old file isn't replaced if the maker
+/// returns `Same` or an error, if a check finds that another program changed or replaced it, or if a step fails. Then
+/// the new file is removed, unless that fails too. There are two exceptions: if a rename fails after it was made, or if
+/// only the last write of the folder to the disk fails, the new file is in place, and the result is an error.
 ///
-/// A crash at any moment leaves what it might have left before under the name, or the whole new file.
+/// Under the name, a crash at any moment leaves what a crash before the call could leave, or the whole new file.
 pub fn replace<F: Folder, M: FileTransform>(
     folder: &mut F,
     alloc: Global,

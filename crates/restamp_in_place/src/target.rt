@@ -12,7 +12,7 @@ use byte_streams::Sink;
 use restamp_stream::{Block, Rewriting, Settings, Stop, Tally};
 use std::alloc::Global;
 
-/// A file that is to be replaced.
+/// A file that is to be replaced: its name, the name of its backup, and its name in reports.
 #[derive(Clone, Copy)]
 pub struct Target<'a> {
     /// Its name in its folder.
@@ -26,8 +26,8 @@ pub struct Target<'a> {
 /// Replaces a file by its processed lines, unless none of its timestamps is rewritten. Returns the log, the counts of
 /// the file's lines by their actions, and whether the file was replaced, or the error.
 ///
-/// The file is unchanged if the work stops at a rejected line, or if a step fails, with two exceptions: if a rename
-/// fails after it was made, or if only the last write of the folder to the disk fails, the new file is in place.
+/// The file isn't replaced if the work stops early, as at a rejected line, if another program changed it, or if a step
+/// fails. But it is if a rename fails after it was made, or if only the last write of the folder to the disk fails.
 pub fn replace_file<T: Rewriting, F: Folder, L: Sink + Drop>(
     rewriting: &T,
     settings: Settings<'_>,

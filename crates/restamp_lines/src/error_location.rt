@@ -17,7 +17,7 @@ use time_record::Parsed;
 use time_values::error::{Parse, ParseFromDescription, TryFromParsed};
 use time_zones::read_suffix;
 
-/// The location of the error in a rejected timestamp.
+/// The location of the error in a rejected timestamp, and what was expected there, if it is known.
 #[derive(Clone, Copy, Debug)]
 pub struct ErrorLocation<'a> {
     /// The number of the error's byte in its line, from 1; one past the last byte if the line ends there.

@@ -25,7 +25,7 @@ pub const REACH: usize = LOOKAHEAD;
 /// The most bytes from a line's start to its timestamp's end: 262144. A line whose timestamp ends later is rejected.
 pub const LIMIT: usize = LINE_LIMIT;
 
-/// What is done with each line.
+/// How each line is judged: where its timestamp is, how that is parsed and written, and which lines are dropped.
 #[derive(Clone, Copy)]
 pub struct Job<'a> {
     /// The place of the timestamp in the line; `None` means the first byte from which on a format matches.
@@ -174,11 +174,11 @@ impl Job<'_> {
         })
     }
 
-    /// The verdict on a line without its LF. The line is rejected if no format matches its timestamp, if that ends
+    /// The verdict on a line without its LF. The line is rejected if no format matches its timestamp, if this ends
     /// after the first [`LIMIT`] bytes, if its moment lies within the bounds but has no text in the job's form, or if
-    /// there is no timestamp and one is required. Otherwise it is dropped if the moment lies outside the bounds. Of a
-    /// line with more than `LIMIT` + [`REACH`] bytes, the caller may pass only the first `LIMIT` + `REACH`, so that the
-    /// parser sees what follows the timestamp.
+    /// there is no timestamp and one is required. Otherwise it is `Without` if there is no timestamp, dropped if the
+    /// moment lies outside the bounds, and else rewritten. Of a line with more than `LIMIT` + [`REACH`] bytes, the
+    /// caller may pass only the first `LIMIT` + `REACH`, so that the parser sees what follows the timestamp.
     ///
     /// Without a place, the timestamp starts at the first byte from which on a format matches, and has at most
     /// [`REACH`] bytes. It is made of whole words and numbers: if its first byte is an ASCII letter or digit, the byte

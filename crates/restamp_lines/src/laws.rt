@@ -9,12 +9,12 @@ pub fn law_one_verdict()
     ensures { OneVerdict }
 {}
 
-/// A second run changes nothing. If a text of
-/// [`law_rewritten_read_back`](restamp_formats::laws::law_rewritten_read_back) is parsed and written in the same form,
-/// the result is the same text. If such a text, in the job's form and by its first format, is the whole part of a line
-/// at a place that isn't [`Front`](restamp_place::Place::Front) or [`After`](restamp_place::Place::After), the line is
-/// rejected if the text ends after the first [`LIMIT`](crate::LIMIT) bytes, dropped if the moment lies outside the
-/// bounds, and otherwise rewritten to itself.
+/// A second run changes nothing. If a moment is written in a form, if a format can parse all of the moment from the
+/// text (see [`law_rewritten_read_back`](restamp_formats::laws::law_rewritten_read_back)), and if what it parses is
+/// written in that form, the two texts are equal. If such a text, in the job's form and by its first format, is the
+/// whole part of a line at a place other than [`Front`](restamp_place::Place::Front) and
+/// [`After`](restamp_place::Place::After), the line is rejected if the text ends after the first
+/// [`LIMIT`](crate::LIMIT) bytes, dropped if the moment lies outside the bounds, and otherwise rewritten to itself.
 pub fn law_second_run()
     ensures text { WritesSameText }
     ensures line { ChangesNothing }

@@ -58,8 +58,8 @@ fn has_hour(parsed: &Parsed) -> bool
     parsed.hour_24().is_some() || (parsed.hour_12().is_some() && parsed.hour_12_is_pm().is_some())
 }
 
-// The missing part of a record without a date: `Day` if it has no day, otherwise `WholeYear` if it has a part of a
-// year, else `Year`.
+// The missing part of a record without a date: `Day` if it has no day by `has_day` or `has_iso_day`, otherwise
+// `WholeYear` if it has a part of a year or a whole year of the other kind than its day, else `Year`.
 fn missing_date_field(parsed: &Parsed) -> MissingField
     ensures { result ≡ spec.missing_date_field parsed.now }
 {

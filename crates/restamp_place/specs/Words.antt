@@ -6,7 +6,7 @@ use Rattle.std.specs.Option.{option_map}
 use Rattle.restamp_place.specs.Fields.{Blank, is_blank, moved, nth_field}
 use Rattle.restamp_place.specs.declared.fields.fast.Passed.{Passed}
 
--- a word ends with the byte x: x isn't a space or TAB, but the first byte of `rest` is one
+-- a word ends with the byte x, and blanks follow: x isn't a space or TAB, but the first byte of `rest`, after x, is one
 abbrev pub is_end : ℕ → List ℕ → Bool
 is_end x rest = not (is_blank x) && is_blank (slice_index rest 0)
 
@@ -16,6 +16,6 @@ word_ends zero line = 0
 word_ends (suc n) [] = 0
 word_ends (suc n) (x ∷ rest) = (if is_end x rest then 1 else 0) + word_ends n rest
 
--- The word with index n of the line is the word with index `left` of its bytes from `start` on.
+-- The word with index n of the line is the word with index `left` of its bytes from `start` on, or neither exists.
 abbrev pub IsPassed : ℕ → List ℕ → Passed → Type 0
 IsPassed n line p = nth_field Blank n line ≡ option_map (moved p.start) (nth_field Blank p.left (drop p.start line))

@@ -22,8 +22,8 @@ pub enum Place<'a> {
 }
 
 impl Place<'_> {
-    /// Whether the format decides where the timestamp ends. Then [`find_span`] returns all bytes from its start to the
-    /// end of the line, without a CR there.
+    /// Whether the format decides where the timestamp ends: true for `Front` and `After`. Then [`find_span`] returns
+    /// all bytes from the timestamp's start to the end of the line, without a CR there.
     pub fn is_prefix(self) -> bool
         ensures { result ≡ is_prefix self.entry }
     {

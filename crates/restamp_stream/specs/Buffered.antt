@@ -23,7 +23,7 @@ buffered_out contents s = append_known (contents s.out.sink) s.out.buffer.items
 abbrev pub buffered_state : {W L : Type 0} → (W → Option (List ℕ)) → (L → Option (List ℕ)) → Stream W L → State
 buffered_state contents log_contents s = state (buffered_out contents s) (log_contents s.log) s.tally
 
--- The bytes were written after the buffered ones, or a write failed. The log and the counts are unchanged.
+-- The bytes were written or buffered, and `faults` is unchanged, or a write failed and it rose. Log and tally are kept.
 pub record Puts {W L E : Type 0} (contents : W → Option (List ℕ)) (faults : W → ℕ) (before after : Stream W L)
     (result : Result (Unit {0}) E) (bytes : List ℕ) : Type 0 where
   pub put : OnOk result (Appends (buffered_out contents before) (buffered_out contents after) bytes)
@@ -38,8 +38,8 @@ Continues job mid after rest held rest' held' =
     (before : State) (read : List ℕ) → Answered job before mid read rest held
     → Answered job before after read rest' held'
 
--- If an input was processed up to the state `mid`, except for the bytes `held`, the work stopped in it in the state
--- `after`, whatever follows those bytes.
+-- If an input was processed up to the state `mid`, except for the bytes `held`, a rejected line of it stopped the work
+-- in the state `after`, whatever follows those bytes.
 abbrev pub Stops : Job → State → State → TailAction → List ℕ → Type 0
 Stops job mid after rest held =
     (before : State) (read more : List ℕ) → Answered job before mid read rest held
@@ -67,7 +67,7 @@ EndsLine out out' Absent bytes after = (after ≡ bytes) × Keeps out out'
 EndsLine out out' rest bytes after =
     (line : List ℕ) × (bytes ≡ line ++ 10 ∷ after) × HasNoLf line × Appends out out' (passed rest (line ++ 10 ∷ []))
 
--- Between the two states the buffered bytes were written.
+-- Buffered bytes, which `before` has as output, were written: known output, known log and the tally are unchanged.
 pub record Flushes (before after : State) : Type 0 where
   pub out : Keeps before.out after.out
   pub log : Keeps before.log after.log

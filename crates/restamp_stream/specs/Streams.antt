@@ -73,7 +73,7 @@ pub record State : Type 0 where
   pub log : Option (List ℕ)
   pub tally : Tally
 
--- the state with those contents of the writer and of the log, and that tally
+-- the state with those contents of the writer and of the log, or `None` if unknown, and that tally
 abbrev pub state : Option (List ℕ) → Option (List ℕ) → Tally → State
 state out log tally = record { out = out; log = log; tally = tally }
 
@@ -186,7 +186,7 @@ pub record ProcessedSome (job : Job) (old new : Option (List ℕ)) (before after
   pub fails : Fails job.name answered failed
   pub closed : Closes job.name job.settings.reports failed after
 
--- A line of the input was rejected: all lines before it were processed, and what was rejected was reported.
+-- A rejected line stopped the work on the input: the lines before it were processed, and rejections were reported.
 pub record ProcessedBefore (job : Job) (before after : State) (bytes : List ℕ) : Type 0 where
   pub between : State
   pub stopped : Stopped job (before_lines before) between (lines_of bytes)
@@ -201,7 +201,7 @@ ProcessedCutOff job bytes faults faults' before after =
     Rises faults faults'
     × (((left : Option (List ℕ)) × ProcessedSome job bytes left before after) ⊎ Fails job.name before after)
 
--- All lines of a file were processed, or it was cut off (`ProcessedCutOff`). It has those bytes, if they are known.
+-- All lines of the file with those bytes were processed, or it was cut off (`ProcessedCutOff`). For `None` it is true.
 abbrev pub ProcessedFile : Job → Option (List ℕ) → ℕ → ℕ → State → State → Type 0
 ProcessedFile job bytes faults faults' before after =
     IfSome bytes (ProcessedAll job before after) ⊎ ProcessedCutOff job bytes faults faults' before after

@@ -12,7 +12,7 @@ use crate::stream::Stream;
 use byte_streams::{Sink, Source};
 use std::io;
 
-/// Opens files by name.
+/// Opens files by name, and closes them.
 pub trait Opening {
     /// The reader of a file.
     type Input: Source + Drop;

@@ -12,7 +12,7 @@ use crate::settings::Settings;
 use crate::stream::Stream;
 use byte_streams::Sink;
 
-/// From given contents and counts, by these settings, an input has one output, log and tally, and each line one action.
+/// From given output, log and counts on, an input has at most one output, log, tally and list of its lines' actions.
 pub fn law_one_result<T: Rewriting>(rewriting: &T, name: &[u8], settings: Settings<'_>)
     ensures lines { OneAnswer (job_of (T.is_action rewriting.now) (T.is_reason rewriting.now) name.now settings.entry) }
     ensures input { OneResult (job_of (T.is_action rewriting.now) (T.is_reason rewriting.now) name.now settings.entry) }

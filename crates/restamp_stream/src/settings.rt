@@ -6,7 +6,7 @@ ghost use Rattle.restamp_stream.specs.Reports.{action_of, Refused, IsAllowed, is
 use crate::action::LineAction;
 use crate::tally::Tally;
 
-/// Which lines are written.
+/// Which lines are written, or whether only the new times are.
 #[derive(Clone, Copy)]
 pub enum Output {
     /// All but the dropped ones.
@@ -49,7 +49,7 @@ impl Reports {
     }
 }
 
-/// How the lines of a file are processed.
+/// How the lines of a file are processed: which are written, which rejected ones are reported, and which stop the work.
 #[derive(Clone, Copy)]
 pub struct Settings<'a> {
     /// Which lines are written.
@@ -72,7 +72,7 @@ impl Settings<'_> {
     }
 }
 
-/// A file whose lines are processed.
+/// A file whose lines are processed, with its name, its settings, and what chooses the action of a line.
 #[derive(Drop)]
 pub struct File<'a, T> {
     /// Chooses the action of each of its lines.

@@ -5,7 +5,7 @@ ghost use Rattle.restamp_stream.specs.Reports.{action_of, nothing_counted, count
 
 use crate::action::LineAction;
 
-/// The counts of lines by action. Counts saturate at 18446744073709551615.
+/// The counts of lines, also by action, and of files that failed. Counts saturate at 18446744073709551615.
 #[derive(Clone, Copy, Debug, PartialEq, Eq)]
 pub struct Tally {
     /// The lines of the current file so far.
@@ -43,7 +43,7 @@ impl Tally {
         }
     }
 
-    /// Adds 1 to `line`, `lines` and the count of that action: for `Refused`, both `refused` and `refused_here`.
+    /// Adds 1, saturating, to `line`, `lines` and that action's count: for `Refused`, `refused` and `refused_here`.
     pub fn count<R>(&mut self, action: &LineAction<R>)
         ensures { (text : Items) → self.new ≡ count_action self.old (action_of action.now text) }
     {
@@ -68,7 +68,7 @@ impl Tally {
         self.refused_here = 0;
     }
 
-    /// Adds 1 to `unread`, for a file for which opening, reading to the end or, in place, replacing has failed.
+    /// Adds 1, saturating, to `unread`, for a file for which opening, reading or, in place, replacing has failed.
     pub fn count_unread(&mut self)
         ensures { self.new ≡ count_unread self.old }
     {

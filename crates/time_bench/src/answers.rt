@@ -5,7 +5,7 @@ use time_record::Parsed;
 use time_values::error::Parse;
 use time_values::{Date, OffsetDateTime, PlainDateTime, Time, Timestamp, UtcDateTime, UtcOffset};
 
-/// A type of value that a text is parsed for.
+/// A type of value that a text is parsed for, and what such a value adds to a sum.
 pub trait Answer: Copy {
     /// Parses a whole text for such a value, without defaults (for `Staged` with an empty record as defaults).
     fn parse<F: Parsable>(format: &F, text: &[u8]) -> Result<Self, Parse>;

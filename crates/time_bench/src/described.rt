@@ -135,7 +135,7 @@ fn sum_with<F: Over>(
     }
 }
 
-/// How a text is parsed.
+/// How a text is parsed: by which description, prepared or not, with which default year, and for which type.
 #[derive(Clone, Copy)]
 pub struct Case<'a> {
     /// `steps` to parse by the steps of the description; any other word, as `prepared`, to prepare it first.
@@ -149,8 +149,8 @@ pub struct Case<'a> {
     pub target: &'a str,
 }
 
-/// The sum over this many parses of the text and its copy in turn; a value adds its weight, and an error 1. The sum
-/// wraps. `None`: the description is malformed or has more than 64 steps, the year is neither `-` nor from -999999 to
+/// The wrapping sum over `times` parses of the text and its copy in turn: of a value's numbers (`weight`), or 1 for an
+/// error. `None`: the description is malformed or has over 64 steps, the year is neither `-` nor from -999999 to
 /// 999999, or no target has the name; with a default year only `date`, `time`, `plain` and `datetime` are targets.
 pub fn sum_of(case: Case<'_>, times: u64, texts: Texts<'_>) -> Option<i64> {
     let description = description(case.description.as_bytes())?;

@@ -38,8 +38,8 @@ fn sum<V: Answer, F: Parsable>(format: &F, times: u64, texts: Texts<'_>) -> i64 
     sum
 }
 
-/// The sum over this many parses of the text and its copy in turn; a value adds its weight, and an error 1. The sum
-/// wraps. `None`: the target is none of `date`, `time`, `offset`, `plain`, `utc`, `datetime`, `staged` and `timestamp`.
+/// The wrapping sum over `times` parses of the text and its copy in turn: of a value's numbers (`weight`), or 1 for an
+/// error. `None`: the target is none of `date`, `time`, `offset`, `plain`, `utc`, `datetime`, `staged`, `timestamp`.
 pub fn sum_for<F: Parsable>(
     format: &F,
     target: &[u8],

@@ -22,7 +22,7 @@ IsTitleCase case_sensitive text rest letters =
 abbrev pub letters_of : {A : Type 0} → (A → List ℕ) → A → List ℕ
 letters_of name_of value = str_to_ascii_lowercase (take 3 (name_of value))
 
--- The result is a value whose name begins with these letters, in lower case, or `None` if there is none.
+-- The result is a value whose name, in lower case, begins with exactly these letters, or `None` if no name does.
 abbrev pub IsWithLetters : {A : Type 0} → (A → List ℕ) → List ℕ → Option A → Type 0
 IsWithLetters {A} name_of letters result =
     MatchOption result ((value : A) → letters ≢ letters_of name_of value) (λ value. letters ≡ letters_of name_of value)
@@ -33,7 +33,7 @@ IsEnding ending case_sensitive text rest nothing = IsNamed case_sensitive ending
 
 -- ---- Single digits and pairs of letters
 
--- The text is the digit of n, or of n + 1 if numbers are one-indexed, and n is 0 to 6.
+-- The text is the ASCII digit of n, or of n + 1 if days are one-indexed. n is 0 to 6.
 abbrev pub IsDayDigit : Bool → Form ℕ
 IsDayDigit one_indexed text rest n = (text ≡ (first_digit one_indexed + n) ∷ []) × (n < 7)
 
@@ -42,6 +42,6 @@ abbrev pub folded : Bool → List ℕ → List ℕ
 folded true letters = letters
 folded false letters = str_to_ascii_lowercase letters
 
--- The text is any two bytes, and the letters are these, in lower case unless the case matters.
+-- The text is any two bytes. The letters are these bytes, unchanged if the case matters, otherwise in lower case.
 abbrev pub IsLetters : Bool → Form (List ℕ)
 IsLetters case_sensitive text rest letters = (length text ≡ 2) × (letters ≡ folded case_sensitive text)

@@ -27,7 +27,7 @@ period_name true Pm = codes "PM"
 period_name false Am = codes "am"
 period_name false Pm = codes "pm"
 
--- The text is the whole name: byte by byte if the case matters (the flag), and otherwise in any ASCII case.
+-- The text is the whole name: exactly so if the case matters (the flag is true), and otherwise in any ASCII case.
 abbrev pub IsNamed : Bool → List ℕ → List ℕ → Type 0
 IsNamed true name text = text ≡ name
 IsNamed false name text = str_to_ascii_lowercase text ≡ str_to_ascii_lowercase name
@@ -70,31 +70,31 @@ IsSigned mandatory behind alone text rest v =
     ((tail : List ℕ) × (text ≡ sign_byte v.0 ∷ tail) × behind tail rest v.1)
     ⊎ ((mandatory ≡ false) × (v.0 ≡ Positive) × alone text rest v.1)
 
--- The text is a year: four digits, unless a sign is mandatory, or a sign and four to `most` digits, both with the
+-- The text is a year: a sign and four to `most` digits, or, if no sign is mandatory, four digits alone; both with the
 -- padding. The value is the number, negative after `-`.
 abbrev pub SpellsYear : Bool → Padding → ℕ → Form Value
 SpellsYear mandatory padding most =
     HasMappedValue signed_value (IsSigned mandatory (IsPaddedRun padding 4 most) (IsPaddedRun padding 4 4))
 
--- The text is a century: one or two digits, whatever the padding, unless a sign is mandatory, or a sign and two to
--- `most` digits with the padding. The value is the number, negative after `-`, and whether the sign is `-`.
+-- The text is a century: a sign and two to `most` digits with the padding, or, if no sign is mandatory, one or two
+-- digits alone, whatever the padding. The value is the number, negative after `-`, and whether the sign is `-`.
 abbrev pub SpellsCentury : Bool → Padding → ℕ → Form Value
 SpellsCentury mandatory padding most =
     HasMappedValue flagged_value (IsSigned mandatory (IsPaddedRun padding 2 most) (IsDigitRun 1 2))
 
--- The text is two digits with the padding, after a sign, or without one unless it is mandatory. The value is the
--- number, negative after `-`, and whether the sign is `-`.
+-- The text is two digits with the padding, after a sign, or alone if no sign is mandatory. The value is the number,
+-- negative after `-`, and whether the sign is `-`.
 abbrev pub SpellsOffsetHour : Bool → Padding → Form Value
 SpellsOffsetHour mandatory padding =
     HasMappedValue flagged_value (IsSigned mandatory (IsPaddedRun padding 2 2) (IsPaddedRun padding 2 2))
 
--- The text is 1 to `most` digits, after a sign, or without one unless it is mandatory. The value is the number times
--- `unit`, negative after `-`: a time in nanoseconds, of a number in units of `unit` nanoseconds.
+-- The text is 1 to `most` digits, after a sign, or alone if no sign is mandatory. They count units of `unit`
+-- nanoseconds. The value is in nanoseconds: the number times `unit`, negative after `-`.
 abbrev pub SpellsTimestamp : ℕ → Bool → ℕ → Form Value
 SpellsTimestamp unit mandatory most =
     HasMappedValue (scaled_value unit) (IsSigned mandatory (IsDigitRun 1 most) (IsDigitRun 1 most))
 
--- The text is a number in `places` places with the padding (1 to `places` digits without padding), and isn't 0.
+-- The text is a number in `places` places with the padding (1 to `places` digits without padding). It isn't 0.
 abbrev pub IsPositiveRun : Padding → ℕ → Form ℕ
 IsPositiveRun padding places text rest n = IsPaddedRun padding places places text rest n × (0 < n)
 
@@ -149,8 +149,8 @@ most_digits Eight = 8
 most_digits Nine = 9
 most_digits OneOrMore = 32
 
--- The text is the longest run of `least` to `most` digits, and n is that fraction of a second in nanoseconds,
--- rounded down.
+-- The text is all leading digits of the input up to `most`, at least `least`, and n is the nanoseconds of that
+-- fraction of a second, rounded down.
 abbrev pub IsFractionRun : ℕ → ℕ → Form ℕ
 IsFractionRun least most text rest n =
     IsDigitRun least most text rest (digits_value text) × (n ≡ fraction_nanoseconds text)
@@ -174,13 +174,13 @@ abbrev pub OnWhole : Bool → Type 0 → Type 0
 OnWhole true p = p
 OnWhole false p = Unit {0}
 
--- The text is any `count` bytes, which end between UTF-8 characters if `whole` is true, and the value is `nothing`.
+-- The text is any `count` bytes, the value is `nothing`, and if `whole` is true no continuation byte begins the rest.
 abbrev pub IsIgnored : Bool → ℕ → Form Value
 IsIgnored whole count text rest value =
     (value ≡ nothing) × (length text ≡ count) × OnWhole whole (BeginsCharacter rest)
 
--- The text, followed by that rest, spells the value of the component, by its modifiers. If `whole` is true, an `Ignore`
--- ends between UTF-8 characters.
+-- The text, followed by that rest, spells that value of the component, by its modifiers. If `whole` is true, no UTF-8
+-- continuation byte follows the text of an `Ignore`.
 abbrev pub Spells : Bool → Component → Form Value
 Spells whole (component.Day m) = HasMappedValue number (IsPositiveRun m.padding 2)
 Spells whole (component.MonthShort m) = HasMappedValue month (IsShortOf m.case_sensitive month_name)

@@ -18,7 +18,7 @@ use Rattle.time_components.specs.declared.inspect.Step.{Step}
 use Rattle.time_components.specs.declared.inspect.Step.TheVariants as step
 
 mutual
-  -- a description, whatever its type
+  -- the tree of a description of any type
   pub data Tree : Type 0 where
     -- literal bytes
     literal : List ℕ → Tree
@@ -117,14 +117,14 @@ tree_at trees (step.Component c) steps = component false c
 tree_at trees (step.Group g len) steps = group_tree g (trees (take len steps))
 
 -- how many of the steps behind a step belong to it: the leading `More` steps for a literal, none for a component, and
--- for a group as many as it counts, or all if there are fewer
+-- for a group as many as it counts, or all steps behind it if those are fewer
 abbrev pub item_length : Step → List Step → ℕ
 item_length (step.Literal b) behind = length (further behind)
 item_length (step.More b) behind = length (further behind)
 item_length (step.Component c) behind = 0
 item_length (step.Group g len) behind = min len (length behind)
 
--- the steps behind a step without those that belong to it, which `item_length` counts
+-- the steps behind a step, without the leading ones that belong to it, which `item_length` counts
 abbrev pub steps_after : Step → List Step → List Step
 steps_after (step.Literal b) steps = drop (length (further steps)) steps
 steps_after (step.More b) steps = drop (length (further steps)) steps

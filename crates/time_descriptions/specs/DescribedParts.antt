@@ -109,7 +109,7 @@ abbrev pub count_part : Component → List ℕ
 count_part (component.Ignore m) = decimal m.count.value
 count_part _ = []
 
--- all parts in turn
+-- the text between the brackets of a component: its name, padding, other modifier and count, each as its part
 abbrev pub parts_of : Component → List ℕ
 parts_of c = name_part c ++ (padding_part c ++ (modifier_part c ++ count_part c))
 

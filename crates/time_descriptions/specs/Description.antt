@@ -21,8 +21,8 @@ shape d = steps_shape d.steps.items
 abbrev pub version_of : ℕ → Version
 version_of number = if number == 1 then versions.One else versions.Two
 
--- The error of a rejected text, with room for n steps: `too_long` exactly if the text starts more than n steps up to
--- its first fault or its end, and then it also has more than n bytes; otherwise its first fault.
+-- The error of a rejected text, with room for n steps: `too_long` if and only if the text starts more than n steps up
+-- to its first fault or its end, and then it also has more than n bytes; otherwise its first fault.
 abbrev pub IsRefused : ℕ → Version → List ℕ → Refusal → Type 0
 IsRefused n version text refusal =
     ((refusal ≡ too_long) × (n < length text) × StartsMoreThan n version text)
@@ -110,6 +110,6 @@ abbrev pub StepsOfRead : Type 0
 StepsOfRead = (version : Version) (text : List ℕ) (is : List Item) → description version text ≡ Ok (is, [])
     → steps_count version text ≡ length (flat is)
 
--- A text describes a tree in strftime's syntax exactly if it splits into pieces that give the tree's items in order.
+-- A text describes a tree in strftime's syntax if and only if it splits into pieces with the tree's items in order.
 abbrev pub StrftimePieces : Type 0
 StrftimePieces = (text : List ℕ) (tree : Tree) → (DescribesStrftime text tree ↔ HasPieces text tree)

@@ -105,8 +105,8 @@ abbrev pub space_after : Group → Expectation
 space_after groups.Optional = expected.SpaceAfterOptional
 space_after _ = expected.SpaceAfterFirst
 
--- space , "[": the text inside the first list of a group, given the text after the group's word; a fault without white
--- space or without the bracket
+-- space , "[": all text after the opening bracket of a group's first list, given the text after the group's word; a
+-- fault without white space or without the bracket
 unfoldable pub opened : Group → List ℕ → Result (List ℕ) Fault
 opened g text =
     let space = prefix_len is_space text in
@@ -140,7 +140,7 @@ list_by item opening text =
     >>= λ x. after_byte 93 (fault.UnclosedOpeningBracket opening) x.1
     >>= λ rest. Ok (x.0, rest)
 
--- [ space ] , "[": the text inside the next list, or `None` if none follows
+-- [ space ] , "[": all text after the opening bracket of the next list, or `None` if no such bracket follows
 unfoldable pub next_list : List ℕ → Option (List ℕ)
 next_list text = tail_after 91 (drop (prefix_len is_space text) text)
 
@@ -196,7 +196,7 @@ Describes version text tree =
     (is : List Item) × (description version text ≡ Ok (is, [])) × (tree ≡ sequence (trees_of (items_of is)))
 
 -- ---- How many steps a text starts, up to its first fault or its end: those of what is read; and for a group that is
--- still open there, one for itself, one for each list that is started in a choice, and those that they start
+-- still open there, one for itself, one for each list that is started in a choice, and those of the items inside
 
 -- the count for what is read, and 0 for a fault
 abbrev pub counted : {A : Type 0} → (A → ℕ) → Result A Fault → ℕ
@@ -223,7 +223,7 @@ lists_step_count item begun opening (suc n) text =
     1 + list_step_count item begun text
     + counted (λ x. by_option 0 (lists_step_count item begun opening n) (next_list x.1)) (list_by item opening text)
 
--- how many steps the contents of a group whose first list is open start
+-- how many steps a group's contents start, given the text in its first list; each list of `first` adds one for itself
 abbrev pub inside_step_count : (List ℕ → Read Item) → (List ℕ → ℕ) → ℕ → Group → List ℕ → ℕ
 inside_step_count item begun opening groups.Optional text = list_step_count item begun text
 inside_step_count item begun opening _ text = lists_step_count item begun opening (suc (length text)) text
@@ -280,7 +280,7 @@ abbrev pub Fails : {A : Type 0} → Read A → Unread → Type 0
 Fails read (unread.Fault e) = read ≡ Err e
 Fails read (unread.Memory e) = Unit {0}
 
--- The result is related by `says` to what is read, and the remaining texts are equal; or parsing failed.
+-- The value is related by `says` to what is read, with equal remaining texts; or the error is the fault or `Memory`.
 abbrev pub Owns : {A X : Type 0} → (X → A → Type 0) → Read A → Result (X × Bor (List ℕ)) Unread → Type 0
 Owns {A} says read (Ok x) = (a : A) × (read ≡ Ok (a, x.1.now)) × says x.0 a
 Owns says read (Err u) = Fails read u

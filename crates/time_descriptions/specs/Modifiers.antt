@@ -155,8 +155,8 @@ unix_timestamp_as precision.Nanosecond m =
 abbrev pub unix_timestamp : Modifiers → Component
 unix_timestamp m = unix_timestamp_as m.precision m
 
--- the component with that name that the values select; `None` exactly for `ignore` without a count; values that the
--- component doesn't have are ignored
+-- the component with that name that the values select; `None` only for `ignore` without a count; values of modifiers
+-- that the component doesn't have are ignored
 unfoldable pub component_of : ComponentName → Modifiers → Option Component
 component_of name.Day m = Some (component.Day (record { padding = m.padding }))
 component_of name.End m = Some (component.End (record { trailing_input = m.trailing_input }))

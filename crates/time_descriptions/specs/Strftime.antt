@@ -247,8 +247,8 @@ Exceeds n text = n < length (flat (strftime text).0)
 abbrev pub Fits : ℕ → List ℕ → Type 0
 Fits n text = length (flat (strftime text).0) ≤ n
 
--- The error of a rejected text, with room for n steps: `too_long` exactly if the text up to its first fault or its end
--- describes more than n steps, and otherwise the first fault.
+-- The error of a rejected text, with room for n steps: `too_long` if and only if the text up to its first fault or its
+-- end describes more than n steps, and otherwise the first fault.
 abbrev pub IsRefusedStrftime : ℕ → List ℕ → Refusal → Type 0
 IsRefusedStrftime n text refusal =
     ((refusal ≡ too_long) × Exceeds n text)

@@ -153,7 +153,7 @@ fn write_literal<'s, const CAP: usize>(
     Ok(left)
 }
 
-/// Why a moment has no text by a description.
+/// Why a moment isn't written by a description.
 #[derive(Clone, Copy, Debug, PartialEq, Eq)]
 pub enum Unformattable {
     /// A component of the standard range has a year outside -9999 to 9999.

@@ -44,8 +44,8 @@ fn split_request(line: &[u8]) -> Request<'_>
     Ok((format, target, text))
 }
 
-/// Answers lines of a format's name, TAB, a target's name, TAB and a text. The answer to any other line is
-/// `error: line`, `error: format` or `error: target`.
+/// Answers a line of a format's name, TAB, a target's name, TAB and a text with the value or error of parsing the text.
+/// With fewer TABs the answer is `error: line`, and with an unknown name `error: format`, or else `error: target`.
 #[derive(Drop)]
 pub struct Fields {
     named: Named,

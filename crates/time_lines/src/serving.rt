@@ -52,7 +52,7 @@ pub fn serve<R: Read, W: Write>(alloc: Global, input: &mut R, out: &mut W) -> Re
     serve_in(alloc, input, out)
 }
 
-// Reads the input and writes its answers as [`serve`] does, with any allocator.
+// Reads the input to its end, and writes the answer to each line and an LF, as [`serve`] does, but with any allocator.
 pub(crate) fn serve_in<R: Read, W: Write, A: Allocator>(
     alloc: A,
     input: &mut R,

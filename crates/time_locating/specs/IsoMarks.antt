@@ -50,54 +50,54 @@ abbrev pub leaves : ℕ → Option (List ℕ) → Bool
 leaves left None = false
 leaves left (Some rest) = length rest == left
 
--- the `row_mark` of that name by the first row that matches and leaves exactly `left` bytes, or none if no row does
+-- how many bytes are left where that name begins in the first row that matches and leaves exactly `left`, or none
 abbrev pub rows_mark : List ℕ → ℕ → List (List Piece) → List ℕ → Option ℕ
 rows_mark name left [] bytes = None
 rows_mark name left (row ∷ rows) bytes =
     if leaves left (after_row row bytes) then row_mark name row bytes else rows_mark name left rows bytes
 
--- the mark of that name in an offset that may follow a part of that kind and leaves exactly `left` bytes, or none
+-- how many bytes are left where that name begins in an offset after such a part that leaves exactly `left`, or none
 abbrev pub offset_mark : List ℕ → ℕ → ExtendedKind → List ℕ → Option ℕ
 offset_mark name left kind = rows_mark name left (rows_after offset_piece offset_rows kind)
 
--- the mark of that name in a time that may follow a part of that kind, may begin with `T`, and leaves exactly `left`
--- bytes, or none
+-- how many bytes are left at the start of the component of that name, in a time that may follow a part of that kind,
+-- may begin with `T`, and leaves exactly `left` bytes, or none
 abbrev pub time_mark : List ℕ → ℕ → ExtendedKind → List ℕ → Option ℕ
 time_mark name left kind bytes =
     rows_mark name left (rows_after time_piece time_rows kind) (unwrap_or (byte 84 bytes) bytes)
 
--- the mark of that name in an offset that follows the time and leaves `left` bytes, or else in the time, which may
--- follow a part of that kind; `otherwise` if there is no time
+-- how many bytes are left at the start of the component of that name, in an offset that follows the time and leaves
+-- `left` bytes, or else in the time, which may follow a part of that kind; `otherwise` if there is no time
 abbrev pub from_time : List ℕ → ℕ → ExtendedKind → List ℕ → Option (Found TimeNumbers) → Option ℕ → Option ℕ
 from_time name left kind bytes None otherwise = otherwise
 from_time name left kind bytes (Some t) otherwise =
     option_or (offset_mark name left t.kind t.rest) (time_mark name (length t.rest) kind bytes)
 
--- the mark of that name in a text that is parsed without a date and leaves `left` bytes: as a time, perhaps with an
--- offset, or if no time matches, as an offset alone
+-- how many bytes are left at the start of the component of that name, in a text without a date that leaves `left`
+-- bytes: a time, perhaps with an offset, or if no time matches, an offset alone; none without such a component
 abbrev pub without_date : List ℕ → ℕ → List ℕ → Option ℕ
 without_date name left bytes =
     from_time name left Unknown bytes (time_text false Unknown bytes) (offset_mark name left Unknown bytes)
 
--- the mark in a text that begins with a date: in what follows the date, or else in the date; if no record allows the
--- date, the mark in the text without a date
+-- how many bytes are left at the start of the component of that name: in what follows the date, or else in the date;
+-- if the date can't be stored (`Err`), in the text parsed without a date; none without such a component
 abbrev pub after_date : List ℕ → ℕ → List ℕ → Found IsoDate → Result Record Refusal → Option ℕ
 after_date name left bytes d (Err e) = without_date name left bytes
 after_date name left bytes d (Ok q) =
     option_or (from_time name left d.kind d.rest (time_text true d.kind d.rest) None)
     (rows_mark name (length d.rest) date_rows bytes)
 
--- the mark in a text that begins with that date, or in a text without a date
+-- how many bytes are left where that name begins, in a text that begins with that date, or in one without a date
 abbrev pub by_date : List ℕ → ℕ → List ℕ → Record → Result (Found IsoDate) Refusal → Option ℕ
 by_date name left bytes r (Err e) = without_date name left bytes
 by_date name left bytes r (Ok d) = after_date name left bytes d (put_or_fault greatest_year (date_entries d.value) r)
 
--- the mark of that name in a text that leaves `left` bytes unread, or none if the text has no such component
+-- how many bytes are left where that name begins in a text that leaves `left` bytes unread, or none without the name
 unfoldable pub text_mark : List ℕ → ℕ → List ℕ → Record → Option ℕ
 text_mark name left bytes r = by_date name left bytes r (date_text bytes)
 
--- The mark of that name in a text over the record, with a leap second allowed, or none if nothing of that
--- name is read.
+-- The mark is how many bytes are left at the start of the component of that name in a text over the record, with a
+-- leap second allowed. It is none if no front of the text is read, or if nothing of that name is read.
 abbrev pub Marks : Marking
 Marks name bytes r mark =
     mark ≡ option_and_then (λ rest. text_mark name (length rest) bytes (with_leap_second r))

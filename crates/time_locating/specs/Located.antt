@@ -16,7 +16,7 @@ wants (Literal text) = these_bytes text.now
 wants (Component name) = named name.now
 wants End = the_end
 
--- a call's miss, viewed without the address of its bytes
+-- a call's miss, viewed without the address of its bytes, or none without a miss
 abbrev pub erased_miss : Option Miss' → Option Miss
 erased_miss None = None
 erased_miss (Some m) = Some (missed m.left (wants m.expected))
@@ -44,7 +44,7 @@ IsMarked marks name bytes begin None = marks name bytes begin None
 IsMarked marks name bytes begin (Some index) =
     (left : ℕ) × marks name bytes begin (Some left) × (index + left ≡ length bytes)
 
--- A text over a record has at most one mark for each component's name.
+-- For a text, a record and a component's name, `marks` allows at most one mark: a count of bytes left, or none.
 abbrev pub IsExactMark : Marking → Type 0
 IsExactMark marks =
     (name bytes : List ℕ) (r : Record) (mark other : Option ℕ)
@@ -72,13 +72,13 @@ IsValueAt marks bytes begin None index = index ≡ None
 IsValueAt marks bytes begin (Some name) index =
     (own : Option ℕ) × IsMarked marks name bytes begin own × IsRangeAt marks bytes begin name own index
 
--- the index of a text's place, or without a place that of the component that the error calls out of range, or none
+-- the index of a text's place; else that of the error's component (for an absent ordinal, of the week number), or none
 abbrev pub IsRefusedAt : Marking → List ℕ → Record → Refusal → Option Located → Option ℕ → Type 0
 IsRefusedAt marks bytes begin e (Some at) index = index ≡ Some at.index
 IsRefusedAt marks bytes begin e None index = IsValueAt marks bytes begin (range_name e) index
 
 -- The index of the error with which a parse rejects the bytes: that of the place, or else of the component that the
--- error calls out of range, or none.
+-- error calls out of range (of the week number, if that is an ordinal that the text doesn't have), or none.
 abbrev pub IsErrorAt : Reading → Locating → Marking → List ℕ → Record → Refusal → Option ℕ → Type 0
 IsErrorAt reads locates marks bytes begin e index =
     (place : Option Located) × IsLocated reads locates bytes begin place × IsRefusedAt marks bytes begin e place index
@@ -88,17 +88,17 @@ pub record IsExactPlace (reads : Reading) (locates : Locating) : Type 0 where
   pub one_place : (bytes : List ℕ) (r : Record) (m n : Miss) → locates bytes r m → locates bytes r n → m ≡ n
   pub not_read : (bytes : List ℕ) (r q : Record) (m : Miss) → locates bytes r m → reads bytes r [] q → ⊥
 
--- a result, as the index and what was expected, viewed without the address of its bytes
+-- a result's index, stored in `left`, and what was expected, without the address of its bytes; none without a result
 abbrev pub erased_located : Option Located → Option Miss
 erased_located None = None
 erased_located (Some at) = Some (missed at.index (wants at.expected))
 
--- the index of that miss in a text of `all` bytes, and what it expects
+-- the index of that miss in a text of `all` bytes, stored in `left`, and what it expects, or none without a miss
 abbrev pub place_in : ℕ → Option Miss → Option Miss
 place_in all None = None
 place_in all (Some m) = Some (missed (all - m.left) m.wanted)
 
--- the index of these unread bytes in a text of `all` bytes, where the end was expected, or none if they are empty
+-- the index of these unread bytes in a text of `all` bytes, stored in `left`, and the end; none if they are empty
 abbrev pub end_of : ℕ → List ℕ → Option Miss
 end_of all [] = None
 end_of all (b ∷ rest) = Some (missed (all - length (b ∷ rest)) the_end)

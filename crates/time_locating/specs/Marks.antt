@@ -54,7 +54,7 @@ unfoldable mutual
       ((mid : List ℕ) × (q : Record) × Reads greatest_year t bytes r mid q × Marks name t bytes r mark)
       ⊎ (NoReading greatest_year t bytes r × MarksFirst name ts bytes r mark)
 
--- The mark of a text: that of the tree if it reads a front of the text, or none if it reads no front.
+-- How many bytes are left where the last component of that name begins, if the tree reads a front of the text; or none.
 abbrev pub MarksTree : Tree → Marking
 MarksTree t name bytes r mark = Marks name (optional t) bytes r mark
 
@@ -94,7 +94,7 @@ MarksPlaces {P} {N} A expected_from fault name (p ∷ ps) n bytes mark =
     × (((is_place_of name (fault p) bytes mid ≡ true) × (mark ≡ Some (length (expected_from p bytes))))
     ⊎ ((is_place_of name (fault p) bytes mid ≡ false) × MarksPlaces A expected_from fault name ps k mid mark))
 
--- The mark of a text: that of the places, or none if they don't all match.
+-- How many bytes are left where the text of that name begins, or none if no place has it or they don't all match.
 abbrev pub MarksText :
     {P N : Type 0} → Format P N → Beginning P → (P → Refusal) → List P → N → List ℕ → List ℕ → Option ℕ → Type 0
 MarksText {P} {N} A expected_from fault ps start name bytes mark =

@@ -101,7 +101,7 @@ MissesText told t bytes r ms =
 abbrev pub further_of : Miss → Miss → Miss
 further_of m n = if nat_lt n.left m.left then n else m
 
--- the first miss, or the second if it leaves fewer bytes or is the only one
+-- the first miss, or the second if it leaves fewer bytes or is the only one; none without either
 abbrev pub further : Option Miss → Option Miss → Option Miss
 further None n = n
 further (Some m) None = Some m

@@ -7,7 +7,7 @@ use Rattle.time_locating.specs.Located.{Locating, Marking}
 use Rattle.time_locating.specs.Misses.{Miss, missed}
 use Rattle.time_locating.specs.Rfc3339 as rfc3339
 
--- how many bytes of a text aren't in its strict text
+-- how many bytes follow the first ten, if the eleventh byte of a text isn't `T`, `t` or a space; 0 for any other text
 abbrev pub cut_off : List ℕ → ℕ
 cut_off bytes = length bytes - length (strict_text bytes)
 
@@ -17,8 +17,8 @@ abbrev pub Locates : Locating
 Locates bytes r m =
     (miss : Miss) × rfc3339.Locates (strict_text bytes) r miss × (m ≡ missed (miss.left + cut_off bytes) miss.wanted)
 
--- The mark of the place of that name in the strict text, counted in the whole text, or none if the strict text has
--- none.
+-- How many bytes are left at the start of the place of that name, whatever the record. None if a place doesn't match,
+-- if the separator isn't `T`, `t` or a space, if no place has the name, or if the place has no text.
 abbrev pub Marks : Marking
 Marks name bytes r mark =
     (left : Option ℕ) × rfc3339.Marks name (strict_text bytes) r left

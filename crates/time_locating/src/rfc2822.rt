@@ -130,8 +130,8 @@ fn past_year(input: &[u8]) -> (Option<&[u8]>, bool)
     }
 }
 
-// The rest after a colon, with optional blanks beside it, and a second's two bytes (`None` if fewer are left). Without
-// a colon the rest is the input.
+// The rest after a colon, with optional blanks and comments beside it, and a second's two bytes (`None` if fewer are
+// left). Without a colon the rest is the input.
 fn past_second(input: &[u8]) -> Option<&[u8]>
     ensures { (rest : List ℕ) (v : Option ℕ) → Cut (IsSecond true) input.now rest v → option_copied result ≡ Some rest }
 {

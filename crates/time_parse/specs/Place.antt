@@ -79,8 +79,8 @@ IsRefusalFor target.DateTime path = IsMomentRefusal path
 IsRefusalFor target.Staged path = IsRefusal (IsMoment greatest_year)
 IsRefusalFor target.Timestamp path = IsRefusal (IsTimestamp greatest_year)
 
--- The printed index of an error, or nothing without an error or an index. It is the index at which the text doesn't
--- match the format. In a text that matches, it is the index of the component that the error calls out of range.
+-- The printed index of an error, or nothing without an error or an index: where the text doesn't match the format, or
+-- in a text that matches, where the component out of range begins (the week number, if its ordinal is absent).
 abbrev pub IsErrorPlace : Reading → Locating → Marking → List ℕ → Option Refusal → List ℕ → Type 0
 IsErrorPlace reads locates marks text None printed = printed ≡ []
 IsErrorPlace reads locates marks text (Some e) printed =

@@ -161,8 +161,8 @@ pub fn printable(byte: u8) -> u8
     }
 }
 
-// Two lines, each with LF: the bytes, as by `printable`, after two spaces, and a caret below the byte at that index, or
-// further right if the bytes end before it. `Err` if memory runs out.
+// Two lines, each with LF: the bytes after two spaces, with `?` for each that isn't printable ASCII, and a caret below
+// the byte at that index, or further right if the bytes end before it. `Err` if memory runs out.
 fn caret_lines(alloc: Global, bytes: &[u8], index: usize) -> Result<Vec<u8>, AllocError>
     ensures { IfOk result (λ lines. lines.items ≡ spec.caret_lines bytes.now index) }
 {

@@ -1,5 +1,5 @@
 -- The parts of an ISO 8601 text are what is read after each of them.
-use Rattle.std.specs.Prelude.{MatchResult, ◌==◌, nat_le, unsigned_abs, option_map}
+use Rattle.std.specs.Prelude.{MatchResult, ◌==◌, nat_le, unsigned_abs, option_map, is_some}
 use Rattle.std.specs.Borrow.{Bor}
 use Rattle.std.proofs.Common.{◌≡◌, ◌∙◌, refl, sym, ap, ◌⊎◌, inl, inr, ℕ, List, true, false, Option, Some, None, Result, Ok, Err, ◌≤◌, ℤ, pos, subst}
 use Rattle.std.proofs.Common.{arith, [], ◌∷◌, length, IfSome}
@@ -267,10 +267,10 @@ offset_put : (l k : ExtendedKind) (after rest : List ℕ) (n : OffsetNumbers) (o
     → offset_text l after ≡ Some (record { rest = rest; value = n; kind = k }) → IsOffsetOfNumbers n o
     → (h m s : Option ℤ)
     × ((d : Date) (t : Time) → after_time greatest_year l after (recorded d t None None None) ≡ (rest, recorded d t h m s))
-    × ((d : Date) (t : Time) → IsOffset (recorded d t h m s) (Ok o))
+    × ((d : Date) (t : Time) → IsOffset (recorded d t h m s) (Ok o)) × (is_some h ≡ true)
 unfolding after_time offset_over IsOffset
 offset_put l k after rest Zulu o text said =
-    (Some (pos 0), Some (pos 0), Some (pos 0), λ d t. rw text refl, λ d t. said)
+    (Some (pos 0), Some (pos 0), Some (pos 0), λ d t. rw text refl, λ d t. said, refl)
 offset_put l k after rest (Numeric hour minute) o text said =
     let parts = given (offset_refusal hour minute (pos 0)) (HasOffset hour minute (pos 0)) o said in
     let ranges = offset_accepted hour minute parts.0 in (
@@ -279,6 +279,45 @@ offset_put l k after rest (Numeric hour minute) o text said =
       None,
       λ d t. rw (text, le-leb (unsigned_abs hour) 25 ranges.0, le-leb (unsigned_abs minute) 59 ranges.1) refl,
       λ d t. said,
+      refl,
+    )
+
+-- The bytes before `rest` are read over an empty record. It then has a year and the hour of an offset, and resolves to
+-- that date and time, and to the moment of both with that offset.
+abbrev pub IsFrontText : List ℕ → List ℕ → PlainDateTime → UtcOffset → Type 0
+IsFrontText bytes rest p o =
+    (r : Record) × Reads greatest_year bytes empty rest r × IsPlain greatest_year r (Ok p)
+    × ((v : OffsetDateTime) → offset_date v ≡ plain_date p → offset_time v ≡ plain_time p → offset_of v ≡ o
+    → IsMoment greatest_year r (Ok v))
+    × (is_some r.year ≡ true) × (is_some r.offset_hour ≡ true)
+
+-- a date, a time and an offset with the rest after them
+pub moment-front : (bytes between after rest : List ℕ) (k l : ExtendedKind) (x : IsoDate) (y : TimeNumbers) (n : OffsetNumbers)
+    (p : PlainDateTime) (o : UtcOffset)
+    → date_text bytes ≡ Ok (record { rest = between; value = x; kind = k })
+    → time_text true k between ≡ Some (record { rest = after; value = y; kind = l })
+    → offset_found l after ≡ Some (rest, n)
+    → x ≡ iso_date_of (plain_date p) → y ≡ time_numbers_of (plain_time p) → IsOffsetOfNumbers n o
+    → IsFrontText bytes rest p o
+moment-front bytes between after rest k l x y n p o date time offset said told shown =
+    let d = plain_date p in
+    let t = plain_time p in
+    let text = found_text l after rest n offset in
+    let put = offset_put l text.0 after rest n o text.1 shown in
+    let h = put.0 in
+    let m = put.1 in
+    let s = put.2 in (
+      recorded d t h m s,
+      answered-read greatest_year bytes (with_leap_second empty) (rest, recorded d t h m s)
+          (parts_put bytes between after k l x y d t date time said told ∙ ap (λ q. Ok q) (put.3 d t)),
+      plain_resolves h m s p,
+      λ v same_date same_time same_offset.
+          subst (λ e. IsMoment greatest_year (recorded e t h m s) (Ok v)) same_date
+          (subst (λ u. IsMoment greatest_year (recorded (offset_date v) u h m s) (Ok v)) same_time
+          (resolves h m s v (subst (λ q. IsOffset (recorded (offset_date v) (offset_time v) h m s) (Ok q)) (sym same_offset)
+          (put.4 (offset_date v) (offset_time v))))),
+      refl,
+      put.5,
     )
 
 -- a date, a time and an offset with no bytes after them
@@ -290,20 +329,5 @@ pub moment-whole : (bytes between after : List ℕ) (k l : ExtendedKind) (x : Is
     → x ≡ iso_date_of (plain_date p) → y ≡ time_numbers_of (plain_time p) → IsOffsetOfNumbers n o
     → IsWholeText bytes p (Some o)
 moment-whole bytes between after k l x y n p o date time offset said told shown =
-    let d = plain_date p in
-    let t = plain_time p in
-    let text = found_text l after [] n offset in
-    let put = offset_put l text.0 after [] n o text.1 shown in
-    let h = put.0 in
-    let m = put.1 in
-    let s = put.2 in (
-      recorded d t h m s,
-      answered-read greatest_year bytes (with_leap_second empty) ([], recorded d t h m s)
-          (parts_put bytes between after k l x y d t date time said told ∙ ap (λ q. Ok q) (put.3 d t)),
-      plain_resolves h m s p,
-      λ v same_date same_time same_offset.
-          subst (λ e. IsMoment greatest_year (recorded e t h m s) (Ok v)) same_date
-          (subst (λ u. IsMoment greatest_year (recorded (offset_date v) u h m s) (Ok v)) same_time
-          (resolves h m s v (subst (λ q. IsOffset (recorded (offset_date v) (offset_time v) h m s) (Ok q)) (sym same_offset)
-          (put.4 (offset_date v) (offset_time v))))),
-    )
+    let front = moment-front bytes between after [] k l x y n p o date time offset said told shown in
+    (front.0, front.1, front.2, front.3)

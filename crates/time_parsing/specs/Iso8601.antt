@@ -1,11 +1,12 @@
 -- ISO 8601, parsed over a record. `Y` is the greatest year.
-use Rattle.std.specs.Prelude.{◌≡◌, ℕ, pos, List, [], ◌∷◌, codes, Bool, true, false, Option, Some, None, option_map, option_and_then, Result, Ok, Err}
+use Rattle.std.specs.Prelude.{◌≡◌, ℕ, pos, List, [], ◌∷◌, codes, Bool, true, false, Option, Some, None, option_map, option_and_then, is_some, Result, Ok, Err}
 use Rattle.std.specs.Result.{result_ok}
 use Rattle.time_values.specs.Refusal.{Refusal, component}
 use Rattle.time_values.specs.Dates as Dates
 use Rattle.time_values.specs.Offsets.{HasOffset, IsUtc, offset_refusal}
 use Rattle.time_values.specs.Times as Times
 use Rattle.time_values.specs.declared.date.Date.{Date}
+use Rattle.time_values.specs.declared.offset_date_time.OffsetDateTime.{OffsetDateTime}
 use Rattle.time_values.specs.declared.time.Time.{Time}
 use Rattle.time_values.specs.declared.utc_offset.UtcOffset.{UtcOffset}
 use Rattle.time_readers.specs.IsoPieces.{Found}
@@ -18,8 +19,8 @@ use Rattle.time_readers.specs.declared.iso8601.ExtendedKind.TheVariants.{Unknown
 use Rattle.time_readers.specs.declared.iso8601.TimeNumbers.{TimeNumbers}
 use Rattle.time_readers.specs.declared.iso8601.OffsetNumbers.{OffsetNumbers}
 use Rattle.time_readers.specs.declared.iso8601.OffsetNumbers.TheVariants.{Zulu, Numeric}
-use Rattle.time_record.specs.Record.{Record, Entry, put, put_all, year_is, iso_year_is, month_is, iso_week_number_is, weekday_is, ordinal_is, day_is, hour_24_is, minute_is, second_is, subsecond_is, offset_hour_is, offset_minute_is, offset_second_is}
-use Rattle.time_record.specs.Resolution.{IsConstructed}
+use Rattle.time_record.specs.Record.{Record, Entry, empty, put, put_all, year_is, iso_year_is, month_is, iso_week_number_is, weekday_is, ordinal_is, day_is, hour_24_is, minute_is, second_is, subsecond_is, offset_hour_is, offset_minute_is, offset_second_is}
+use Rattle.time_record.specs.Resolution.{IsConstructed, IsMoment}
 use Rattle.time_parsing.specs.Outcome.{Reading, Refusing}
 use Rattle.time_parsing.specs.Rfc3339.{without_offset_sign, with_leap_second}
 
@@ -111,6 +112,13 @@ Reads Y bytes r rest new = reading Y bytes (with_leap_second r) ≡ Some (rest, 
 abbrev pub Refuses : ℕ → Refusing
 Refuses Y bytes r e =
     (reading Y bytes (with_leap_second r) ≡ None) × (date_over Y bytes (with_leap_second r) ≡ Err e)
+
+-- The bytes begin with a text of the moment, and `rest` is the rest. Parsed over an empty record, the text stores a year
+-- and the hour of an offset.
+abbrev pub ReadsMoment : ℕ → List ℕ → OffsetDateTime → List ℕ → Type 0
+ReadsMoment Y bytes v rest =
+    (r : Record) × Reads Y bytes empty rest r × IsMoment Y r (Ok v) × (is_some r.year ≡ true)
+    × (is_some r.offset_hour ≡ true)
 
 -- ---- The numbers that an ISO 8601 text has for a value, which the contracts of the fast path need
 

@@ -88,8 +88,8 @@ OneFront {V} resolves reads refuses =
     → IsFront resolves reads refuses bytes begin result
     → IsFront resolves reads refuses bytes begin other → result ≡ other
 
--- how a format parses a moment without defaults: over an empty record, as other values, or directly, with the errors of
--- this relation of bytes and errors
+-- how a format parses a moment without defaults: over an empty record, as it parses values of other types; or directly,
+-- and then the given relation of bytes and errors is that of its errors
 pub data Path : Type 1 where
   over_record : Path
   direct : (List ℕ → Refusal → Type 0) → Path
@@ -107,8 +107,8 @@ IsMomentOutcome Y (direct refused) reads refuses bytes (Some defaults) result =
 IsMomentOutcome Y over_record reads refuses bytes defaults result =
     IsOutcome (IsMoment Y) reads refuses bytes (begun defaults) result
 
--- a direct path has at most one error for bytes, and none for bytes that parse as a moment over an empty record; the
--- other path has no errors of its own
+-- a direct path has at most one error for bytes, and none for bytes that parse as a moment over an empty record; for
+-- the path over a record nothing is stated
 abbrev pub IsExactPath : ℕ → Path → Reading → Refusing → Type 0
 IsExactPath Y over_record reads refuses = Unit {0}
 IsExactPath Y (direct refused) reads refuses =
@@ -123,7 +123,7 @@ OneMomentOutcome Y path reads refuses =
     → IsMomentOutcome Y path reads refuses bytes defaults result
     → IsMomentOutcome Y path reads refuses bytes defaults other → result ≡ other
 
--- The direct path returns a moment for a text exactly if parsing it over an empty record does, and both are equal.
+-- The direct path returns a moment for a text if and only if a parse over an empty record returns that moment.
 abbrev pub SameMoments : ℕ → Reading → Refusing → (List ℕ → OffsetDateTime → Type 0) → Type 0
 SameMoments Y reads refuses direct_moment =
     (bytes : List ℕ) (v : OffsetDateTime)

@@ -71,8 +71,8 @@ HaveEqualResults Y t u =
     → t ≡ u → Answers Y t bytes old result new → Answers Y u bytes old other other_new
     → (told result ≡ told other) × (new ≡ other_new)
 
--- Trees that differ only in the marks on components to end between characters are equivalent on bytes and a record if
--- no visited `Ignore` ends inside a UTF-8 character.
+-- A tree, and that tree without its marks on components to end between characters, are equivalent on bytes and a record
+-- if no `Ignore` that the unmarked tree visits ends inside a UTF-8 character.
 abbrev pub WholeCharacters : ℕ → Type 0
 WholeCharacters Y =
     (t u : Tree) (bytes : List ℕ) (r : Record) → unmarked t ≡ u → Clean Y u bytes r → AreEquivalentOn Y t u bytes r
@@ -100,8 +100,8 @@ abbrev mutual
   HaveNoChoice none = Unit {0}
   HaveNoChoice (more t ts) = HasNoChoice t × HaveNoChoice ts
 
--- Each reading of a tree without an optional tree and a choice by the range `Y` is also one by `Z`, with equal rest and
--- record.
+-- If a tree contains neither an optional tree nor a choice, each of its readings with `Y` as greatest year is also one
+-- with `Z` as greatest year, with equal rest and record.
 abbrev pub KeepsReadings : ℕ → ℕ → Type 0
 KeepsReadings Y Z =
     (t : Tree) → HasNoChoice t → (bytes : List ℕ) (r : Record) (rest : List ℕ) (q : Record)
@@ -112,6 +112,6 @@ KeepsReadings Y Z =
 abbrev pub KeepsTexts : Reading → Reading → Type 0
 KeepsTexts before now = (bytes : List ℕ) (r q : Record) → before bytes r [] q → now bytes r [] q
 
--- If the values of a record are in their ranges by the narrower range of years, they are also by the wider one.
+-- If a record's values are in their ranges with `Y` as greatest year, they also are with `Z` as greatest year.
 abbrev pub KeepsRecords : ℕ → ℕ → Type 0
 KeepsRecords Y Z = (r : Record) → IsInRanges Y r → IsInRanges Z r

@@ -1,4 +1,4 @@
--- Written texts of RFC 3339 and RFC 2822, which are parsed back.
+-- Written texts of RFC 3339, RFC 2822 and ISO 8601, which are parsed back.
 use Rattle.std.specs.Prelude.{◌≡◌, ℕ, ◌-◌, ◌*◌, ◌/◌, ◌^◌, ◌<◌, List, None, Ok, pos, neg_ℤ, ◌++◌, codes, Some, ◌≢◌}
 use Rattle.time_values.specs.Moments.{offset_date, offset_time, offset_of, offset_instant, utc_date, utc_instant}
 use Rattle.time_values.specs.Times as Times
@@ -59,8 +59,8 @@ OneShortText =
     → unwritable_3339 v ≡ None → unwritable_3339 w ≡ None
     → moment_text (written Auto v) v ≡ moment_text (written Auto w) w → v ≡ w
 
--- For each moment that has a mail date, that text parses back as the moment without its fraction, without defaults, on
--- the format's path and over an empty record.
+-- For each moment that has a text of RFC 2822, the text parses back as the moment without its fraction, without
+-- defaults, on the format's path and over an empty record.
 abbrev pub ReadsMailBack : ℕ → Path → Reading → Refusing → Type 0
 ReadsMailBack Y path reads refuses =
     (v w : OffsetDateTime) (bytes : List ℕ)
@@ -77,7 +77,7 @@ canonical_text v =
     date_text (offset_date v) ++ codes "T" ++ clock_text (offset_time v)
     ++ codes "." ++ fixed 9 (Times.nanosecond (offset_time v)) ++ numeric_text (offset_of v)
 
--- The moment has such a text: its year is 0 to 9999, and its offset is whole minutes, at most 23:59.
+-- The moment has a canonical text: its year is 0 to 9999, and its offset is whole minutes, -23:59 to +23:59.
 pub record HasCanonicalText (v : OffsetDateTime) : Type 0 where
   pub year : IsBetween (pos 0) (pos 9999) (Dates.year (offset_date v))
   pub hours : IsBetween (neg_ℤ (pos 23)) (pos 23) (Offsets.hours (offset_of v))
@@ -93,8 +93,8 @@ ReadsCanonicalBack Y path reads refuses =
 
 -- ---- Written texts of ISO 8601, which are parsed back
 
--- For each moment that has a basic text, the text parses back as that moment without its fraction, without defaults, on
--- the format's path and over an empty record.
+-- For each moment that has a basic text of ISO 8601, it parses back as that moment without its fraction, without
+-- defaults, on the format's path and over an empty record.
 abbrev pub ReadsBasicBack : ℕ → Path → Reading → Refusing → Type 0
 ReadsBasicBack Y path reads refuses =
     (v w : OffsetDateTime)
@@ -104,27 +104,27 @@ ReadsBasicBack Y path reads refuses =
 
 -- ---- Written texts of moments, which are parsed as dates and times in UTC
 
--- `u` is the date and time in UTC of the moment `v` with the first k digits of its fraction, and zeros for the others
+-- `u` is `v` in UTC with the first k of nine digits of its fraction, then zeros; its date is in the range of years `Y`
 abbrev pub IsUtcCut : ℕ → ℕ → OffsetDateTime → UtcDateTime → Type 0
 IsUtcCut Y k v u =
     (w : OffsetDateTime) × IsCut k v w × (utc_instant Y u ≡ offset_instant Y w) × IsDateWithin Y (utc_date u)
 
--- For each moment that has a text of RFC 3339, and each choice of digits, the text parses as its date and time in UTC,
--- except for the digits that aren't written.
+-- For each moment that has a text of RFC 3339 and, in UTC, a date in the range of years, and for each choice of digits,
+-- the text parses as its date and time in UTC, except for the digits that aren't written.
 abbrev pub ReadsUtcBack : ℕ → Reading → Refusing → Type 0
 ReadsUtcBack Y reads refuses =
     (digits : FractionDigits) (v : OffsetDateTime) (u : UtcDateTime)
     → unwritable_3339 v ≡ None → IsUtcCut Y (written digits v) v u
     → IsOutcome (IsUtcMoment Y) reads refuses (moment_text (written digits v) v) empty (Ok u)
 
--- a moment's basic text of ISO 8601 parses as its date and time in UTC, without the fraction
+-- A moment's basic text of ISO 8601, if any, parses as its UTC date and time, if in range, without the fraction.
 abbrev pub ReadsBasicUtcBack : ℕ → Reading → Refusing → Type 0
 ReadsBasicUtcBack Y reads refuses =
     (v : OffsetDateTime) (u : UtcDateTime)
     → unwritable_3339 v ≡ None → IsUtcCut Y 0 v u
     → IsOutcome (IsUtcMoment Y) reads refuses (basic_text v) empty (Ok u)
 
--- a moment's text of RFC 2822 parses as its date and time in UTC, without the fraction
+-- A moment's text of RFC 2822, if any, parses as its UTC date and time, if in range, without the fraction.
 abbrev pub ReadsMailUtcBack : ℕ → Reading → Refusing → Type 0
 ReadsMailUtcBack Y reads refuses =
     (v : OffsetDateTime) (u : UtcDateTime) (bytes : List ℕ)
@@ -133,26 +133,26 @@ ReadsMailUtcBack Y reads refuses =
 
 -- ---- Which moments have equal texts of RFC 2822, or of ISO 8601
 
--- moments with equal mail dates are equal, except for their fractions
+-- moments with equal texts of RFC 2822 are equal, except for their fractions
 abbrev pub OneMailText : Type 0
 OneMailText =
     (v w a b : OffsetDateTime) (bytes : List ℕ)
     → unwritable_2822 v ≡ None → IsCut 0 v a → IsMailText v bytes
     → unwritable_2822 w ≡ None → IsCut 0 w b → IsMailText w bytes → a ≡ b
 
--- moments with equal extended texts are equal
+-- moments with equal extended texts of ISO 8601, each with nine digits of a fraction, are equal
 abbrev pub OneExtendedText : Type 0
 OneExtendedText =
     (v w : OffsetDateTime)
     → unwritable_3339 v ≡ None → unwritable_3339 w ≡ None → moment_text 9 v ≡ moment_text 9 w → v ≡ w
 
--- moments with equal basic texts are equal, except for their fractions
+-- moments with equal basic texts of ISO 8601 are equal, except for their fractions
 abbrev pub OneBasicText : Type 0
 OneBasicText =
     (v w a b : OffsetDateTime)
     → unwritable_3339 v ≡ None → IsCut 0 v a → unwritable_3339 w ≡ None → IsCut 0 w b
     → basic_text v ≡ basic_text w → a ≡ b
 
--- no text is both extended and basic
+-- No extended text of a moment by ISO 8601, with nine digits of a fraction, is the basic text of any moment.
 abbrev pub ExtendedOrBasic : Type 0
 ExtendedOrBasic = (v w : OffsetDateTime) → moment_text 9 v ≢ basic_text w

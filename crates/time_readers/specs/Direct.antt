@@ -54,7 +54,7 @@ pub record IsMoment (s : MomentNumbers) (v : OffsetDateTime) : Type 0 where
   pub clock : HasClock s.hour s.minute (moment_second s) (moment_nanosecond s) (offset_time v)
   pub offset : HasOffset s.offset_hour s.offset_minute (pos 0) (offset_of v)
 
--- if the second is 60, the moment (then of 59.999999999 seconds) is the last nanosecond of a month in UTC
+-- if the second is 60, the moment (at 59.999999999) is the last nanosecond of a month in UTC, in a year from -Y to Y
 unfoldable pub IsLeapSecondValid : ℕ → MomentNumbers → OffsetDateTime → Type 0
 IsLeapSecondValid Y s v = s.second ≡ 60 → IsLeapSecondMoment Y (offset_instant Y v)
 
@@ -62,7 +62,7 @@ IsLeapSecondValid Y s v = s.second ≡ 60 → IsLeapSecondMoment Y (offset_insta
 abbrev pub IsMade : ℕ → MomentNumbers → OffsetDateTime → Type 0
 IsMade Y s v = (first_refusal Y s ≡ None) × IsMoment s v × IsLeapSecondValid Y s v
 
--- the error of the first number out of its range, or else `second` if a second of 60 isn't the last of a month in UTC
+-- the first number's range error; or else, if a second of 60 doesn't end a month in UTC, a conditional one of `second`
 abbrev pub IsNotMade : ℕ → MomentNumbers → Refusal → Type 0
 IsNotMade Y s e =
     (first_refusal Y s ≡ Some e)
@@ -70,7 +70,7 @@ IsNotMade Y s e =
     × ((v : OffsetDateTime) × IsMoment s v × (¬ IsLeapSecondValid Y s v)))
 
 -- The error if each place matches its syntax: that of the last place's range, or else of trailing bytes, or else of the
--- calendar.
+-- moment's numbers (`IsNotMade`).
 abbrev pub IsRefusedAfter : ℕ → Option Refusal → MomentNumbers → List ℕ → Refusal → Type 0
 IsRefusedAfter Y (Some r) s rest e = e ≡ r
 IsRefusedAfter Y None s [] e = IsNotMade Y s e

@@ -25,7 +25,7 @@ abbrev pub need : {A B : Type 0} → Option A → Refusal → (A → Result B Re
 need None e f = Err e
 need (Some a) e f = f a
 
--- `-` in an extended text, and nothing in a basic one
+-- the bytes after a `-` in an extended text, or nothing if it is missing; in a basic text, all bytes unchanged
 abbrev pub dash : Bool → List ℕ → Option (List ℕ)
 dash true bytes = byte 45 bytes
 dash false bytes = Some bytes
@@ -38,7 +38,7 @@ first_form extended y bytes =
     need (positive 2 after) (component (codes "day")) (λ d.
     Ok (d.0, calendar y m.1 d.1))))
 
--- a day of the year y, or nothing
+-- a day of the year y, as three digits that aren't all 0; or nothing if the bytes don't begin with such digits
 abbrev pub second_form : ℤ → List ℕ → Option (List ℕ × IsoDate)
 second_form y bytes = option_map (λ d. (d.0, ordinal y d.1)) (positive 3 bytes)
 
@@ -79,7 +79,7 @@ after_year y bytes (Some after) = of_kind Extended (forms true y after)
 unfoldable pub date_text : List ℕ → Result (Found IsoDate) Refusal
 date_text bytes = need (year bytes) (component (codes "year")) (λ y. after_year y.1 y.0 (byte 45 y.0))
 
--- the value of a parser's numbers
+-- the date with a parser's numbers, unchanged: its form (calendar, ordinal or week) is that of the numbers
 abbrev pub iso_date : DateNumbers → IsoDate
 iso_date (numbers.Calendar y m d) = calendar y m d.value
 iso_date (numbers.Ordinal y d) = ordinal y d.value

@@ -29,7 +29,7 @@ abbrev pub ReturnsForm : {V W : Type 0} → (V → W) → Result (List ℕ × W)
 ReturnsForm view found (Err e) = found ≡ Err (refusal_of_description e)
 ReturnsForm view found (Ok p) = found ≡ Ok (p.0.now, view p.1)
 
--- a whole hour and a whole minute
+-- the time of a whole hour and a whole minute: its second and nanosecond are 0
 abbrev pub hour_and_minute : ℕ → ℕ → TimeNumbers
 hour_and_minute h m = record nothing_given { hour = h; minute = m }
 
@@ -74,23 +74,23 @@ colon_of kind bytes = if not_basic kind then byte 58 bytes else None
 unfoldable pub offset_minute : ExtendedKind → List ℕ → Option (Found ℕ)
 offset_minute kind bytes = minute_after kind bytes (colon_of kind bytes)
 
--- the rest of an offset after its sign and hour
+-- the offset of a sign s and an hour h.1, with the minute in the bytes h.0 after them, or 0; nothing if it is invalid
 abbrev pub after_hour : ExtendedKind → Sign → (List ℕ × ℕ) → Option (Found OffsetNumbers)
 after_hour kind s h =
     option_map (λ m. record { rest = m.rest; value = numbers_of (Some s) h.1 m.value; kind = m.kind })
     (offset_minute kind h.0)
 
--- `Z` if there is a rest after it, and else the sign, hour and minute at the front of the bytes
+-- `Z` if the last parameter has the bytes after it; else the sign, hour (0 to 25) and minute of the bytes, or nothing
 abbrev pub offset_after : ExtendedKind → List ℕ → Option (List ℕ) → Option (Found OffsetNumbers)
 offset_after kind bytes (Some after) = Some (record { rest = after; value = Zulu; kind = kind })
 offset_after kind bytes None =
     option_and_then (λ s. option_and_then (after_hour kind s.1) (up_to 25 2 s.0)) (sign bytes)
 
--- an offset, one piece after another
+-- the offset at the front of the bytes: `Z`, or else a sign, an hour and a minute, 0 if it is missing; or nothing
 unfoldable pub offset_by_pieces : ExtendedKind → List ℕ → Option (Found OffsetNumbers)
 offset_by_pieces kind bytes = offset_after kind bytes (byte 90 bytes)
 
--- ---- The short forms of ISO 8601
+-- ---- What the fast paths of ISO 8601 parse
 
 -- the number of two digits, which are given as ASCII bytes
 abbrev pub two_digits : ℕ → ℕ → ℕ
@@ -102,7 +102,7 @@ IsSecondOfTime n second nanoseconds =
     (h m : ℕ) → says any_second n (hour_and_minute h m)
     ≡ Some (record { hour = h; minute = m; second = second; subsecond = nanoseconds })
 
--- after the date of these digits come `T`, that hour and that minute, and with a second after them they are a time
+-- if the hour is at most 23 and a valid second begins `after`, then `T` and a time of these numbers follow the date
 abbrev pub IsClock : FirstSixteen → Type 0
 IsClock f =
     (n : Number) (rest : List ℕ) (s nanoseconds : ℕ) → f.hour ≤ 23

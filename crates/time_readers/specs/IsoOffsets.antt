@@ -55,12 +55,12 @@ stands minute bytes o = option_map (λ f. (f.0, record o { minute = f.1 })) (up_
 abbrev pub offset_texts : ExtendedKind → List ℕ → List (Found OffsetParts)
 offset_texts = fitting stands no_offset_parts offset_rows
 
--- the hour and the minute, both with the sign, or `Z`
+-- the hour and the minute, both with the sign; or `Z` without a sign
 abbrev pub numbers_of : Option Sign → ℕ → ℕ → OffsetNumbers
 numbers_of None h m = Zulu
 numbers_of (Some s) h m = Numeric (with_sign s h) (with_sign s m)
 
--- the numbers of the places of a text
+-- the offset of the places' values: `Z`, or a signed hour and minute. The rest and the kind are unchanged.
 abbrev pub numbers_found : Found OffsetParts → Found OffsetNumbers
 numbers_found f = record {
   rest = f.rest;

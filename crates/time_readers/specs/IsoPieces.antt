@@ -43,7 +43,7 @@ abbrev pub leading_digits : List ℕ → List ℕ
 leading_digits [] = []
 leading_digits (c ∷ cs) = if is_digit c then c ∷ leading_digits cs else []
 
--- that byte at the front, as a reader
+-- the rest after the byte b at the front, or nothing if the bytes are empty or begin with another byte
 unfoldable pub byte : ℕ → Reader
 byte b = one_of (λ c. nat_eq c b)
 
@@ -135,7 +135,7 @@ after_whole whole bytes (Some after) = after_point whole (leading_digits after) 
 unfoldable pub number : Piece Number
 number bytes = option_and_then (λ f. after_whole f.1 f.0 (point f.0)) (digits 2 bytes)
 
--- ---- The results of the parsers of ISO 8601 texts: those of the functions, and `None` if these find nothing
+-- ---- The results of the parsers of ISO 8601 texts: what the defining functions find, and `None` if they find nothing
 
 -- a matching prefix of the bytes: the rest after it, its value, and the kind after it
 pub record Found (V : Type 0) : Type 0 where

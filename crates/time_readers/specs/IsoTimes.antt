@@ -72,12 +72,12 @@ fitting parse nothing (r ∷ rs) kind bytes =
 
 -- ---- The fraction of a unit: n digits of value w are w * unit / 10 ^ n
 
--- the number m is the fraction of the unit, truncated to a whole number; without digits, 0
+-- m is the decimal fraction 0.digits times the unit, truncated to a whole number; without digits, 0
 pub record IsFloor (digits : List ℕ) (unit : ℕ) (m : ℕ) : Type 0 where
   pub low : m * 10 ^ length digits ≤ digits_value digits * unit
   pub high : digits_value digits * unit < (m + 1) * 10 ^ length digits
 
--- the number m is the fraction of the unit, rounded to the nearest whole number, and a half up; without digits, 0
+-- m is the decimal fraction 0.digits times the unit, rounded to the nearest whole number, a half up; without digits, 0
 pub record IsRounded (digits : List ℕ) (unit : ℕ) (m : ℕ) : Type 0 where
   pub low : (2 * m - 1) * 10 ^ length digits ≤ 2 * digits_value digits * unit
   pub high : 2 * digits_value digits * unit < (2 * m + 1) * 10 ^ length digits
@@ -154,11 +154,11 @@ pub data Place : Type 0 where
   any_second : Place
   colon : Place
 
--- The bytes don't begin with a number.
+-- The bytes don't begin with a number, which is two digits with a fraction, or with neither `.` nor `,` after them.
 abbrev pub no_number : List ℕ → Bool
 no_number bytes = is_none (number bytes)
 
--- the bytes begin neither with `:` nor with a number
+-- the bytes begin neither with `:` nor with a number: two digits with a fraction, or with no `.` or `,` after them
 abbrev pub no_colon_no_number : List ℕ → Bool
 no_colon_no_number bytes = no_colon bytes && no_number bytes
 

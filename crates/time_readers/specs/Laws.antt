@@ -51,7 +51,7 @@ pub record OneFraction : Type 0 where
   pub floor : (digits : List ℕ) (unit m : ℕ) → IsFloor digits unit m ↔ (m ≡ floor_of digits unit)
   pub rounded : (digits : List ℕ) (unit m : ℕ) → IsRounded digits unit m ↔ (m ≡ round_of digits unit)
 
--- a text matches with range checks exactly if it matches without them and its numbers are in range
+-- a text matches with range checks if and only if it matches without them and its numbers are in range
 abbrev pub RangedForms : {N : Type 0} → Form N → Form N → (N → Type 0) → Type 0
 RangedForms {N} check_ranges formed InRanges =
     (bytes rest : List ℕ) (n : N) → check_ranges bytes rest n ↔ (formed bytes rest n × InRanges n)

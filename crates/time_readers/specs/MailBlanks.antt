@@ -11,7 +11,7 @@ use Rattle.time_readers.specs.Readers.{Reader, one_of, char, ◌then◌, ◌or�
 abbrev pub is_blank : ℕ → Bool
 is_blank c = c == 32 || c == 9
 
--- 1*WSP
+-- 1*WSP: one or more spaces and tabs, all that come before the first other byte
 unfoldable pub blanks : Reader
 blanks = one_or_more (one_of is_blank)
 
@@ -28,11 +28,11 @@ unfoldable pub no_crlf : Reader
 no_crlf s = if is_some (crlf s) then None else Some s
 
 -- FWS (section 3.2.3): [*WSP CRLF] 1*WSP, which is blanks and one fold at most, or obs-FWS (section 4.2), which is
--- blanks and any number of folds. A fold needs its blanks: no CRLF follows that isn't part of a fold.
+-- blanks and any number of folds. A fold that comes first is taken alone; after blanks, each CRLF must begin a fold.
 unfoldable pub fws : Reader
 fws = line_fold or blanks then zero_or_more line_fold then no_crlf
 
--- ctext (section 3.2.3): NO-WS-CTL of section 3.2.1, or a printable character except parentheses and the backslash
+-- ctext (section 3.2.3): NO-WS-CTL of section 3.2.1, or a printable character except space, parentheses and backslash
 abbrev pub is_text : ℕ → Bool
 is_text c =
     is_in_range 1 8 c || c == 11 || c == 12 || is_in_range 14 31 c || is_in_range 33 39 c || is_in_range 42 91 c
@@ -63,7 +63,7 @@ comment (suc n) s = (char "(" then comment_end (comment n)) s
 unfoldable pub cfws : Reader
 cfws = one_or_more (fws or comment 31)
 
--- [CFWS]
+-- [CFWS]: the blanks and comments that `cfws` consumes, or no bytes if it rejects
 unfoldable pub opt_cfws : Reader
 opt_cfws = optional cfws
 
@@ -73,7 +73,7 @@ unfoldable pub opt_cfws_colon_opt_cfws : Reader
 opt_cfws_colon_opt_cfws = opt_cfws then char ":" then opt_cfws
 
 -- ---- Zone names of mail dates: obs-zone of RFC 2822, section 4.3, which is an alternative to zone of section 3.3.
--- They match in any case, as all of the RFC's grammar.
+-- The names match in upper and lower case, like all literals of the RFC's grammar.
 
 -- The names of three letters with their hours from UTC: four zones of North America, each by standard and by daylight
 -- time, and Greenwich.
@@ -98,8 +98,8 @@ hours_of name = beside (str_to_ascii_lowercase name) zone_hours
 abbrev pub is_military : ℕ → Bool
 is_military c = is_ascii_lowercase c && not (c == 106)
 
--- A military zone. Such letters have been used with either sign, so by section 4.3 they mean no more than -0000: the
--- time in UTC.
+-- A military zone, which is a letter except `j` in any case, or nothing for other bytes. Such letters have been used
+-- with either sign, so by section 4.3 they mean no more than -0000: the time in UTC.
 abbrev pub military_zone : List ℕ → Option (ℤ × List ℕ)
 military_zone [] = None
 military_zone (c ∷ rest) = if is_military (to_ascii_lowercase c) then Some (pos 0, rest) else None
@@ -109,7 +109,7 @@ abbrev pub short_zone : List ℕ → Option (ℤ × List ℕ)
 short_zone s = if bytes_eq (str_to_ascii_lowercase s) (codes "ut") then Some (pos 0, []) else military_zone s
 
 -- obs-zone (section 4.3): the hours from UTC of the zone name at the front of the bytes, and the rest. The RFC allows
--- any bytes after a name. Here, if there are three bytes or more, the name must have three letters.
+-- any bytes after a name. Here 3 bytes or more begin with a table name; fewer are `UT` or begin with a military zone.
 unfoldable pub zone_literal : List ℕ → Option (ℤ × List ℕ)
 zone_literal (a ∷ b ∷ c ∷ rest) = option_map (λ hours. (hours, rest)) (hours_of (a ∷ b ∷ c ∷ []))
 zone_literal s = short_zone s

@@ -18,7 +18,7 @@ abbrev pub one_of : (ℕ → Bool) → Reader
 one_of test [] = None
 one_of test (c ∷ s) = if test c then Some s else None
 
--- consumes the byte of an ASCII character
+-- consumes the byte of an ASCII character, and rejects any other byte and the empty text
 abbrev pub char : String → Reader
 char x = one_of (λ c. c == byte x)
 
@@ -41,7 +41,7 @@ unfoldable pub repeat : List ℕ → Reader → Reader
 repeat [] p = Some
 repeat (c ∷ cs) p = optional (p then repeat cs p)
 
--- the reader repeated until it rejects: it consumes a byte each time, so one repetition for each byte is enough
+-- the reader repeated until it rejects, if it consumes a byte or more each time: one repetition for each byte is enough
 unfoldable pub zero_or_more : Reader → Reader
 zero_or_more p s = repeat s p s
 
@@ -80,7 +80,7 @@ pub record StopsAt {P N : Type 0} (A : Format P N) (ps : List P) (n : N) (bytes 
 
 -- ---- Numbers of places, with or without a range check
 
--- the number is from `least` to `most`, inclusive, if the range is checked; else any number is
+-- the number is from `least` to `most`, inclusive, if the range is checked; else any number is allowed
 abbrev pub IsWithin : Bool → ℕ → ℕ → ℕ → Type 0
 IsWithin true least most v = (least ≤ v) × (v ≤ most)
 IsWithin false least most v = Unit {0}

@@ -19,7 +19,7 @@ use Rattle.time_readers.specs.declared.rfc2822.Place.TheVariants.{WeekdayName, D
 abbrev pub IsShortWeekday : Form Weekday
 IsShortWeekday = IsShortOf false weekday_name
 
--- optional blanks, and then no weekday, or the first three letters of one with a comma and optional blanks after it
+-- optional blanks and comments, then no weekday, or the first three letters of one, a comma, and again such blanks
 abbrev pub IsWeekdayPart : Form (Option Weekday)
 IsWeekdayPart text after None = IsRead opt_cfws text after × NoCut IsShortWeekday after
 IsWeekdayPart text after (Some w) =
@@ -42,7 +42,7 @@ IsYear false text after v =
 abbrev pub IsSilent : Reader → Numbers → Form Numbers
 IsSilent reader n text after m = IsRead reader text after × (m ≡ n)
 
--- the blanks after a year: without comments if it has four digits, which is `true`, and with comments if it has two
+-- the blanks after a year: without comments for `true`, a year of four digits; with or without for `false`, one of two
 abbrev pub year_blanks : Bool → Reader
 year_blanks true = fws
 year_blanks false = cfws
@@ -132,7 +132,7 @@ month_places = DayBlanks ∷ MonthName ∷ MonthBlanks ∷ Year ∷ YearBlanks �
 abbrev pub time_places : List Place
 time_places = Hour ∷ HourColon ∷ Minute ∷ Second ∷ TimeBlanks ∷ []
 
--- the places from after the day to the offset, in order
+-- the places after the day and before the offset, in order
 abbrev pub to_offset_places : List Place
 to_offset_places = month_places ++ time_places
 

@@ -126,7 +126,7 @@ from_bits_is (suc n) i mask =
     ∙ ap (λ x. x % 2 ^ n * 2 + bit_at mask i) (sym e)
     ∙ sym f
 
--- ---- all of them
+-- ---- all fields of a `Parsed`
 
 module _ (mask : ℕ) (bytes shorts words : List ℤ) (stamp : ℤ) where
   -- the record that these fields of a `Parsed` represent: `record_of` of them

@@ -26,8 +26,8 @@ abbrev pub HasNone : (List ℕ → Record → Type 0) → Type 0
 HasNone P = (rest : List ℕ) (r' : Record) → P rest r' → ⊥
 
 unfoldable mutual
-  -- The tree matches the bytes before `rest`, and changes the record r to r'. If the tree in an optional one doesn't
-  -- match, or there are no alternatives, it matches no bytes and leaves the record unchanged.
+  -- The tree matches the bytes before `rest`, and changes the record r to r'. An optional tree whose inner tree doesn't
+  -- match, and a tree of no alternatives, match the empty text and leave the record unchanged.
   pub Reads : ℕ → Tree → List ℕ → Record → List ℕ → Record → Type 0
   Reads Y (literal t) bytes r rest r' = (bytes ≡ t ++ rest) × (r' ≡ r)
   Reads Y (component whole c) bytes r rest r' = ReadsComponent Y whole c bytes r rest r'
@@ -96,7 +96,7 @@ Answers Y t bytes r (Err e) r' = Refuses Y t bytes r (refusal_of_description e) 
 
 -- ---- Readings that leave each character whole. `Y` is the greatest year.
 
--- if the component is an `Ignore` and matches, its rest is empty or begins with a whole character
+-- if the component is an `Ignore` and matches, its rest is empty or doesn't begin with a UTF-8 continuation byte
 abbrev pub CleanComponent : ℕ → Component → List ℕ → Record → Type 0
 CleanComponent Y c bytes r =
     (modifiers : Ignore') (rest : List ℕ) (q : Record)

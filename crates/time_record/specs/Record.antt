@@ -72,7 +72,7 @@ empty = record {
   leap_second_allowed = false;
 }
 
--- a value for one option, in its unit; a century comes with whether it is negative, which counts only if it is 0
+-- a value for one option, in its unit; a century comes with a flag for negative, which counts only if the century is 0
 pub data Entry : Type 0 where
   year_is : ℤ → Entry
   year_century_is : ℤ → Bool → Entry

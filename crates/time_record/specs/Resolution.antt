@@ -216,7 +216,7 @@ Judged leap AtEnd P (Ok v) = P v × (IsTrue leap → AtEnd)
 Judged leap AtEnd P (Err e) = IsTrue leap × (AtEnd → ⊥) × (e ≡ range (codes "second") true)
 
 -- the moment of a record's date, time and offset, or their first error, in that order; a leap second that is allowed
--- becomes the last nanosecond before it, or gives an error if that isn't the last of a month in UTC
+-- counts as the last nanosecond before it, or gives an error if that nanosecond isn't the last of a month in UTC
 unfoldable pub IsMomentOfParts : ℕ → Record → Result OffsetDateTime Refusal → Type 0
 IsMomentOfParts Y r = Then (IsDated Y r) (λ d. Then (IsTimed (replace_leap_second r)) (λ t. Then (IsOffset r)
     (λ o. Judged (is_leap_second r) (IsLeapSecondMoment Y (instant Y d t o))
@@ -235,8 +235,8 @@ IsInUtc Y n (Ok u) = (utc_instant Y u ≡ n) × IsDateWithin Y (utc_date u)
 IsInUtc Y n (Err e) = (IsInstant Y n → ⊥) × (e ≡ range (codes "year") true)
 
 -- the moment in UTC of a record's date, time and offset (UTC if its hour is missing), or their first error, in that
--- order, and then the error of a moment without a date in UTC; a leap second that is allowed becomes the last
--- nanosecond before it, or gives an error if that isn't the last of a month
+-- order, and then the error of a moment without a date in UTC; a leap second that is allowed counts as the last
+-- nanosecond before it, or gives an error if that nanosecond isn't the last of a month in UTC
 unfoldable pub IsUtcMomentOfParts : ℕ → Record → Result UtcDateTime Refusal → Type 0
 IsUtcMomentOfParts Y r = Then (IsDated Y r) (λ d. Then (IsTimed (replace_leap_second r)) (λ t. Then (IsOffsetOrUtc r)
     (λ o. Then (IsInUtc Y (instant Y d t o))

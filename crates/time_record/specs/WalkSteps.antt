@@ -41,14 +41,14 @@ abbrev pub Attempts : ℕ → Tree → List ℕ → Record → Option (Bor (List
 Attempts Y t bytes r (Some rest) r' = Reads Y t bytes r rest.now r'
 Attempts Y t bytes r None r' = Unread Y t bytes r r'
 
--- ---- The results of the walk's short cuts. `Y` is the greatest year.
+-- ---- The results of the walk's fast paths. `Y` is the greatest year.
 
--- the rest and the record of a reading; or, for `None`, the short cut doesn't apply, and the record is unchanged
+-- the rest and the record of a reading; or, for `None`, the fast path doesn't apply, and the record is unchanged
 abbrev pub MayRead : ℕ → Tree → List ℕ → Record → Option (Bor (List ℕ)) → Record → Type 0
 MayRead Y t bytes r (Some rest) r' = Reads Y t bytes r rest.now r'
 MayRead Y t bytes r None r' = r' ≡ r
 
--- a result that satisfies `Attempts`; or, for the outer `None`, the short cut doesn't apply, and the record is
+-- a result that satisfies `Attempts`; or, for the outer `None`, the fast path doesn't apply, and the record is
 -- unchanged
 abbrev pub MayAttempt : ℕ → Tree → List ℕ → Record → Option (Option (Bor (List ℕ))) → Record → Type 0
 MayAttempt Y t bytes r (Some read) r' = Attempts Y t bytes r read r'

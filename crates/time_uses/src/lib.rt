@@ -59,7 +59,7 @@ pub fn configured_date<'a>(description: &'a str, text: &str) -> Result<Date, NoD
 }
 
 /// The start of a calendar's event, a whole text in ISO 8601 such as `20210102T030405Z`, converted to UTC. A text
-/// without an offset is in UTC. An error if the text has no valid date and time.
+/// without an offset is in UTC. An error if the text has no valid date and time, or its date in UTC is out of range.
 pub fn event_start(start: &str) -> Result<UtcDateTime, Parse>
     ensures { IsOutcome (IsUtcMoment greatest_year) (iso8601.Reads greatest_year) (iso8601.Refuses greatest_year)
         start.now empty (seen result) }
@@ -76,8 +76,8 @@ pub fn time_of_day(text: &str) -> Result<Time, Parse>
     Time::parse(text, &Iso8601)
 }
 
-/// The date of a whole text by the format. The default year, of a text that omits it, is `year` if that is from -999999
-/// to 999999; otherwise there is no default. An error if the text doesn't match, or gives no valid date.
+/// The date of a whole text by the format. `year`, if from -999999 to 999999, is the default of a text without a full
+/// year, even with a century and two digits. An error if the text doesn't match, or gives no valid date.
 pub fn date_in<F: Parsable>(year: i32, text: &[u8], format: &F) -> Result<Date, Parse>
     ensures { IsOutcome (IsDated greatest_year) (F.reads format.now) (F.refuses format.now) text.now
         (begun (put greatest_year (year_is year) empty)) (seen result) }
@@ -86,8 +86,8 @@ pub fn date_in<F: Parsable>(year: i32, text: &[u8], format: &F) -> Result<Date, 
 }
 
 /// The byte index at which the format fails on a text that it rejected with this error. If the format matches the whole
-/// text, it is the start of the component that the error calls out of range, or of the week number for an `ordinal`
-/// that the text omits; `None` then means that the error calls no component of the text out of range.
+/// text, it is the start of the last component that the error calls out of range, or of the last week number for an
+/// `ordinal` that the text omits; `None` then means that the error calls no component of the text out of range.
 pub fn error_index<F: Locate>(text: &[u8], format: &F, error: Parse) -> Option<usize>
     ensures { IsErrorAt (F.reads format.now) (F.locates format.now) (F.marks format.now) text.now empty
         (refusal_of error) result }

@@ -21,7 +21,7 @@ unfoldable pub fixed : ℕ → ℕ → List ℕ
 fixed zero n = []
 fixed (suc k) n = fixed k (n / 10) ++ ((48 + n % 10) ∷ [])
 
--- how many of the last k decimal digits of n are left without the zeros at the end
+-- how many of the last k decimal digits of n are left after the zeros at the end are removed
 unfoldable pub significant : ℕ → ℕ → ℕ
 significant zero n = 0
 significant (suc k) n = if n % 10 == 0 then significant k (n / 10) else suc k
@@ -38,7 +38,7 @@ magnitude_display n = if nat_lt n 10_000 then fixed 4 n else if nat_lt n 100_000
 abbrev pub year_sign_display : ℤ → List ℕ
 year_sign_display y = if int_lt y (pos 0) then codes "-" else if int_lt (pos 9999) y then codes "+" else []
 
--- `YYYY-MM-DD`, with a sign and four to six digits of the year outside 0 to 9999
+-- `YYYY-MM-DD`; a year outside 0 to 9999 has a sign and four to six digits
 abbrev pub date_display : Date → List ℕ
 date_display d =
     year_sign_display (Dates.year d) ++ magnitude_display (unsigned_abs (Dates.year d)) ++ codes "-"
@@ -48,7 +48,7 @@ date_display d =
 abbrev pub hour_display : ℕ → List ℕ
 hour_display h = if nat_lt h 10 then (48 + h) ∷ [] else fixed 2 h
 
--- `H:MM:SS.n`: the hour has no leading zero, and the fraction no zero at its end, but at least one digit
+-- `H:MM:SS.n`: the hour has no leading zero, and the fraction no zeros at its end, but a fraction of 0 is `.0`
 abbrev pub time_display : Time → List ℕ
 time_display t =
     hour_display (Times.hour t) ++ codes ":" ++ fixed 2 (Times.minute t) ++ codes ":" ++ fixed 2 (Times.second t)

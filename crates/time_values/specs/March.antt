@@ -3,7 +3,7 @@
 -- Years that begin in March.
 use Rattle.std.specs.Prelude.{ℕ, ◌+◌, ◌-◌, ◌*◌, ◌/◌, nat_lt, if◌then◌else◌}
 
--- the days from the first of March to the first of the month of that number; from March on, each five months have 153
+-- the days before the month of that number in a year that begins in March, where each five months have 153 days
 abbrev pub march_days : ℕ → ℕ
 march_days m = if nat_lt m 3 then 275 + 31 * m else (153 * m - 457) / 5
 

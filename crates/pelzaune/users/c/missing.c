@@ -1,4 +1,4 @@
-/* Tests of what a text lacks for a value. Prints 'N passed, M failed'. */
+/* Tests of what a text is missing for a value. Prints 'N passed, M failed'. */
 #include "check.h"
 
 enum { DATE = PELZAUNE_NEEDS_DATE, TIME = PELZAUNE_NEEDS_TIME, OFFSET = PELZAUNE_NEEDS_OFFSET, MOMENT = DATE + TIME + OFFSET };

@@ -105,8 +105,8 @@ macro_rules! put {
     }};
 }
 
-// Parses an hour of 24, a minute, a second, a month's number or a day into the record, without a call, and returns the
-// unread bytes. `None`: another component or a text that doesn't match, and the record is unchanged.
+// Parses an hour from 0 to 23, a minute, a second, a month's number or a day into the record, and returns the unread
+// bytes. `None`: another component, no match or a number out of range, and the record is unchanged.
 #[inline(always)]
 fn read_common<'a>(component: Component, parsed: &mut Parsed, input: &'a [u8]) -> Option<&'a [u8]>
     ensures { MayRead greatest_year (tree.component false component) input.now parsed.old result parsed.new }

@@ -1,9 +1,11 @@
-//! Parses a prefix by RFC 3339 without a record.
+//! Parses a prefix by RFC 3339, and a prefix or a whole text by ISO 8601, without a record.
 ghost use Rattle.std.specs.Prelude.{◌≤◌, ◌+◌};
-ghost use Rattle.restamp_formats.specs.Common.{length, IfSome, Ok};
+ghost use Rattle.restamp_formats.specs.Common.{length, IfSome, Ok, Defaults, greatest_year};
+ghost use Rattle.time_parsing.specs.Iso8601.{Reads, Refuses};
 ghost use Rattle.restamp_formats.specs.Reading as spec;
 
-use crate::reading::Match;
+use crate::reading::{Match, match_before};
+use time_parsing::iso8601::fast::front;
 use time_parsing::{Parsable, Rfc3339Strict};
 
 // How many bytes come before the fraction in RFC 3339: those of `YYYY-MM-DDTHH:MM:SS`.
@@ -61,4 +63,19 @@ pub(super) fn front_3339(text: &[u8]) -> Option<Match>
         start: 0,
         length: end,
     })
+}
+
+/// Parses a prefix of the text by ISO 8601 if `is_prefix` is true, otherwise the whole text. Defaults have no effect on a
+/// match, which has a year and an offset. `None` means unknown, not rejected: the text must be parsed over a record.
+#[inline(always)]
+pub(super) fn read_8601(is_prefix: bool, text: &[u8]) -> Option<Match>
+    ensures said { (defaults : Defaults) → IfSome result (λ said. spec.IsReadWith is_prefix (Reads greatest_year)
+        (Refuses greatest_year) text.now defaults (Ok said)) }
+    ensures within { IfSome result (λ said. said.start + said.length ≤ length text.now) }
+{
+    let (moment, rest) = front(text)?;
+    if !is_prefix && !rest.is_empty() {
+        return None;
+    }
+    Some(match_before(rest, text, moment))
 }

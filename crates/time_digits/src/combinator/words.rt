@@ -133,7 +133,7 @@ mod tests {
         all_refused
     }
 
-    // Whether `join_word` rejects every byte other than a digit at that place.
+    // Whether `join_word` of `n` bytes that are digits elsewhere rejects every byte other than a digit at that place.
     fn is_refused_at(place: usize, n: u8) -> bool {
         let mut all_refused = true;
         for byte in 0..=u8::MAX {

@@ -141,7 +141,7 @@ iso8601_exact_place = record {
   not_read = λ b r q m h k. none-some m (sym (ap (place_of b r) k) ∙ h);
 }
 
--- by ISO 8601, a text over a record has at most one mark for each component's name
+-- by ISO 8601, a component's name has at most one mark in a text over a record: the bytes left at its start, or none
 pub iso8601_exact_mark : IsExactMark Marks
 iso8601_exact_mark name b r x y h k = h ∙ sym k
 
@@ -180,7 +180,7 @@ mutual
   MarksFirst-one name (more t ts) b r x y (inr h) (inl k) = absurd (h.0 k.0 k.1 k.2)
   MarksFirst-one name (more t ts) b r x y (inr h) (inr k) = MarksFirst-one name ts b r x y h.1 k.1
 
--- by a tree, a text over a record has at most one mark for each component's name
+-- by a tree, a component's name has at most one mark in a text over a record: the bytes left at its start, or none
 pub tree_exact_mark : (t : Tree) → IsExactMark (MarksTree t)
 tree_exact_mark t name b r x y h k = Marks-one name (optional t) b r x y h k
 
@@ -268,7 +268,7 @@ rfc2822_exact_place =
     (Rfc2822Reads greatest_year)
     (λ b r q h. (h.0, h.1))
 
--- by RFC 2822, a text has at most one mark for each component's name
+-- by RFC 2822, a component's name has at most one mark in a text: the bytes left at its start, or none
 pub rfc2822_exact_mark : IsExactMark Rfc2822Marks
 rfc2822_exact_mark = place_exact_mark (PlaceSyntax true) (MailAsks-unique true) expected_from fault places nothing_read
 
@@ -280,7 +280,7 @@ rfc3339_exact_place =
     place_exact (Rfc3339Syntax true) (PlaceSyntax-unique true) rfc3339_places rfc3339_nothing_read at_once
     rfc3339_expected_at (Rfc3339Reads greatest_year) (λ b r q h. (h.0, h.2))
 
--- by RFC 3339, a text has at most one mark for each component's name
+-- by RFC 3339, a component's name has at most one mark in a text: the bytes left at its start, or none
 pub rfc3339_exact_mark : IsExactMark Rfc3339Marks
 rfc3339_exact_mark =
     place_exact_mark (Rfc3339Syntax true) (PlaceSyntax-unique true) at_once rfc3339_fault rfc3339_places
@@ -297,7 +297,7 @@ strict_exact_place = record {
   not_read = λ b r q m p read. (rfc3339_exact_place).not_read (strict_text b) r q p.0 p.1 read;
 }
 
--- by the strict RFC 3339, a text has at most one mark for each component's name
+-- by the strict RFC 3339, a component's name has at most one mark in a text: the bytes left at its start, or none
 pub strict_exact_mark : IsExactMark StrictMarks
 strict_exact_mark name b r mark other p q =
     p.2 ∙ ap (option_map (λ n. n + cut_off b)) (rfc3339_exact_mark name (strict_text b) r p.0 q.0 p.1 q.1) ∙ sym q.2

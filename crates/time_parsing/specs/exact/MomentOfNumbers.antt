@@ -28,8 +28,8 @@ abbrev pub clock_of_numbers : MomentNumbers → Clock
 clock_of_numbers s =
     record { hour = s.hour; minute = s.minute; second = moment_second s; nanosecond = moment_nanosecond s }
 
--- the record has the text's numbers, with the month m, no seconds of an offset, and no timestamp; a second of 60 is a
--- leap second, which it allows
+-- the record has the text's numbers, with the month m, 0 as the offset's second, and no timestamp; a second of 60 is a
+-- leap second, which the record allows
 pub record HasNumbers (r : Record) (m : Month) (s : MomentNumbers) : Type 0 where
   pub row : first_row r ≡ Some (by_month_and_day (pos s.year) m s.day)
   pub month : month_number m ≡ s.month
@@ -174,7 +174,7 @@ made-resolves r m s v t same made =
 Err-Ok : {A : Type 0} (a : A) (e : Refusal) → ◌≡◌ {A = Result A Refusal} (Ok a) (Err e) → ⊥
 Err-Ok a e h = cc
 
--- the numbers are in their ranges; the month may still have no such day
+-- The numbers except the year and the fraction are in their ranges; but the month may be 0, or have no such day.
 pub record Accepted (s : MomentNumbers) : Type 0 where
   pub month : s.month ≤ 12
   pub day : (1 ≤ s.day) × (s.day ≤ 31)
@@ -207,7 +207,7 @@ day_accepted y m d e = (grind (arith, nat_tests), grind (arith, nat_tests))
 pub offset_accepted : (h m : ℤ) → offset_refusal h m (pos 0) ≡ None → (unsigned_abs h ≤ 25) × (unsigned_abs m ≤ 59)
 offset_accepted h m e = (grind (arith, nat_tests), grind (arith, nat_tests))
 
--- numbers that no part rejects are in their ranges
+-- numbers that no part rejects are in the ranges of `Accepted`: it excludes no year, no fraction and no month 0
 pub accepted_ranges : (s : MomentNumbers) → first_refusal greatest_year s ≡ None → Accepted s
 accepted_ranges s none =
     let second = moment_second s in
@@ -286,7 +286,7 @@ by_parts r m s v t year named (inr (d, dated, inr (w, timed, inr (o, offset, jud
           rw (is.0, is.1, is.2) at_end,
     )
 
--- if the record with these numbers resolves to a moment, the numbers make that moment
+-- if the record with these numbers resolves to a moment, and their year and month are in range, they make that moment
 pub resolves-made : (r : Record) (m : Month) (s : MomentNumbers) (v : OffsetDateTime) → HasNumbers r m s
     → s.year ≤ greatest_year
     → month_refusal s.month ≡ None

@@ -1,7 +1,7 @@
-//! The commonest texts of ISO 8601, parsed whole and without a record.
+//! The commonest texts of ISO 8601, parsed without a record.
 //!
-//! `date_time` and `moment` return the value that a parse over an empty record returns, or `None`. After `None` the
-//! text is parsed over an empty record, and may still be accepted.
+//! `date_time`, `moment` and `front` return the value that a parse over an empty record returns, or `None`. After `None`
+//! the text is parsed over a record, and may still be accepted.
 ghost use Rattle.std.specs.Prelude.{◌≡◌, [], IfSome, Some, Ok};
 ghost use Rattle.time_values.specs.Moments.{plain_date, plain_time};
 ghost use Rattle.time_values.specs.Calendar.{greatest_year};
@@ -11,7 +11,7 @@ ghost use Rattle.time_readers.specs.IsoOffsets.{offset_found};
 ghost use Rattle.time_readers.specs.declared.iso8601.OffsetNumbers.{OffsetNumbers as OffsetNumbers_};
 ghost use Rattle.time_record.specs.Record.{empty};
 ghost use Rattle.time_record.specs.Resolution.{IsMoment, IsPlain};
-ghost use Rattle.time_parsing.specs.Iso8601.{Reads, Refuses, iso_date_of, time_numbers_of, IsOffsetOfNumbers};
+ghost use Rattle.time_parsing.specs.Iso8601.{Reads, ReadsMoment, Refuses, iso_date_of, time_numbers_of, IsOffsetOfNumbers};
 ghost use Rattle.time_parsing.specs.Outcome.{IsOutcome};
 
 use time_readers::iso8601::{
@@ -36,18 +36,32 @@ pub(super) fn date_time(input: &[u8]) -> Option<PlainDateTime>
     Some(plain)
 }
 
-// The date, time and offset of a whole text. `None` if the text isn't a date by month and day that `parts` parses, a
-// time with `T`, and an offset up to the end, or if the date doesn't exist, or the second is 60.
+/// Parses a date by month and day, a time with `T` and an offset at the start of a text. Returns the moment and the rest.
+/// `None` for any other form, and if the date doesn't exist, the second is 60, or the offset is out of range.
+#[inline(always)]
+pub fn front(input: &[u8]) -> Option<(OffsetDateTime, &[u8])>
+    ensures { IfSome result (λ p. ReadsMoment greatest_year input.now p.0 p.1.now) }
+{
+    let found = parts(input)?;
+    let time = found.time?;
+    let after = offset(time.rest, time.kind)?;
+    let offset = offset_of(after.value)?;
+    let plain = date_time_of(found.date.value, time.value)?;
+    let moment = OffsetDateTime::new_in_offset(plain.date(), plain.time(), offset);
+    Some((moment, after.rest))
+}
+
+// The moment of a whole text that `front` parses. `None` if `front` returns `None`, or if bytes follow the offset.
 #[inline(always)]
 pub(super) fn moment(input: &[u8]) -> Option<OffsetDateTime>
     ensures { IfSome result (λ v. IsOutcome (IsMoment greatest_year) (Reads greatest_year)
         (Refuses greatest_year) input.now empty (Ok v)) }
 {
-    let found = parts(input)?;
-    let time = found.time?;
-    let offset = offset_to_the_end(time.rest, time.kind)?;
-    let plain = date_time_of(found.date.value, time.value)?;
-    Some(OffsetDateTime::new_in_offset(plain.date(), plain.time(), offset))
+    let (moment, rest) = front(input)?;
+    if !rest.is_empty() {
+        return None;
+    }
+    Some(moment)
 }
 
 /// The date and time of these numbers. `None` if the date is by the day of the year or by the week, or doesn't exist,

@@ -278,8 +278,8 @@ impl Parsed {
         Some(())
     }
 
-    /// Sets the minutes of the offset from UTC to a number from 0 to 59. If out of range, returns `None` and changes
-    /// nothing. While the flag of a negative offset is set, `offset_minute_signed` returns the number negated.
+    /// Sets the minutes of the offset from UTC, from 0 to 59. If out of range, returns `None` and changes nothing.
+    /// While the flag of a negative offset (a parsed minus) is set, `offset_minute_signed` returns the number negated.
     #[deprecated(note = "`set_offset_minute_signed` takes a sign")]
     #[inline]
     pub fn set_offset_minute(&mut self, value: u8) -> Option<()>
@@ -293,7 +293,7 @@ impl Parsed {
     }
 
     /// Sets the minutes of the offset from UTC, from -59 to 59. If out of range, returns `None` and changes nothing.
-    /// While the flag of a negative offset is set, `offset_minute_signed` returns the number negated.
+    /// While the flag of a negative offset (a parsed minus) is set, `offset_minute_signed` returns the number negated.
     #[inline]
     pub fn set_offset_minute_signed(&mut self, value: i8) -> Option<()>
         ensures { Sets (put greatest_year (offset_minute_is value) self.old)
@@ -306,8 +306,8 @@ impl Parsed {
         Some(())
     }
 
-    /// Sets the seconds of the offset from UTC to a number from 0 to 59. If out of range, returns `None` and changes
-    /// nothing. While the flag of a negative offset is set, `offset_second_signed` returns the number negated.
+    /// Sets the seconds of the offset from UTC, from 0 to 59. If out of range, returns `None` and changes nothing.
+    /// While the flag of a negative offset (a parsed minus) is set, `offset_second_signed` returns the number negated.
     #[deprecated(note = "`set_offset_second_signed` takes a sign")]
     #[inline]
     pub fn set_offset_second(&mut self, value: u8) -> Option<()>
@@ -321,7 +321,7 @@ impl Parsed {
     }
 
     /// Sets the seconds of the offset from UTC, from -59 to 59. If out of range, returns `None` and changes nothing.
-    /// While the flag of a negative offset is set, `offset_second_signed` returns the number negated.
+    /// While the flag of a negative offset (a parsed minus) is set, `offset_second_signed` returns the number negated.
     #[inline]
     pub fn set_offset_second_signed(&mut self, value: i8) -> Option<()>
         ensures { Sets (put greatest_year (offset_second_is value) self.old)

@@ -173,7 +173,7 @@ pub(crate) const DATE: u32 = 1;
 pub(crate) const TIME: u32 = 2;
 pub(crate) const OFFSET: u32 = 4;
 
-// The error of a text, which names the missing component if the text lacks one for what is needed.
+// The error of a text, which names the missing component if one is missing for what is needed.
 pub(crate) fn with_missing(error: Error, needs: u32, text: &[u8], format: Format<'_>) -> Error {
     if error.kind() != Kind::Insufficient {
         return error;

@@ -41,7 +41,7 @@ fn has_no_fraction(bytes: &[u8]) -> bool
 }
 
 // The numbers of a time as `T03:04:05` at the start of a text, and the bytes after it. `None`: another form, an hour
-// above 23, or bytes after it that don't start with `+`, `-` or `Z`.
+// above 23, a minute or second above 59, or bytes after it that don't start with `+`, `-` or `Z`.
 #[inline(always)]
 fn extended_time(text: &[u8]) -> Option<(TimeNumbers, &[u8])>
     ensures { IfSome result (λ p. time_text true Extended text.now
@@ -76,7 +76,7 @@ fn extended_time(text: &[u8]) -> Option<(TimeNumbers, &[u8])>
 }
 
 // The numbers of a time as `T030405` at the start of a text, and the bytes after it. `None`: another form, an hour
-// above 23, or bytes after it that don't start with `+`, `-` or `Z`.
+// above 23, a minute or second above 59, or bytes after it that don't start with `+`, `-` or `Z`.
 #[inline(always)]
 fn basic_time(text: &[u8]) -> Option<(TimeNumbers, &[u8])>
     ensures { IfSome result (λ p. time_text true Basic text.now

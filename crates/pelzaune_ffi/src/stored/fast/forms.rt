@@ -11,34 +11,34 @@ use time_preparing::whole::{Dated, InMoment, Whole};
 // A literal's first byte. This and the constants below are kinds of stored steps: their numbers in `StoredStep::kind`.
 const LITERAL: u8 = 0;
 
-// `Component::Day`.
+// The number of `Component::Day` in `StoredStep::kind`.
 const DAY: u8 = 5;
 
-// `Component::MonthShort`.
+// The number of `Component::MonthShort` in `StoredStep::kind`.
 const MONTH_SHORT: u8 = 6;
 
-// `Component::MonthNumerical`.
+// The number of `Component::MonthNumerical` in `StoredStep::kind`.
 const MONTH_NUMERICAL: u8 = 8;
 
-// `Component::CalendarYearFullExtendedRange`.
+// The number of `Component::CalendarYearFullExtendedRange` in `StoredStep::kind`.
 const YEAR: u8 = 17;
 
-// `Component::CalendarYearFullStandardRange`.
+// The number of `Component::CalendarYearFullStandardRange` in `StoredStep::kind`.
 const STANDARD_YEAR: u8 = 18;
 
-// `Component::Hour24`.
+// The number of `Component::Hour24` in `StoredStep::kind`.
 const HOUR: u8 = 28;
 
-// `Component::Minute`.
+// The number of `Component::Minute` in `StoredStep::kind`.
 const MINUTE: u8 = 29;
 
-// `Component::Second`.
+// The number of `Component::Second` in `StoredStep::kind`.
 const SECOND: u8 = 31;
 
-// `Component::OffsetHour`.
+// The number of `Component::OffsetHour` in `StoredStep::kind`.
 const OFFSET_HOUR: u8 = 33;
 
-// `Component::OffsetMinute`.
+// The number of `Component::OffsetMinute` in `StoredStep::kind`.
 const OFFSET_MINUTE: u8 = 34;
 
 /// The form of steps that are a date, a byte and a time. `None`: not recognized as one.
@@ -139,7 +139,7 @@ pub(super) fn timed(steps: &[StoredStep]) -> Option<u8>
 }
 
 // The byte before an offset, and the one between its hour and minute, each `None` if there is none. `None` as a whole:
-// the steps aren't an hour and a minute that `is_offset` accepts, with at most these two bytes.
+// the steps aren't an hour with a mandatory sign and a minute, padded with zeros, with at most these two bytes.
 #[inline(always)]
 fn offset(steps: &[StoredStep]) -> Option<(Option<u8>, Option<u8>)>
     ensures { IfSome result (λ form. map spec.step_of steps.now ≡ byte_parts form.0 ++ offset_parts form.1) }
@@ -156,7 +156,7 @@ fn offset(steps: &[StoredStep]) -> Option<(Option<u8>, Option<u8>)>
 }
 
 // The byte between the hour and the minute of an offset, or `Some(None)` if there is none. `None`: the steps aren't an
-// hour and a minute that `is_offset` accepts, with at most one byte between them.
+// hour with a mandatory sign and a minute, padded with zeros, with at most one byte between them.
 #[inline(always)]
 fn signed(steps: &[StoredStep]) -> Option<Option<u8>>
     ensures { IfSome result (λ between. map spec.step_of steps.now ≡ offset_parts between) }
@@ -171,7 +171,7 @@ fn signed(steps: &[StoredStep]) -> Option<Option<u8>>
     }
 }
 
-// Whether the steps are the hour of an offset with a mandatory sign, and its minute, both padded with zeros.
+// Whether the steps are an offset's hour with a mandatory sign (flag 1) and its minute, both with choice 0 (zeros).
 #[inline(always)]
 fn is_offset(hour: &StoredStep, minute: &StoredStep) -> bool
     ensures { IsTrue result → spec.step_of hour.now ∷ spec.step_of minute.now ∷ [] ≡ offset_parts None }
@@ -179,7 +179,7 @@ fn is_offset(hour: &StoredStep, minute: &StoredStep) -> bool
     is_flagged(hour, OFFSET_HOUR, 1) && is_padded(minute, OFFSET_MINUTE)
 }
 
-// The byte of two steps that are literals of that byte. `None`: another step, or two different bytes.
+// The byte that two steps are, each the first byte of a literal (kind 0). `None`: another kind, or different bytes.
 #[inline(always)]
 fn one_byte(first: &StoredStep, second: &StoredStep) -> Option<u8>
     ensures first { IfSome result (λ byte. spec.step_of first.now ≡ step_.Literal byte) }
@@ -193,7 +193,7 @@ fn one_byte(first: &StoredStep, second: &StoredStep) -> Option<u8>
     Some(byte)
 }
 
-// The byte of a literal step. `None`: another step.
+// The byte of a step that is the first byte of a literal (kind 0). `None`: a step of another kind.
 #[inline(always)]
 fn byte_of(step: &StoredStep) -> Option<u8>
     ensures { IfSome result (λ byte. spec.step_of step.now ≡ step_.Literal byte) }

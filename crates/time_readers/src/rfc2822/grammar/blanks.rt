@@ -40,7 +40,7 @@ fn blank(input: &[u8]) -> Option<&[u8]>
     }
 }
 
-// Parses one or more blanks.
+// Parses one or more spaces and tabs. Returns `None` if the input doesn't begin with one.
 #[inline]
 fn blanks(input: &[u8]) -> Option<&[u8]>
     ensures { option_copied result ≡ spec.blanks input.now }

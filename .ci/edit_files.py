@@ -2,7 +2,8 @@
 
 must-fail/NAME.edit has one mutation, since `rt` requires a file for each. more-edits/mutations.edits has all others, in
 blocks that a name heads, with a blank line between two. A line `file:` names the source that the lines below it change.
-A mutation has lines `old:` and `new:`, once or more often, then `wrong:` and `clause:`.
+A mutation has lines `old:` and `new:`, once or more often, then `wrong:` and `clause:`. The files drawn_*.edit of
+.ci/draw-edits repeat some of mutations.edits, and aren't read.
 """
 import glob
 import os
@@ -71,6 +72,8 @@ def edits_of(crate):
     folder = f"crates/{crate}"
     for path in [*sorted(glob.glob(f"{folder}/must-fail/*.edit", root_dir=TOP)),
                  *glob.glob(f"{folder}/more-edits/mutations.edits", root_dir=TOP)]:
+        if "/drawn_" in path:
+            continue
         found, malformed = parse(path)
         edits += found
         errors += malformed

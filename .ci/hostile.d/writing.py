@@ -92,7 +92,7 @@ def of_tree(tree, moment, before=b"", most=MOST_BYTES):
         return of_tree(inside, moment, before, most)
     text = before + (inside if kind == "literal" else of_component(inside, moment).encode())
     if most is not None and len(text) > most:
-        raise Unwritable(f"The text has more than {most} bytes.")
+        raise Unwritable("The text is too long.")
     return text
 
 

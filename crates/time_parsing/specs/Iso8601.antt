@@ -113,8 +113,8 @@ abbrev pub Refuses : ℕ → Refusing
 Refuses Y bytes r e =
     (reading Y bytes (with_leap_second r) ≡ None) × (date_over Y bytes (with_leap_second r) ≡ Err e)
 
--- The bytes begin with a text of the moment, and `rest` is the rest. Parsed over an empty record, the text stores a year
--- and the hour of an offset.
+-- The bytes begin with a text of the moment, and `rest` is the rest. Parsed over an empty record, the text stores a
+-- year and the hour of an offset.
 abbrev pub ReadsMoment : ℕ → List ℕ → OffsetDateTime → List ℕ → Type 0
 ReadsMoment Y bytes v rest =
     (r : Record) × Reads Y bytes empty rest r × IsMoment Y r (Ok v) × (is_some r.year ≡ true)

@@ -58,7 +58,7 @@ ordinal_of y m d = days_of_months y (m - 1) + d
 abbrev pub day_number : ℕ → ℤ → ℕ → ℕ → ℕ
 day_number Y y m d = year_start Y y + (ordinal_of y m d - 1)
 
--- the weekday of a day number, 0 for Monday to 6 for Sunday
+-- the weekday of the date `day` days after the Monday -999999-01-01, 0 for Monday to 6 for Sunday
 abbrev pub weekday_of : ℕ → ℕ
 weekday_of day = day % 7
 

@@ -58,7 +58,7 @@ IsLastNanosecondOfMonth date time =
     (nanos_of_day time + 1 ≡ nanos_per_day)
     × (day date ≡ month_length (year date) (month_number (month date)))
 
--- the instant is the last nanosecond of a month in UTC
+-- the instant n is the last nanosecond of a month in UTC, in a year from -Y to Y
 abbrev pub IsLeapSecondMoment : ℕ → ℤ → Type 0
 IsLeapSecondMoment Y n =
     (date : Date) × (time : Time) × (clock_nanos Y date time ≡ n) × IsLastNanosecondOfMonth date time

@@ -3,7 +3,7 @@
 -- Years that begin in March.
 use Rattle.std.specs.Prelude.{ℕ, ◌+◌, ◌-◌, ◌*◌, ◌/◌, nat_lt, if◌then◌else◌}
 
--- the days before the month of that number in a year that begins in March, where each five months have 153 days
+-- the days from 1 March to the next first of the month m: 0 for March (3), 306 for January (1) and 337 for February (2)
 abbrev pub march_days : ℕ → ℕ
 march_days m = if nat_lt m 3 then 275 + 31 * m else (153 * m - 457) / 5
 

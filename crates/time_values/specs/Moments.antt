@@ -66,7 +66,7 @@ nanoseconds t = t.nanoseconds
 
 -- ---- Local times at other offsets, in nanoseconds since 1970-01-01T00:00:00 at the offset
 
--- the local time of an instant, at that offset
+-- the local time of an instant at that offset, in nanoseconds since 1970-01-01T00:00:00 at the offset
 abbrev pub local_time_at : ℤ → UtcOffset → ℤ
 local_time_at instant offset = instant +ℤ (offset_seconds offset *ℤ pos 1_000_000_000)
 
@@ -94,6 +94,6 @@ nearest_instant Y n =
 abbrev pub system_time_refusal : ℤ → Option Refusal
 system_time_refusal n = if le_z (pos 0) n then None else Some (range (codes "timestamp") false)
 
--- the time of the system's clock at that instant, or its error
+-- the time of the system's clock n nanoseconds after 1970-01-01T00:00:00Z, or the error `timestamp` if n is negative
 abbrev pub ConstructsSystemTime : ℤ → Result SystemTime ComponentRange → Type 0
 ConstructsSystemTime n r = Constructs (system_time_refusal n) (λ t. pos (system_time_nanos t) ≡ n) r

@@ -9,11 +9,11 @@ use Rattle.time_values.specs.declared.date.Date.{Date}
 use Rattle.time_values.specs.declared.time.Time.{Time}
 use Rattle.time_values.specs.declared.utc_offset.UtcOffset.{UtcOffset}
 
--- the nanoseconds of the local time that many seconds after the date and time
+-- the nanoseconds from 1970-01-01T00:00:00 to the local time `seconds` s after the date and time, all at one offset
 abbrev pub moved_clock : Date → Time → ℤ → ℤ
 moved_clock date time seconds = clock_nanos greatest_year date time +ℤ seconds *ℤ pos 1_000_000_000
 
--- the nanoseconds of the local time at the offset `to` of a date and time at the offset `from`
+-- the local time at `to` of a date and time at the offset `from`, in nanoseconds since 1970-01-01T00:00:00 at `to`
 abbrev pub other_clock : Date → Time → UtcOffset → UtcOffset → ℤ
 other_clock date time from to = moved_clock date time (offset_seconds to -ℤ offset_seconds from)
 

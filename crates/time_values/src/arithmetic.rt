@@ -13,7 +13,7 @@ use crate::{Date, Duration, OffsetDateTime, PlainDateTime, Time, UtcDateTime, Ut
 use std::ops::Sub;
 
 impl Date {
-    /// The next day, or `None` for `Date::MAX`.
+    /// The next day, or `None` for `Date::MAX`, 999999-12-31.
     #[tactic(auto, using(crate::proofs::InstantLemmas::instant_facts))]
     pub fn next_day(self) -> Option<Date>
         ensures value { IfSome result (λ d. Dates.day_number greatest_year d ≡ Dates.day_number greatest_year self + 1) }
@@ -26,7 +26,7 @@ impl Date {
         Some(Date::from_day_number(day))
     }
 
-    /// The day before, or `None` for `Date::MIN`.
+    /// The day before, or `None` for `Date::MIN`, -999999-01-01.
     #[tactic(auto, using(crate::proofs::InstantLemmas::instant_facts))]
     pub fn previous_day(self) -> Option<Date>
         ensures value { IfSome result (λ d. Dates.day_number greatest_year d + 1 ≡ Dates.day_number greatest_year self) }
@@ -40,7 +40,7 @@ impl Date {
     }
 }
 
-// The date and time at an instant, or `None` if its date is out of range.
+// The date and time in UTC `nanos` nanoseconds after 1970-01-01T00:00:00Z, or `None` outside the years ±999999.
 fn checked(nanos: i128) -> Option<UtcDateTime>
     ensures value { IfSome result (λ u. utc_instant greatest_year u ≡ nanos) }
     ensures none { IfNone result (¬ (IsInstant greatest_year nanos)) }
@@ -51,7 +51,7 @@ fn checked(nanos: i128) -> Option<UtcDateTime>
     Some(UtcDateTime::at_instant(nanos))
 }
 
-// The date and time at the nearest instant in the range of dates.
+// The date and time in UTC `nanos` nanoseconds after 1970-01-01T00:00:00Z, or the nearest in the years ±999999.
 #[tactic(auto, using(crate::proofs::InstantLemmas::instant_facts))]
 fn nearest(nanos: i128) -> UtcDateTime
     ensures { utc_instant greatest_year result ≡ nearest_instant greatest_year nanos }
@@ -66,21 +66,21 @@ fn nearest(nanos: i128) -> UtcDateTime
 }
 
 impl UtcDateTime {
-    // The nanoseconds since 1970-01-01T00:00:00Z of the moment that much later.
+    // The nanoseconds from 1970-01-01T00:00:00Z to the moment `duration` later, which may be out of range.
     fn nanos_after(self, duration: Duration) -> i128
         ensures { result ≡ utc_instant greatest_year self +ℤ length duration }
     {
         self.unix_timestamp_nanos() + duration.whole_nanoseconds()
     }
 
-    // The nanoseconds since 1970-01-01T00:00:00Z of the moment that much earlier.
+    // The nanoseconds from 1970-01-01T00:00:00Z to the moment `duration` earlier, which may be out of range.
     fn nanos_before(self, duration: Duration) -> i128
         ensures { result ≡ utc_instant greatest_year self -ℤ length duration }
     {
         self.unix_timestamp_nanos() - duration.whole_nanoseconds()
     }
 
-    /// The moment that much later, or `None` if its date in UTC is out of range.
+    /// The moment `duration` later (earlier if negative), or `None` if its year in UTC is outside -999999 to 999999.
     pub fn checked_add(self, duration: Duration) -> Option<UtcDateTime>
         ensures value { IfSome result (λ u.
             utc_instant greatest_year u ≡ utc_instant greatest_year self +ℤ length duration) }
@@ -90,7 +90,7 @@ impl UtcDateTime {
         checked(self.nanos_after(duration))
     }
 
-    /// The moment that much earlier, or `None` if its date in UTC is out of range.
+    /// The moment `duration` earlier (later if negative), or `None` if its year in UTC is outside -999999 to 999999.
     pub fn checked_sub(self, duration: Duration) -> Option<UtcDateTime>
         ensures value { IfSome result (λ u.
             utc_instant greatest_year u ≡ utc_instant greatest_year self -ℤ length duration) }
@@ -100,7 +100,7 @@ impl UtcDateTime {
         checked(self.nanos_before(duration))
     }
 
-    /// The moment that much later, or the nearest one in the range of dates in UTC.
+    /// The moment `duration` later (earlier if negative), or the nearest one in the years -999999 to 999999 in UTC.
     pub fn saturating_add(self, duration: Duration) -> UtcDateTime
         ensures { utc_instant greatest_year result
             ≡ nearest_instant greatest_year (utc_instant greatest_year self +ℤ length duration) }
@@ -108,7 +108,7 @@ impl UtcDateTime {
         nearest(self.nanos_after(duration))
     }
 
-    /// The moment that much earlier, or the nearest one in the range of dates in UTC.
+    /// The moment `duration` earlier (later if negative), or the nearest one in the years -999999 to 999999 in UTC.
     pub fn saturating_sub(self, duration: Duration) -> UtcDateTime
         ensures { utc_instant greatest_year result
             ≡ nearest_instant greatest_year (utc_instant greatest_year self -ℤ length duration) }
@@ -118,7 +118,7 @@ impl UtcDateTime {
 }
 
 impl PlainDateTime {
-    /// The date and time that much later, or `None` if its date is out of range.
+    /// The date and time `duration` later (earlier if negative), or `None` if the year is outside -999999 to 999999.
     pub fn checked_add(self, duration: Duration) -> Option<PlainDateTime>
         ensures value { IfSome result (λ p.
             plain_instant greatest_year p ≡ plain_instant greatest_year self +ℤ length duration) }
@@ -129,7 +129,7 @@ impl PlainDateTime {
         Some(PlainDateTime::new(clock.date(), clock.time()))
     }
 
-    /// The date and time that much earlier, or `None` if its date is out of range.
+    /// The date and time `duration` earlier (later if negative), or `None` if the year is outside -999999 to 999999.
     pub fn checked_sub(self, duration: Duration) -> Option<PlainDateTime>
         ensures value { IfSome result (λ p.
             plain_instant greatest_year p ≡ plain_instant greatest_year self -ℤ length duration) }
@@ -140,7 +140,7 @@ impl PlainDateTime {
         Some(PlainDateTime::new(clock.date(), clock.time()))
     }
 
-    /// The date and time that much later, or the nearest one in the range of dates.
+    /// The date and time `duration` later (earlier if negative), or the nearest one in the years -999999 to 999999.
     pub fn saturating_add(self, duration: Duration) -> PlainDateTime
         ensures { plain_instant greatest_year result
             ≡ nearest_instant greatest_year (plain_instant greatest_year self +ℤ length duration) }
@@ -149,7 +149,7 @@ impl PlainDateTime {
         PlainDateTime::new(clock.date(), clock.time())
     }
 
-    /// The date and time that much earlier, or the nearest one in the range of dates.
+    /// The date and time `duration` earlier (later if negative), or the nearest one in the years -999999 to 999999.
     pub fn saturating_sub(self, duration: Duration) -> PlainDateTime
         ensures { plain_instant greatest_year result
             ≡ nearest_instant greatest_year (plain_instant greatest_year self -ℤ length duration) }
@@ -160,7 +160,7 @@ impl PlainDateTime {
 }
 
 impl OffsetDateTime {
-    /// The moment that much later at this offset, or `None` if its date at the offset is out of range.
+    /// The moment `duration` later (earlier if negative) at this offset. `None` if its local year is outside ±999999.
     pub fn checked_add(self, duration: Duration) -> Option<OffsetDateTime>
         ensures value { IfSome result (λ v.
             offset_clock greatest_year v ≡ offset_clock greatest_year self +ℤ length duration) }
@@ -172,7 +172,7 @@ impl OffsetDateTime {
         Some(OffsetDateTime::new_in_offset(clock.date(), clock.time(), self.offset()))
     }
 
-    /// The moment that much earlier at this offset, or `None` if its date at the offset is out of range.
+    /// The moment `duration` earlier (later if negative) at this offset. `None` if its local year is outside ±999999.
     pub fn checked_sub(self, duration: Duration) -> Option<OffsetDateTime>
         ensures value { IfSome result (λ v.
             offset_clock greatest_year v ≡ offset_clock greatest_year self -ℤ length duration) }
@@ -184,7 +184,7 @@ impl OffsetDateTime {
         Some(OffsetDateTime::new_in_offset(clock.date(), clock.time(), self.offset()))
     }
 
-    /// The moment that much later at this offset, or the nearest one whose date at the offset is in range.
+    /// The moment `duration` later (earlier if negative) at this offset, or the nearest one in the local years ±999999.
     pub fn saturating_add(self, duration: Duration) -> OffsetDateTime
         ensures value { offset_clock greatest_year result
             ≡ nearest_instant greatest_year (offset_clock greatest_year self +ℤ length duration) }
@@ -194,7 +194,7 @@ impl OffsetDateTime {
         OffsetDateTime::new_in_offset(clock.date(), clock.time(), self.offset())
     }
 
-    /// The moment that much earlier at this offset, or the nearest one whose date at the offset is in range.
+    /// The moment `duration` earlier (later if negative) at this offset, or the nearest one in the local years ±999999.
     pub fn saturating_sub(self, duration: Duration) -> OffsetDateTime
         ensures value { offset_clock greatest_year result
             ≡ nearest_instant greatest_year (offset_clock greatest_year self -ℤ length duration) }
@@ -238,7 +238,7 @@ impl Sub<OffsetDateTime> for OffsetDateTime {
     }
 }
 
-// Converts a date and time at the offset `from` to the offset `to`. `None` if the date at `to` is out of range.
+// Converts a local date and time from offset `from` to `to`, as a `UtcDateTime`. `None` outside the years ±999999.
 pub(crate) fn clock_with(
     date: Date,
     time: Time,
@@ -251,8 +251,8 @@ pub(crate) fn clock_with(
     moved(date, time, to.whole_seconds() - from.whole_seconds())
 }
 
-// The date and time that many seconds later, or earlier if `seconds` is below 0, by less than three days. `None` if
-// that date is out of range.
+// The date and time `seconds` later, or earlier if negative, or `None` if its year is outside -999999 to 999999.
+// `seconds` must be less than three days: -259199 to 259199.
 #[tactic(auto, using(crate::proofs::InstantLemmas::instant_facts))]
 fn moved(date: Date, time: Time, seconds: i32) -> Option<UtcDateTime>
     requires { IsBetween (neg_ℤ (pos 259_199)) (pos 259_199) seconds }

@@ -43,8 +43,8 @@ impl Date {
         aligned: Aligned::TO_WORDS,
     };
 
-    /// The date with this year, month and day of the month, from 1. An error names `year` outside -999999 to 999999,
-    /// and else `day`, as conditional, if the month has no such day.
+    /// The date with this year, month and day of the month, from 1. An error names `year` outside -999999 to 999999, or
+    /// else `day` (conditional: its range depends on the year and month) if the month has no such day in that year.
     #[inline(always)]
     pub fn from_calendar_date(year: i32, month: Month, day: u8) -> Result<Date, ComponentRange>
         ensures { Constructs (calendar_date_refusal greatest_year year (month_number month) day)
@@ -71,8 +71,8 @@ impl Date {
         })
     }
 
-    /// The date of that year and day of the year, from 1. An error names `year` outside -999999 to 999999, and else, as
-    /// conditional, `ordinal` if the year has no such day.
+    /// The date of that year and day of the year, from 1. An error names `year` outside -999999 to 999999, or else
+    /// `ordinal` (conditional: its range depends on the year) if the year has no such day.
     pub fn from_ordinal_date(year: i32, ordinal: u16) -> Result<Date, ComponentRange>
         ensures { Constructs (ordinal_date_refusal greatest_year year ordinal)
             (λ d. (Dates.year d ≡ year) × (Dates.ordinal d ≡ ordinal)) result }
@@ -92,7 +92,7 @@ impl Date {
         Ok(Date::at_ordinal(year, ordinal))
     }
 
-    // The date of a day of the year, which the year must have.
+    // The date of day `ordinal` of the year, from 1. The year must be -999999 to 999999 and have that day.
     fn at_ordinal(year: i32, ordinal: u16) -> Date
         requires year_in { Calendar.IsYear greatest_year year }
         requires ordinal_in { IsInRange 1 (Calendar.year_length year) ordinal }
@@ -150,7 +150,7 @@ impl Date {
         Date::at_ordinal(year, place)
     }
 
-    // The number of days since the first date.
+    // The number of days since the first date, -999999-01-01.
     pub(crate) fn day_number(self) -> u32
         ensures value { result ≡ Dates.day_number greatest_year self }
         ensures bound { result < 2_000_000_000 }
@@ -169,8 +169,8 @@ impl Date {
     }
 
     // The days since 1970-01-01. Years that begin in March end with their leap day, so no leap year is tested. With 100
-    // years added, three quarters of the centuries, rounded down, end without a leap day. `self` is a reference, since
-    // LLVM moves a date as one word and then extracts its parts.
+    // years added, three quarters of the full centuries, rounded down, end without a leap day. `self` is a reference:
+    // LLVM would move a copy of the date as one word and then extract its parts.
     #[inline(always)]
     pub(crate) fn days_since_1970(&self) -> i64
         ensures value { result ≡ pos (Dates.day_number greatest_year self.now) -ℤ pos 365_961_662 }
@@ -223,7 +223,7 @@ impl Date {
         (year, ((place + 6) / 7) as u8, weekday)
     }
 
-    /// The week by ISO 8601, 1 to 53.
+    /// The week number by ISO 8601, 1 to 53, in the year of the week's Thursday.
     pub fn iso_week(self) -> u8
         ensures { (year : ℤ) × Calendar.IsIsoWeek greatest_year
             (Dates.day_number greatest_year self) year result }
@@ -232,9 +232,9 @@ impl Date {
         week
     }
 
-    /// The date of that year, week and weekday by ISO 8601. An error names `year` outside -999999 to 999999, and else,
-    /// as conditional, `week` if the year has no such week, and else, as conditional, `weekday` if the day is after
-    /// `Date::MAX`.
+    /// The date of that year, week and weekday by ISO 8601. An error names `year` outside -999999 to 999999, or else
+    /// `week` (conditional: its range depends on the year) if the year has no such week, or else `weekday` (conditional
+    /// too) if the day is after `Date::MAX`, 999999-12-31.
     pub fn from_iso_week_date(year: i32, week: u8, weekday: Weekday) -> Result<Date, ComponentRange>
         ensures { ConstructsIsoDate greatest_year year week (days_from_monday weekday) result }
     {
@@ -267,7 +267,7 @@ impl Date {
     }
 }
 
-// As a derived `Debug` would print it, without the aligning field.
+// Prints what a derived `Debug` would, without the field `aligned`, which has no bytes and only sets the alignment.
 impl fmt::Debug for Date {
     fn fmt<W: fmt::Write>(&self, f: &mut fmt::Formatter<W>) -> fmt::Result {
         f.debug_struct("Date")
@@ -288,7 +288,7 @@ fn days_before_month(year: i32, month: u16) -> u16
     if month <= 2 {
         31 * (month - 1)
     } else {
-        // From March on, each five months have 153 days.
+        // From March on, any five months in a row have 153 days.
         (153 * month - 457) / 5 + 59 + leap_day(year)
     }
 }

@@ -63,8 +63,8 @@ pub fn year_start(year: i32) -> u32
     365 * years + years / 4 - years / 100 + years / 400
 }
 
-/// The year and the day of the year, from 1, of the day `shifted - 8` days after 1 January of `year`. Returns `None` if
-/// that day is after `Date::MAX`.
+/// The year and the day of the year, from 1, of the day `shifted - 8` days after 1 January of `year`, or before it if
+/// that is negative. `None` after `Date::MAX`. `shifted` must be 1 to 500, and the day not before `Date::MIN`.
 pub fn at_place(year: i32, shifted: u16) -> Option<(i32, u16)>
     requires year_in { Calendar.IsYear greatest_year year }
     requires low { 7 < Calendar.year_start greatest_year year + shifted }
@@ -101,7 +101,7 @@ pub fn first_thursday(year: i32) -> u16
     ((10 - from_monday) % 7 + 1) as u16
 }
 
-/// The year of a day number, and the day of the year, from 1.
+/// The year and the day of the year, from 1, of the date that is `day` days after -999999-01-01.
 pub fn year_and_place(day: u32) -> (i32, u16)
     requires { day < Calendar.day_limit greatest_year }
     ensures value { Calendar.year_start greatest_year result.0 + result.1 ≡ day + 1 }
@@ -112,7 +112,7 @@ pub fn year_and_place(day: u32) -> (i32, u16)
     (years as i32 - MAX_YEAR, rest as u16 + 1)
 }
 
-// The number of years before the year of a day number, from -999999 on, and the days since 1 January of its year.
+// The whole years from -999999-01-01 to the date `day` days later, and the days since 1 January of that date's year.
 fn split_years(day: u32) -> (u32, u32)
     requires { day < 1_000_000_000 }
     ensures value { 365 * result.0 + result.0 / 4 - result.0 / 100 + result.0 / 400 + result.1 ≡ day }

@@ -4,7 +4,7 @@ ghost use Rattle.time_values.specs.DisplayTexts.{fixed, significant, fraction_di
 
 use crate::text::Text;
 
-// The two digits of each number below 100, as one number whose low byte is the first digit.
+// The two ASCII digits of each number below 100, as one `u16` whose low byte is the first digit.
 static PAIRS: [u16; 100] = [
     0x3030, 0x3130, 0x3230, 0x3330, 0x3430, 0x3530, 0x3630, 0x3730, 0x3830, 0x3930, 0x3031, 0x3131,
     0x3231, 0x3331, 0x3431, 0x3531, 0x3631, 0x3731, 0x3831, 0x3931, 0x3032, 0x3132, 0x3232, 0x3332,
@@ -30,8 +30,8 @@ pub fn pair(n: u8) -> [u8; 2]
     [(digits % 256) as u8, (digits / 256) as u8]
 }
 
-// The hundreds of a number below 10000, by a multiplication. For a division LLVM would convert to 16 bits and back,
-// since it knows the limit.
+// `n / 100` for `n` below 10000, by a multiplication and a shift. For a division by 100, LLVM would convert to 16 bits
+// and back, since it knows the limit.
 #[inline(always)]
 fn hundreds(n: u32) -> u32
     requires { n < 10_000 }

@@ -24,7 +24,7 @@ fn append_year_sign(text: &mut Text, year: i32)
     }
 }
 
-// Appends the digits of a year, at least four.
+// Appends the digits of `n`, a year without its sign, with leading zeros up to four digits.
 fn append_magnitude(text: &mut Text, n: u32)
     requires n { n < 1_000_000 }
     requires room { length text.old.items ≤ 1 }
@@ -66,7 +66,7 @@ impl fmt::Display for Date {
     }
 }
 
-// Appends the hour, of one digit or two.
+// Appends the hour without a leading zero.
 fn append_hour(text: &mut Text, hour: u8)
     requires hour { hour < 24 }
     requires room { length text.old.items ≤ 0 }

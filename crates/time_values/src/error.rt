@@ -8,7 +8,7 @@ ghost use Rattle.time_values.specs.declared.error.TryFromParsed.TheVariants.{Com
 use std::convert::TryFrom;
 use std::fmt;
 
-/// A value was outside the range of its component.
+/// A component, such as `hour`, had a value outside its range.
 #[derive(Clone, Copy, Debug, PartialEq, Eq)]
 pub struct ComponentRange {
     /// The component's name.
@@ -74,8 +74,8 @@ pub enum ParseFromDescription {
 }
 
 impl ParseFromDescription {
-    /// The name of the component that could not be read, or `None` if a literal is missing or bytes are left
-    /// over.
+    /// The name of the component that could not be read or is out of its range, or `None` if a literal is missing or
+    /// bytes are left after the expected end.
     pub fn component_name(self) -> Option<&'static str>
         ensures name { IfSome result (λ name. refusal_of_description self ≡ component name.now) }
         ensures none { IfNone result ((refusal_of_description self ≡ literal) ⊎ (refusal_of_description self ≡ trailing)) }
@@ -156,7 +156,7 @@ impl TryFrom<TryFromParsed> for ComponentRange {
     }
 }
 
-/// A text was not parsed into a value.
+/// A text doesn't match the expected format, or its components don't make a value.
 #[derive(Clone, Copy, Debug, PartialEq, Eq)]
 pub enum Parse {
     /// The text was read, but its components don't make a value.
@@ -222,7 +222,7 @@ impl TryFrom<Parse> for ParseFromDescription {
     }
 }
 
-/// Any error of a constructor or of parsing.
+/// Any error of constructing dates, times, offsets or moments, or of parsing them.
 #[derive(Debug, Drop, thiserror::Error)]
 pub enum Error {
     /// A component is out of its range.

@@ -11,8 +11,8 @@ use crate::days::is_leap_year;
 use crate::error::ComponentRange;
 use std::num::NonZero;
 
-// First, for each month, what `days_from_march` returns: the days before it in a year that begins in March, less
-// 365998494. Then what `march_years` returns. Both are in one table, so that its address is loaded once.
+// From January on, first what `days_from_march` returns for each month: the days from 1 March to the month's first
+// day, less 365998494. Then what `march_years` returns. Both are in one table, so that its address is loaded once.
 static MARCH: [i64; 24] = [
     -365_998_188,
     -365_998_157,
@@ -105,7 +105,7 @@ impl Month {
         self as u8
     }
 
-    // The days from the first of March to the first of this month, in a year that begins in March, less 365998494.
+    // The days from a 1 March to the next first of this month (0 for March), less 365998494.
     #[inline(always)]
     #[tactic(auto, using(crate::proofs::NumberLemmas::march_days_at, crate::proofs::NumberLemmas::march_days_in))]
     pub(crate) fn days_from_march(self) -> i64

@@ -5,7 +5,7 @@ ghost use Rattle.time_values.specs.Names as spec;
 use crate::{Month, Weekday};
 use std::fmt;
 
-/// The English name of the month.
+/// The English name of the month, such as `January`.
 pub fn month_name(month: Month) -> &'static str
     ensures name { result.now ≡ spec.month_name month }
     ensures least { 3 ≤ length result.now }
@@ -27,7 +27,7 @@ pub fn month_name(month: Month) -> &'static str
     }
 }
 
-/// The English name of the weekday.
+/// The English name of the weekday, such as `Monday`.
 pub fn weekday_name(weekday: Weekday) -> &'static str
     ensures name { result.now ≡ spec.weekday_name weekday }
     ensures least { 3 ≤ length result.now }

@@ -99,7 +99,7 @@ impl OffsetDateTime {
         ensures value { IfSome result (λ u. utc_instant greatest_year u ≡ offset_instant greatest_year self) }
         ensures none { IfNone result (¬ (Instants.IsInstant greatest_year (offset_instant greatest_year self))) }
     {
-        // An offset moves a time by less than two days.
+        // An offset moves a time by less than two days. With two days (172800 seconds) added, `seconds` isn't negative.
         let seconds = self.time.seconds_of_day() as i32 - self.offset.whole_seconds() + 172_800;
         let days = seconds as u32 / 86_400;
         let time = self.time.at_second_of_day(seconds as u32 % 86_400);
@@ -146,7 +146,7 @@ impl OffsetDateTime {
         })
     }
 
-    /// The moment at another offset, at which its date must be in range. If this isn't known, call
+    /// The moment at another offset, at which its year must be -999999 to 999999. If this isn't known, call
     /// [`checked_to_offset`](OffsetDateTime::checked_to_offset).
     pub fn to_offset(self, offset: UtcOffset) -> OffsetDateTime
         requires { Instants.IsInstant greatest_year (local_time_at (offset_instant greatest_year self) offset) }
@@ -159,7 +159,7 @@ impl OffsetDateTime {
         }
     }
 
-    /// The moment in UTC, at which its date must be in range. If this isn't known, call
+    /// The moment in UTC, in which its year must be -999999 to 999999. If this isn't known, call
     /// [`checked_to_utc`](OffsetDateTime::checked_to_utc).
     pub fn to_utc(self) -> UtcDateTime
         requires { Instants.IsInstant greatest_year (offset_instant greatest_year self) }

@@ -135,7 +135,7 @@ impl OffsetDateTime {
             .cmp(&other.unix_timestamp_nanos())
     }
 
-    /// Whether both are one instant, whatever their offsets.
+    /// Whether the instants of two moments are equal, whatever their offsets.
     pub fn is_same_instant(self, other: OffsetDateTime) -> bool
         ensures { IsTrue result ↔ (offset_instant greatest_year self ≡ offset_instant greatest_year other) }
     {

@@ -88,7 +88,7 @@ impl Time {
 impl Timestamp {
     // The seconds since 1970-01-01T00:00:00Z, rounded down, and the nanoseconds after that second.
     //
-    // The nanoseconds since the first moment have 76 bits. As two digits of 32 bits they need no division of 128 bits.
+    // The nanoseconds since -999999-01-01T00:00:00Z have up to 76 bits. Split at bit 32, they need no 128-bit division.
     #[inline]
     #[tactic(auto, using(crate::proofs::InstantLemmas::instant_facts))]
     fn seconds_and_nanosecond(self) -> (i64, u32)

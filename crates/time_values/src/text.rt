@@ -5,7 +5,7 @@ ghost use Rattle.time_values.specs.DisplayTexts.{Items};
 use std::marker::Model;
 use std::{fmt, str};
 
-/// A text of at most 35 bytes, which is the length of the longest one written.
+/// A text of at most 35 bytes, the length of an RFC 3339 date-time with nine fraction digits and a numeric offset.
 #[derive(Drop)]
 pub struct Text {
     array: [u8; 35],
@@ -32,7 +32,7 @@ impl Text {
         }
     }
 
-    /// The appended bytes.
+    /// All bytes of the text, in order.
     #[inline]
     pub fn as_bytes(&self) -> &[u8]
         ensures { result.now ≡ self.now.items }
@@ -48,7 +48,7 @@ impl Text {
         self.len = 0;
     }
 
-    /// Appends bytes. The text must then have at most 35 bytes.
+    /// Appends the bytes. The text must have at most 35 bytes afterwards.
     #[inline(always)]
     pub fn append(&mut self, bytes: &[u8])
         requires { length self.old.items + length bytes.now ≤ 35 }
@@ -59,7 +59,7 @@ impl Text {
         self.len = end;
     }
 
-    /// Appends the first `count` of the ten bytes. The text must have at most 25 bytes before, and `count` at most 10.
+    /// Appends the first `count` of the ten bytes, at most 10. The text must have at most 25 bytes before.
     #[inline(always)]
     pub fn append_some(&mut self, bytes: [u8; 10], count: usize)
         requires room { length self.old.items ≤ 25 }

@@ -85,7 +85,7 @@ impl Time {
         self.second
     }
 
-    /// The nanosecond, 0 to 999999999.
+    /// The nanosecond of the second, 0 to 999999999.
     #[inline]
     pub fn nanosecond(self) -> u32
         ensures { result ≡ Times.nanosecond self }
@@ -102,7 +102,7 @@ impl Time {
         Time::from_hms_nano(self.hour, self.minute, self.second, nanosecond)
     }
 
-    // The time at that second after midnight, with this one's nanosecond.
+    // The time `second` seconds after midnight, with the nanosecond of the second of `self`.
     #[inline]
     pub(crate) fn at_second_of_day(self, second: u32) -> Time
         requires { second < 86_400 }
@@ -117,7 +117,7 @@ impl Time {
         }
     }
 
-    // The time that many nanoseconds after midnight.
+    // The time `nanos` nanoseconds after midnight.
     pub(crate) fn from_nanos_of_day(nanos: u64) -> Time
         requires { nanos < 86_400_000_000_000 }
         ensures { nanos_of_day result ≡ nanos }
@@ -141,8 +141,8 @@ impl Time {
         self.hour as u32 * 3600 + self.minute as u32 * 60 + self.second as u32
     }
 
-    // The seconds from midnight UTC of the local date to this local time at that offset, negative before midnight.
-    // Computed part by part, so that the hours of both are multiplied once.
+    // The whole seconds from 00:00 UTC of the local date to this local time at `offset`, negative if that is earlier.
+    // Each part of the offset is subtracted first, so that the difference of the hours is multiplied once.
     #[inline(always)]
     pub(crate) fn seconds_in_utc(&self, offset: &UtcOffset) -> i64
         ensures value { result ≡ pos (Times.hour self.now * 3600 + Times.minute self.now * 60 + Times.second self.now)
@@ -176,7 +176,7 @@ impl Time {
     }
 }
 
-// As a derived `Debug` would print it, without the aligning field.
+// Prints what a derived `Debug` would, without the field `aligned`, which has no bytes and only sets the alignment.
 impl fmt::Debug for Time {
     fn fmt<W: fmt::Write>(&self, f: &mut fmt::Formatter<W>) -> fmt::Result {
         f.debug_struct("Time")
@@ -188,7 +188,7 @@ impl fmt::Debug for Time {
     }
 }
 
-// The seconds of hours, minutes and seconds of any signs.
+// The total seconds of these hours, minutes and seconds, each of either sign.
 #[inline(always)]
 fn seconds_of(hours: i64, minutes: i64, seconds: i64) -> i64
     requires hours { IsBetween (neg_ℤ (pos 25)) (pos 48) hours }

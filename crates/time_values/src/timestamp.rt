@@ -6,7 +6,7 @@ use crate::UtcDateTime;
 use crate::error::ComponentRange;
 use crate::utc_date_time::is_instant;
 
-/// A moment, as nanoseconds since 1970-01-01T00:00:00Z, that has a date and time in UTC.
+/// A moment in the years -999999 to 999999 in UTC, stored as nanoseconds since 1970-01-01T00:00:00Z.
 #[derive(Clone, Copy, Debug, PartialEq, Eq, Hash)]
 pub struct Timestamp {
     nanoseconds: i128,

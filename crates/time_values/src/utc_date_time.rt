@@ -50,7 +50,7 @@ impl UtcDateTime {
         Ok(UtcDateTime::at_instant(nanos))
     }
 
-    // The date and time at an instant, which must have them.
+    // The date and time in UTC `nanos` nanoseconds after 1970-01-01T00:00:00Z. The year must be -999999 to 999999.
     #[tactic(auto, using(crate::proofs::InstantLemmas::instant_facts))]
     pub(crate) fn at_instant(nanos: i128) -> UtcDateTime
         requires { Instants.IsInstant greatest_year nanos }
@@ -65,7 +65,7 @@ impl UtcDateTime {
         }
     }
 
-    /// The date.
+    /// The date in UTC.
     #[inline]
     pub fn date(self) -> Date
         ensures { result ≡ utc_date self }
@@ -73,7 +73,7 @@ impl UtcDateTime {
         self.date
     }
 
-    /// The time of day.
+    /// The time of day in UTC.
     #[inline]
     pub fn time(self) -> Time
         ensures { result ≡ utc_time self }
@@ -118,7 +118,7 @@ impl UtcDateTime {
         OffsetDateTime::from(self).checked_to_offset(offset)
     }
 
-    /// The moment at another offset, at which its date must be in range. If this isn't known, call
+    /// The moment at another offset, at which its year must be -999999 to 999999. If this isn't known, call
     /// [`checked_to_offset`](UtcDateTime::checked_to_offset).
     pub fn to_offset(self, offset: UtcOffset) -> OffsetDateTime
         requires { Instants.IsInstant greatest_year (local_time_at (utc_instant greatest_year self) offset) }
@@ -149,7 +149,7 @@ impl UtcDateTime {
     }
 }
 
-/// Whether the moment of these nanoseconds since 1970-01-01T00:00:00Z has a date and time in UTC.
+/// Whether the moment `nanos` nanoseconds after 1970-01-01T00:00:00Z is in the years -999999 to 999999 in UTC.
 #[inline]
 #[tactic(auto, using(crate::proofs::InstantLemmas::instant_facts))]
 pub fn is_instant(nanos: i128) -> bool

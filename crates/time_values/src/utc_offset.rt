@@ -80,7 +80,7 @@ impl UtcOffset {
         (self.hours as i64, self.minutes as i64, self.seconds as i64)
     }
 
-    /// The offset of that many seconds, whose parts have one sign. An error names `seconds` outside -93599 to 93599.
+    /// The offset `seconds` seconds ahead of UTC, or behind if negative. An error names `seconds` outside ±93599.
     pub fn from_whole_seconds(seconds: i32) -> Result<UtcOffset, ComponentRange>
         ensures { Constructs (whole_offset_refusal seconds)
             (λ o. offset_seconds o ≡ seconds) result }
@@ -94,7 +94,7 @@ impl UtcOffset {
         Ok(UtcOffset::at_seconds(seconds))
     }
 
-    // The offset of that many seconds.
+    // The offset `seconds` seconds ahead of UTC, or behind it if negative.
     fn at_seconds(seconds: i32) -> UtcOffset
         requires { IsBetween (neg_ℤ (pos 93_599)) (pos 93_599) seconds }
         ensures { offset_seconds result ≡ seconds }
@@ -134,7 +134,7 @@ impl UtcOffset {
     }
 }
 
-// x with the sign of the first number, or x itself if that number is 0.
+// x with the sign of `sign`, or x itself if `sign` is 0.
 #[inline(always)]
 fn same_sign(sign: i8, x: i8) -> i8
     requires { IsBetween (neg_ℤ (pos 59)) (pos 59) x }

@@ -117,7 +117,7 @@ tree_at trees (step.Component c) steps = component false c
 tree_at trees (step.Group g len) steps = group_tree g (trees (take len steps))
 
 -- how many of the steps behind a step belong to it: the leading `More` steps for a literal, none for a component, and
--- for a group as many as it counts, or all steps behind it if those are fewer
+-- for a group the number stored in it, or all steps behind it if there are fewer
 abbrev pub item_length : Step → List Step → ℕ
 item_length (step.Literal b) behind = length (further behind)
 item_length (step.More b) behind = length (further behind)

@@ -19,7 +19,7 @@ use time_values::{Month, Weekday};
 
 // Parsers that try the fast path in `fast` before the plain parser in `numbers`.
 
-// Parses a year: four digits, or a sign and four to `MOST` digits, both with the padding. It is negative after `-`.
+// Parses a year: a sign and four to `MOST` digits, or four if the sign is optional, with padding; negative after `-`.
 #[inline(always)]
 fn full_year<const MOST: u8>(
     input: &[u8],
@@ -36,7 +36,7 @@ fn full_year<const MOST: u8>(
     }
 }
 
-// Parses an offset's hours, two digits with the padding after any sign, negative after `-`. The bool is true for `-`.
+// Parses an offset's hours: an optional or mandatory sign, and two digits with the padding. The bool is true for `-`.
 #[inline(always)]
 fn offset_hour(
     input: &[u8],
@@ -269,7 +269,7 @@ pub fn parse_month_long(
 }
 
 /// Parses the number of a month, 1 to 12: two ASCII digits; `Padding::Space` also allows a space and a digit, and
-/// `Padding::None` one digit. Returns `None` if the input doesn't begin with such a number.
+/// `Padding::None` one digit. Returns `None` if the input doesn't begin with such a number, as for `00` or `13`.
 #[inline]
 pub fn parse_month_numerical(
     input: &[u8],
@@ -355,7 +355,7 @@ pub fn parse_weekday_long(
     Some(ParsedItem(ending.0, short.1))
 }
 
-/// Parses the number of a weekday, counted from Sunday: one digit, `0` to `6`, or `1` to `7` if it is one-indexed.
+/// Parses the number of a weekday, counted from Sunday: one digit, `0` to `6`, or `1` to `7` with `one_indexed`.
 /// Returns `None` if the input doesn't begin with such a digit.
 #[inline]
 pub fn parse_weekday_sunday(
@@ -369,7 +369,7 @@ pub fn parse_weekday_sunday(
     Some(ParsedItem(digit.0, Weekday::from_days_from_monday((digit.1 + 6) % 7)))
 }
 
-/// Parses the number of a weekday, counted from Monday: one digit, `0` to `6`, or `1` to `7` if it is one-indexed.
+/// Parses the number of a weekday, counted from Monday: one digit, `0` to `6`, or `1` to `7` with `one_indexed`.
 /// Returns `None` if the input doesn't begin with such a digit.
 #[inline]
 pub fn parse_weekday_monday(
@@ -451,8 +451,8 @@ pub fn parse_second(input: &[u8], modifiers: modifier::Second) -> Option<ParsedI
     two_places(input, padding)
 }
 
-/// Parses the half of the day. If the case matters, the text is `AM` or `PM` with `is_uppercase`, and `am` or `pm`
-/// without; otherwise it is `AM` or `PM` in any ASCII case. Returns `None` if the input doesn't begin with such a text.
+/// Parses the half of the day. With `case_sensitive`, the text is `AM` or `PM` if `is_uppercase`, and else `am` or
+/// `pm`; without it, either in any ASCII case. Returns `None` if the input doesn't begin with such a text.
 #[inline]
 pub fn parse_period(input: &[u8], modifiers: modifier::Period) -> Option<ParsedItem<'_, Period>>
     ensures { Finds (Spells false (component.Period modifiers)) period input.now result }
@@ -527,7 +527,7 @@ pub fn parse_offset_second(
     offset_part(input, padding)
 }
 
-/// Skips the given number of bytes, even if that ends inside a character. Returns `None` if the input has fewer.
+/// Skips `count` bytes of the input, even if they end inside a UTF-8 character. Returns `None` if the input has fewer.
 #[inline]
 pub fn parse_ignore(input: &[u8], modifiers: modifier::Ignore) -> Option<ParsedItem<'_, ()>>
     ensures { Finds (Spells false (component.Ignore modifiers)) (λ unit. nothing) input.now result }

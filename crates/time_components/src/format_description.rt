@@ -81,7 +81,7 @@ pub enum Component {
     End(modifier::End),
 }
 
-/// Half of the day.
+/// Half of the day: before noon, or from noon on.
 #[derive(Clone, Copy, Debug, PartialEq, Eq)]
 pub enum Period {
     /// Before noon.
@@ -90,7 +90,7 @@ pub enum Period {
     Pm,
 }
 
-/// An item of a description, with borrowed parts. Its `Ignore` may end inside a UTF-8 character.
+/// An item of a format description, with borrowed parts. Bytes skipped by `Ignore` may end inside a UTF-8 character.
 #[derive(Clone, Copy)]
 pub enum BorrowedFormatItem<'a> {
     /// Literal bytes.
@@ -128,7 +128,7 @@ macro_rules! item {
     };
 }
 
-/// An item of a description, with owned parts. Its `Ignore` may end inside a UTF-8 character.
+/// An item of a format description, with owned parts. Bytes skipped by `Ignore` may end inside a UTF-8 character.
 #[derive(Debug, Drop)]
 pub enum OwnedFormatItem {
     /// Literal bytes.
@@ -145,15 +145,15 @@ pub enum OwnedFormatItem {
     First(Vec<Self>),
 }
 
-/// A format description of version 3. Its `Ignore` matches only bytes that end between UTF-8 characters: the byte after
-/// them, if there is one, is no continuation byte, 0x80 to 0xBF.
+/// A format description of version 3, in the numbering of the crate `time`. The bytes that its component `Ignore` skips
+/// must end between UTF-8 characters: the byte after them, if there is one, is no continuation byte, 0x80 to 0xBF.
 #[derive(Drop)]
 pub struct FormatDescriptionV3<'a> {
     /// The item that it consists of, such as a sequence of items.
     pub inner: FormatDescriptionV3Inner<'a>,
 }
 
-/// An item of a description of version 3, with borrowed or owned parts.
+/// An item of a format description of version 3, with borrowed or owned parts.
 #[derive(Drop)]
 pub enum FormatDescriptionV3Inner<'a> {
     /// A part of a date, a time or an offset.

@@ -5,7 +5,7 @@ ghost use Rattle.time_components.specs.Tree.{borrowed_shape, further, owned_shap
 
 use crate::{BorrowedFormatItem, Component, FormatDescriptionV3Inner, OwnedFormatItem};
 
-/// An item of a description by its kind, with its bytes, its component, or the items in it, which have the type `I`.
+/// A view of an item of a format description: a literal's bytes, a component, or the items in it, of the type `I`.
 #[derive_where(Clone, Copy)]
 pub enum Node<'a, I> {
     /// Literal bytes, or the bytes of a literal text.
@@ -22,7 +22,7 @@ pub enum Node<'a, I> {
     First(&'a [I]),
 }
 
-/// An item that can be viewed as a [`Node`].
+/// An item of a format description, of whatever type, that can be viewed as a [`Node`].
 pub trait Inspect {
     /// The tree of the item.
     ghost shape: { Self → Tree };
@@ -83,7 +83,7 @@ impl Inspect for FormatDescriptionV3Inner<'_> {
     }
 }
 
-/// How the items of a group combine.
+/// How the items of a group combine: all in sequence, all in sequence or none, or the first of them that matches.
 #[derive(Clone, Copy, Debug, PartialEq, Eq)]
 pub enum Group {
     /// All of them in sequence, or nothing.
@@ -94,7 +94,7 @@ pub enum Group {
     List,
 }
 
-/// A step of a parsed description. An item is stored as a component, as a literal's bytes, or as a group and its items.
+/// A step of a description stored as a flat list: a component, a byte of a literal, or a group, before the items in it.
 #[derive(Clone, Copy, Debug, PartialEq, Eq)]
 pub enum Step {
     /// The first byte of a literal.
@@ -118,7 +118,7 @@ impl Default for Step {
 }
 
 /// How many steps of `behind`, the steps after `step`, belong to it: for a `Literal` or a `More`, the leading `More`
-/// steps; for a component, none; for a group, as many as it counts, or all of `behind` if those are fewer.
+/// steps; for a `Component`, none; for a `Group`, the number stored in it, or all of `behind` if there are fewer.
 #[inline(always)]
 pub fn item_len(step: &Step, behind: &[Step]) -> usize
     ensures len { result ≡ spec.item_length step.now behind.now }
@@ -131,9 +131,9 @@ pub fn item_len(step: &Step, behind: &[Step]) -> usize
     }
 }
 
-/// The steps of `behind` after those that belong to `step`, as [`item_len`] counts them.
-//
 // It doesn't split at `item_len`, since a component, the most frequent step, needs no split.
+//
+/// The steps of `behind` after those that belong to `step`, as [`item_len`] counts them.
 #[inline(always)]
 pub fn steps_after<'s>(step: &Step, behind: &'s [Step]) -> &'s [Step]
     ensures after { result.now ≡ spec.steps_after step.now behind.now }

@@ -21,8 +21,8 @@ Cut S input rest v = (text : List ℕ) × (input ≡ text ++ rest) × S text res
 abbrev pub NoCut : {V : Type 0} → Form V → List ℕ → Type 0
 NoCut {V} S input = (text rest : List ℕ) (v : V) → input ≡ text ++ rest → S text rest v → ⊥
 
--- the contract of a parser of the form S: `Some` with a rest and a value (compared by `view`) if a prefix of the input
--- parses as it, and `None` if no prefix parses
+-- the contract of a parser of the form S: `Some` with a rest and a value if a prefix of the input parses in the form S
+-- as `view` of the value, and `None` if no prefix parses in the form S
 abbrev pub Finds : {V A : Type 0} → Form V → (A → V) → List ℕ → Option (ParsedItem A) → Type 0
 Finds S view input result = MatchOption result (NoCut S input) (λ found. Cut S input found.0.now (view found.1))
 

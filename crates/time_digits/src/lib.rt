@@ -16,7 +16,7 @@ pub use shim::Integer;
 #[derive(Clone, Copy, Debug)]
 pub struct ParsedItem<'a, T>(pub &'a [u8], pub T);
 
-/// What fills a number up to its width if it has too few digits.
+/// What fills a number of too few digits up to its width, in front of the digits: spaces, zeros or nothing.
 #[derive(Clone, Copy, Debug, Default, PartialEq, Eq)]
 pub enum Padding {
     /// ASCII spaces before the digits.

@@ -2,7 +2,7 @@
 ghost use Rattle.std.specs.Prelude.{◌≡◌, ℕ, ◌+◌, ◌-◌, ◌*◌, ◌^◌, ◌<◌, ◌≤◌, MatchOption, refl};
 ghost use Rattle.std.proofs.Common.{rules};
 
-/// An unsigned integer that is built up digit by digit.
+/// An unsigned integer type that is built up digit by digit: `u8`, `u16`, `u32` or `u128`.
 pub trait Integer: Sized {
     /// The number of digits of the type's greatest number.
     const MAX_NUM_DIGITS: u8;

@@ -54,7 +54,7 @@ abbrev pub is_absolute : List ℕ → Bool
 is_absolute [] = false
 is_absolute (c ∷ rest) = c == 47
 
--- the place is the file at the text if it begins with a slash, and else the place of the text as a name
+-- the place is the file at the path `text` if it begins with a slash, and else the place of the name `text`
 abbrev pub IsPlaceOfPath : List ℕ → Option Place → Type 0
 IsPlaceOfPath text place = MatchBool (is_absolute text) (IsFileAt text place) (IsPlaceOfName text place)
 
@@ -160,7 +160,7 @@ zone_named zones name = get_by_text zones.zones name
 abbrev pub SameNamed : Zones → Zones → List ℕ → Type 0
 SameNamed old new name = zone_named new name ≡ zone_named old name
 
--- the name has that zone now, and each other name has the zone that it had
+-- in `new` the name has that zone, and each other name has the zone that it has in `old`, or none
 pub record IsInserted (old new : Zones) (name : List ℕ) (zone : NamedZone) : Type 0 where
   pub found : zone_named new name ≡ Some zone
   pub others : (other : List ℕ) → other ≢ name → SameNamed old new other
@@ -173,7 +173,7 @@ IsFoundIn Gives folder name r = (place : Option Place) × IsPlaceOfName name pla
 abbrev pub IsOfNone : Giving → List ℕ → List ℕ → Type 0
 IsOfNone Gives folder name = (fault : ZoneFault) × (fault ≢ Fault.OutOfMemory) × IsFoundIn Gives folder name (Err fault)
 
--- the name has the zone that is found; or none is found, and each name has the zone that it had
+-- in `new` the name has a zone that is found and other names are unchanged; or none is found and all are unchanged
 abbrev pub AddsFound : Giving → List ℕ → List ℕ → Zones → Zones → Type 0
 AddsFound Gives folder name old new =
     ((zone : NamedZone) × IsFoundIn Gives folder name (Ok zone) × IsInserted old new name zone)

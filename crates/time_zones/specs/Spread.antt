@@ -16,13 +16,13 @@ use Rattle.jiff_tz.specs.declared.posix.TimeZone.{TimeZone as PosixZone}
 use Rattle.jiff_tz.specs.declared.tzif.transition.Transition.{Transition}
 use Rattle.time_zones.specs.declared.spread.Spread.{Spread}
 
--- the instant at which a clock with an offset of s seconds shows the reading, in nanoseconds, is in the range of zones,
--- and the zone has the offset then
+-- the instant at which a clock with an offset of s seconds shows the local time `reading`, in nanoseconds, is in the
+-- range of zones, and the zone has the offset then
 pub record HasOffset (zone : TimeZone) (reading s : ℤ) : Type 0 where
   pub told : IsTimestampNanos (reading -ℤ nanos_of_seconds s)
   pub same : Zone.offset_at zone (reading -ℤ nanos_of_seconds s) ≡ s
 
--- the greatest and the least are offsets at which the zone shows the reading, and the least is at most the greatest
+-- the greatest and the least are offsets at which the zone shows the local time `reading`, and the least isn't greater
 pub record IsSpread (zone : TimeZone) (reading : ℤ) (w : Spread) : Type 0 where
   pub greatest : HasOffset zone reading w.greatest.seconds
   pub least : HasOffset zone reading w.least.seconds

@@ -75,7 +75,7 @@ pub data Zone : Type 0 where
   named : List ℕ → Zone
   at_offset : UtcOffset → Zone
 
--- time-zone-name / time-numoffset
+-- time-zone-name / time-numoffset: by the grammar, the text is the zone's name, or its offset
 abbrev pub IsZoneText : List ℕ → Zone → Type 0
 IsZoneText text (named name) = (text ≡ name) × IsTimeZoneName name
 IsZoneText text (at_offset o) = IsNumOffset text o
@@ -136,7 +136,7 @@ abbrev pub tags_text : List Tag → List ℕ
 tags_text [] = []
 tags_text (t ∷ ts) = tag_text t ++ tags_text ts
 
--- suffix, with that zone and these tags
+-- suffix: the text is a suffix of RFC 9557 with that zone, or without one, and with these tags
 pub record IsSuffix (text : List ℕ) (zone : Option ZoneTag) (tags : List Tag) : Type 0 where
   pub front : List ℕ
   pub whole : text ≡ front ++ tags_text tags
@@ -153,7 +153,7 @@ abbrev pub IsLongest : List ℕ → ℕ → Type 0
 IsLongest text len = (n : ℕ) (zone : Option ZoneTag) (tags : List Tag) → n ≤ length text
     → IsSuffix (take n text) zone tags → n ≤ len
 
--- the text that is written of a zone is a suffix of that zone, with no tags
+-- the text of a zone in brackets, which `write_suffix` returns, is a suffix with that zone and no tags
 abbrev pub WrittenIsSuffix : Type 0
 WrittenIsSuffix = (text : List ℕ) (z : Zone) → IsZoneText text z
     → IsSuffix (bracketed false text) (Some (record { is_critical = false; zone = z })) []
@@ -187,12 +187,12 @@ pub record IsNameIn (text name : List ℕ) : Type 0 where
 
 -- ---- Suffixes that were read, as contracts view them
 
--- the zone that was read, as a value of this file
+-- the zone of a suffix that was read, as a `Zone` of this file
 abbrev pub zone_of : ZoneText → Zone
 zone_of (Name name) = named name.now
 zone_of (Offset o) = at_offset o
 
--- the zone that was read and its flag, as a value of this file
+-- the zone of a suffix that was read and its critical flag, as a `ZoneTag` of this file
 abbrev pub zone_tag_of : declared.ZoneTag → ZoneTag
 zone_tag_of z = record {
   is_critical = z.is_critical;
@@ -242,7 +242,7 @@ AgreesWith zones tells m z (Some key) result = result ≡ Err CriticalKey
 AgreesWith zones tells m None None result = result ≡ Ok tt
 AgreesWith zones tells m (Some z) None result = AgreesWithZone zones tells m z.zone result
 
--- checking a suffix and a moment has one result
+-- two results of checking a suffix against a moment, with equal arguments, are equal
 abbrev pub OneCheck : Type 0
 OneCheck =
     (zones : Zones) (tells : Bool) (m : OffsetDateTime) (zone : Option ZoneTag) (key : Option (List ℕ))

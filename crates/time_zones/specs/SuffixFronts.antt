@@ -8,7 +8,7 @@ use Rattle.time_zones.specs.Suffix.{is_zone_char, IsSuffixKey, AreSuffixValues, 
 abbrev pub is_bracket_char : ℕ → Bool
 is_bracket_char b = is_zone_char b || b == 47 || b == 58 || b == 61
 
--- suffix-key "=" suffix-values
+-- the text is suffix-key "=" suffix-values, with that key and these values
 pub record IsKeyed (text key values : List ℕ) : Type 0 where
   pub whole : text ≡ key ++ 61 ∷ values
   pub is_key : IsSuffixKey key

@@ -27,7 +27,7 @@ IsInZoneRange m = IsTimestampNanos (offset_instant greatest_year m)
 abbrev pub HasZoneOffset : TimeZone → OffsetDateTime → Type 0
 HasZoneOffset zone m = offset_seconds (offset_of m) ≡ Zone.offset_at zone (offset_instant greatest_year m)
 
--- the instant is in the range of zones, and clocks of the zone show that reading then, both in nanoseconds
+-- at the instant n, in the range of zones, clocks of the zone show the local time `reading`; both are in nanoseconds
 abbrev pub Shows : TimeZone → ℤ → ℤ → Type 0
 Shows zone reading n = IsTimestampNanos n × (n +ℤ nanos_of_seconds (Zone.offset_at zone n) ≡ reading)
 
@@ -68,7 +68,7 @@ AreFirstAndLast zone clock first last =
     × AtEach zone clock (IsBetween (offset_instant greatest_year first) (offset_instant greatest_year last))
 
 -- why a date and time isn't exactly one moment in the zone: for `Fold` its first and its last moment differ; else it is
--- nonexistent, for `Gap` in the range of zones at each offset, and for `OutsideZoneRange` not in it at each offset
+-- nonexistent, for `Gap` in the range of zones at each offset, and for `OutsideZoneRange` outside it at some offset
 abbrev pub IsNotOne : TimeZone → PlainDateTime → NotOne → Type 0
 IsNotOne zone clock Gap = IsNonexistent zone clock × IsInZoneRangeAtEachOffset clock
 IsNotOne zone clock (Fold earlier later) = AreFirstAndLast zone clock earlier later

@@ -12,7 +12,7 @@ use jiff_tz::TimeZone;
 use std::fmt;
 use time_values::{OffsetDateTime, UtcOffset};
 
-/// Why a suffix doesn't agree with the moment in front of it.
+/// Why a suffix of RFC 9557, such as `[Europe/Berlin]`, is rejected after a given moment (a date, time and offset).
 #[derive(Clone, Copy, Debug, PartialEq, Eq)]
 pub enum SuffixFault {
     /// The suffix has a critical tag, such as `[!u-ca=gregory]`. This crate knows no keys, so it rejects each such tag.
@@ -66,7 +66,7 @@ fn check_zone(moment: OffsetDateTime, zone: &TimeZone<'_>) -> Result<(), SuffixF
     }
 }
 
-// Checks that `zones` has the zone, if the suffix names one, and, with `has_local_offset`, that the offsets are equal.
+// Checks that `zones` has a zone that is named, and, if `has_local_offset`, that the moment's offset is the zone's.
 fn check_zone_text(
     zone: ZoneText<'_>,
     moment: OffsetDateTime,
@@ -86,10 +86,10 @@ fn check_zone_text(
     }
 }
 
-/// Checks that the suffix agrees with the moment, by RFC 9557, sections 3.3, 3.4 and 4.1: it has no critical tag, since
-/// no key is known; `zones` has the zone, if the suffix names one; and the moment has the offset of the suffix's zone,
-/// if it has one. Returns the error of the first check that fails. Offsets aren't compared without `has_local_offset`:
-/// pass false for `Z` and `-00:00`. A zone is checked whether or not the flag `!` marks it as critical.
+/// Checks the moment's suffix by RFC 9557, sections 3.3, 3.4 and 4.1. Returns the first error that applies:
+/// `CriticalKey` for a critical tag, since no key is known; `UnknownZone` for a zone's name that `zones` doesn't have;
+/// and, if `has_local_offset` (pass false for `Z` and `-00:00`), `OutsideZoneRange` for a zone's name and a moment
+/// outside the range of zones, or `OtherOffset` if the offset isn't the zone's. A zone's flag `!` changes nothing.
 pub fn check_suffix(
     suffix: &Suffixed<'_>,
     moment: OffsetDateTime,

@@ -45,7 +45,7 @@ pub fn offset_at(zone: &TimeZone<'_>, moment: OffsetDateTime) -> Option<UtcOffse
     Some(offset_from(zone.to_offset(stamp)))
 }
 
-/// The moment at its own instant, but with the zone's offset at that instant. `None` if [`offset_at`] returns `None`.
+/// Converts the moment to the zone's offset at its own instant. `None` outside the range of zones: see [`offset_at`].
 pub fn checked_to_zone(moment: OffsetDateTime, zone: &TimeZone<'_>) -> Option<OffsetDateTime>
     ensures told { IsSome result ↔ IsInZoneRange moment }
     ensures instant { IfSome result (λ v. offset_instant greatest_year v ≡ offset_instant greatest_year moment) }
@@ -63,8 +63,8 @@ pub(crate) fn is_same(a: UtcOffset, b: UtcOffset) -> bool
 }
 
 /// Whether the moment's offset equals the zone's offset at that instant, as +01:00 equals that of Europe/Berlin in
-/// winter. `None` if [`offset_at`] returns `None`. Offsets are compared in seconds: one of whole minutes doesn't equal
-/// one with seconds, as many zones had before 1920.
+/// winter. `None` if the moment is outside the range of zones: see [`offset_at`]. Offsets are compared in seconds: one
+/// of whole minutes doesn't equal one with seconds, as many zones had before 1920.
 pub fn has_zone_offset(moment: OffsetDateTime, zone: &TimeZone<'_>) -> Option<bool>
     ensures told { IsSome result ↔ IsInZoneRange moment }
     ensures value { IfSome result (λ same. IsTrue same ↔ HasZoneOffset zone.now moment) }
@@ -73,7 +73,7 @@ pub fn has_zone_offset(moment: OffsetDateTime, zone: &TimeZone<'_>) -> Option<bo
     Some(is_same(moment.offset(), shown))
 }
 
-/// Why a local date and time isn't exactly one moment in a zone.
+/// Why a local date and time isn't exactly one moment in a zone: it is nonexistent, ambiguous or out of range.
 #[derive(Clone, Copy, Debug, PartialEq, Eq)]
 pub enum NotOne {
     /// The local time is nonexistent: the zone's clocks never show it, since they skip it.
@@ -130,8 +130,8 @@ fn moment_with(clock: PlainDateTime, offset: Offset) -> OffsetDateTime
     clock.assume_offset(offset_from(offset))
 }
 
-// The result of `assume_zone`, found by trying each offset that the zone can have then. Not inlined, so that it needs
-// no stack space beside `fast`.
+// Computes the result of `assume_zone` by trying each offset that the zone can have near the date and time. Not
+// inlined, so that the fast path needs no stack space for it.
 #[inline(never)]
 fn assume_by_offsets(clock: PlainDateTime, zone: &TimeZone<'_>) -> Result<OffsetDateTime, NotOne>
     ensures ok { IfOk result (IsOnlyMoment zone.now clock) }
@@ -155,8 +155,8 @@ fn assume_by_offsets(clock: PlainDateTime, zone: &TimeZone<'_>) -> Result<Offset
     Ok(earlier)
 }
 
-/// The only moment in the range of zones at which clocks of the zone show the date and time, with the zone's offset. An
-/// error if there is no such moment, or more than one.
+/// The only moment in the range of zones at which clocks of the zone show the date and time, with the zone's offset. If
+/// there are more, the error is `Fold`; if there is none, `Gap`, or `OutsideZoneRange` near the range's ends or beyond.
 #[inline(always)]
 pub fn assume_zone(clock: PlainDateTime, zone: &TimeZone<'_>) -> Result<OffsetDateTime, NotOne>
     ensures ok { IfOk result (IsOnlyMoment zone.now clock) }

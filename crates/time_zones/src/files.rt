@@ -9,7 +9,7 @@ use std::{fs, io};
 // The length of the longest file that is read as a zone, in bytes: 1 MiB. Those of the database have a few kilobytes.
 const MOST_BYTES: u64 = 1 << 20;
 
-/// Why a file wasn't read.
+/// Why a file wasn't read: it is missing, a folder or unreadable, or memory ran out.
 #[derive(Clone, Copy, Debug, PartialEq, Eq)]
 pub enum ReadFault {
     /// There is no such file.
@@ -22,7 +22,7 @@ pub enum ReadFault {
     OutOfMemory,
 }
 
-/// Reads files by their paths.
+/// Reads the files of zones by their paths, from the disk or from any other source.
 pub trait ZoneFiles {
     // The possible results of reading the file at a path.
     ghost gives: { Self → List ℕ → Result (List ℕ) Fault → Type 0 };

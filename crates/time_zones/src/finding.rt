@@ -14,7 +14,7 @@ use std::rt::{Env, Files};
 // The folder of zones on most systems.
 const FOLDER: &str = "/usr/share/zoneinfo";
 
-/// An owned zone: UTC, a POSIX rule, or the table of a file.
+/// An owned zone: UTC, a POSIX rule, or the table of a TZif file.
 #[derive(Debug, Drop)]
 pub enum NamedZone {
     /// UTC.
@@ -112,9 +112,9 @@ pub(crate) fn find_at<F: ZoneFiles>(
     }
 }
 
-/// The zone of the name: `UTC`; `local`, which is the zone that `setting`, a value of `TZ`, specifies, or the file
-/// /etc/localtime if `setting` is `None`; or else the file of that name below `folder`. Reads at most one file.
-/// [`find_zone`] describes the values of `TZ`.
+/// Finds a zone by its name: UTC for `UTC`; for `local`, the zone that `setting`, a value of `TZ`, specifies, or the
+/// file /etc/localtime if `setting` is `None`; and else the file of that name below `folder`. Reads at most one file.
+/// [`find_zone`] describes the values of `TZ`, and [`ZoneFault`] the errors.
 pub fn find_zone_in<F: ZoneFiles>(
     alloc: Global,
     files: &F,

@@ -22,33 +22,33 @@ pub fn law_read_back(
     Some(assume_zone(PlainDateTime::new(shown.date(), shown.time()), zone))
 }
 
-/// Converting a moment in the range of zones that has the zone's offset to the zone returns it unchanged.
+/// Converting a moment to a zone returns it unchanged if it is in the range of zones and already has the zone's offset.
 pub fn law_left_as_it_is(moment: OffsetDateTime, zone: &TimeZone<'_>) -> Option<OffsetDateTime>
     ensures { IsInZoneRange moment → HasZoneOffset zone.now moment → result ≡ Some moment }
 {
     checked_to_zone(moment, zone)
 }
 
-/// A date and time resolves to one result in a zone.
+/// A local date and time has only one result in a zone: the contract of `assume_zone` allows no other.
 pub fn law_one_answer(clock: PlainDateTime, zone: &TimeZone<'_>) -> Result<OffsetDateTime, NotOne>
     ensures { (other : Result Moment NotOne_) → IsAnswer zone.now clock other → other ≡ result }
 {
     assume_zone(clock, zone)
 }
 
-/// A text is a suffix in at most one way: with one zone or none, and with one list of tags.
+/// A text is a suffix of RFC 9557 in at most one way: with one zone or none, and with one list of tags.
 pub fn law_one_suffix()
     ensures { OneSuffix }
 {}
 
-/// The text that `write_suffix` writes of a zone is a suffix of that zone, with no tags.
+/// The text that `write_suffix` returns for a zone is a suffix of RFC 9557 with that zone and no tags.
 #[tactic(auto, using(crate::proofs::NameLemmas::written_is_suffix))]
 pub fn law_written_suffix()
     ensures { WrittenIsSuffix }
 {}
 
-/// Each zone name that a suffix can have is valid as a path below the folder of zones: no part of it, between slashes,
-/// is empty, `.` or `..`.
+/// Each zone name that a suffix of RFC 9557 can have is valid as a path below the folder of zones: no part of it,
+/// between slashes, is empty, `.` or `..`.
 #[tactic(auto, using(crate::proofs::NameLemmas::names_in_folder))]
 pub fn law_names_in_folder()
     ensures { NamesInFolder }

@@ -12,7 +12,7 @@ pub use texts::write_suffix;
 use texts::{after, is_zone_char, is_zone_name, key_of, offset_of};
 use time_values::UtcOffset;
 
-/// How a suffix specifies the zone.
+/// How a suffix of RFC 9557 specifies its zone: by a name, or by an offset from UTC.
 #[derive(Clone, Copy, Debug, PartialEq, Eq)]
 pub enum ZoneText<'a> {
     /// By a name, such as `Europe/Berlin`. A name that was read is ASCII.
@@ -91,7 +91,7 @@ fn brackets(text: &[u8]) -> Option<(Bracketed<'_>, &[u8])>
     ))
 }
 
-/// The zone of a suffix.
+/// The zone of a suffix of RFC 9557, and whether the flag `!` marks it as critical.
 #[derive(Clone, Copy, Debug, PartialEq, Eq)]
 pub struct ZoneTag<'a> {
     /// Whether the flag `!` marks it as critical, as in `[!Europe/Berlin]`.
@@ -122,8 +122,8 @@ fn zone_if_any(text: &[u8]) -> (Option<ZoneTag<'_>>, &[u8])
     }
 }
 
-// The tag at the start of the text: its key, or `None` if it isn't critical, and the rest after `]`. `None` if the text
-// begins with no tag.
+// The tag at the start of the text: its key, or an inner `None` if it isn't critical; and the rest after `]`. `None` if
+// the text begins with no tag.
 fn tag_in_front(text: &[u8]) -> Option<(Option<&[u8]>, &[u8])>
     ensures some { IfSome result (λ x. (t : Tag) × BeginsWithTag text.now t x.1.now
         × (option_map (λ key. key.now) x.0 ≡ critical_key (t ∷ []))) }
@@ -150,7 +150,7 @@ fn tags_in_front(text: &[u8]) -> (Option<&[u8]>, &[u8])
     (critical_key, rest)
 }
 
-/// A suffix that was read.
+/// The result of [`read_suffix`]: a suffix's length, its zone, and the key of its first critical tag.
 #[derive(Clone, Copy, Debug, PartialEq, Eq)]
 pub struct Suffixed<'a> {
     /// The length of the suffix in bytes.

@@ -23,7 +23,7 @@ pub struct Zones {
 }
 
 impl Zones {
-    /// The empty map.
+    /// The empty map, which doesn't even have `UTC`.
     pub fn new(alloc: Global) -> Zones
         ensures { (name : List ℕ) → zone_named result name ≡ None }
     {
@@ -77,7 +77,7 @@ fn fault_from(error: Error, path: String) -> ZoneFault
     }
 }
 
-// Sets the zone of that name, if it is found, and else leaves the map unchanged. Only `OutOfMemory` is an error.
+// Sets the zone of that name if it is found in the folder; else the map is unchanged. Only `OutOfMemory` is an error.
 fn add<F: ZoneFiles>(
     alloc: Global,
     files: &F,

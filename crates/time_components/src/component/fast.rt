@@ -80,7 +80,7 @@ fn short_fraction(input: &[u8]) -> Option<ParsedItem<'_, u32>>
         input.now found.0.now (number found.1)) }
 {
     let mut nanoseconds = 0;
-    // The nanoseconds in one unit of the last place read so far.
+    // The nanoseconds that one unit of the last digit read so far counts; a whole second before the first digit.
     let mut unit = 1_000_000_000;
     let mut rest = input;
     while let [digit @ b'0'..=b'9', tail @ ..] = rest {

@@ -10,7 +10,7 @@ ghost use Rattle.time_components.specs.Spelling as Spelling;
 use crate::{ParsedItem, Period, modifier};
 use time_values::{Month, Weekday, names};
 
-// Parses the first three letters of a month's English name: `Jan`, or any ASCII case of it unless the case matters.
+// Parses the first three letters of a month's English name: `Jan`, or any ASCII case of it unless `case_sensitive`.
 #[inline(always)]
 pub(super) fn month_short(input: &[u8], case_sensitive: bool) -> Option<ParsedItem<'_, Month>>
     ensures { Finds (HasMappedValue month (IsShortOf case_sensitive month_name)) month input.now result }
@@ -20,7 +20,7 @@ pub(super) fn month_short(input: &[u8], case_sensitive: bool) -> Option<ParsedIt
     Some(ParsedItem(letters.0, month))
 }
 
-// Parses the first three letters of a weekday's English name: `Mon`, or any ASCII case of it unless the case matters.
+// Parses the first three letters of a weekday's English name: `Mon`, or any ASCII case of it unless `case_sensitive`.
 #[inline(always)]
 pub(super) fn weekday_short(input: &[u8], case_sensitive: bool) -> Option<ParsedItem<'_, Weekday>>
     ensures { Finds (HasMappedValue weekday (IsShortOf case_sensitive weekday_name)) weekday input.now result }
@@ -30,8 +30,8 @@ pub(super) fn weekday_short(input: &[u8], case_sensitive: bool) -> Option<Parsed
     Some(ParsedItem(letters.0, weekday))
 }
 
-// Parses any three bytes, and returns them in ASCII lower case. If the case matters, they must be a capital and two
-// small ASCII letters; otherwise they need not be letters.
+// Parses any three bytes, and returns them in ASCII lower case. With `case_sensitive` they must be a capital and two
+// small ASCII letters; otherwise they need not be letters. Returns `None` for other or fewer bytes.
 #[inline(always)]
 fn three_letters(input: &[u8], case_sensitive: bool) -> Option<ParsedItem<'_, [u8; 3]>>
     ensures { Finds (IsTitleCase case_sensitive) (λ v. v) input.now result }
@@ -112,7 +112,7 @@ pub(super) fn weekday_ending(weekday: Weekday) -> &'static [u8]
     &names::weekday_name(weekday).as_bytes()[3..]
 }
 
-// Parses the bytes of `ending`, in any ASCII case unless the case matters. Returns `None` for other bytes.
+// Parses the bytes of `ending`, in any ASCII case unless `case_sensitive`. Returns `None` for other bytes.
 pub(super) fn ending_of<'a>(
     input: &'a [u8],
     ending: &[u8],
@@ -128,7 +128,7 @@ pub(super) fn ending_of<'a>(
     }
 }
 
-// Whether the text is the whole name, in any ASCII case unless the case matters.
+// Whether the text is the whole name, in any ASCII case unless `case_sensitive`.
 fn is_named(text: &[u8], name: &[u8], case_sensitive: bool) -> bool
     ensures { IsTrue result ↔ IsNamed case_sensitive name.now text.now }
 {
@@ -139,7 +139,7 @@ fn is_named(text: &[u8], name: &[u8], case_sensitive: bool) -> bool
     }
 }
 
-// Parses one digit, `0` to `6`, or `1` to `7` if it is one-indexed, as 0 to 6.
+// Parses one digit, `0` to `6`, or `1` to `7` with `one_indexed`, and returns 0 to 6. Returns `None` for another byte.
 #[inline]
 pub(super) fn weekday_digit(input: &[u8], one_indexed: bool) -> Option<ParsedItem<'_, u8>>
     ensures { Finds (IsDayDigit one_indexed) (λ v. v) input.now result }
@@ -155,7 +155,7 @@ pub(super) fn weekday_digit(input: &[u8], one_indexed: bool) -> Option<ParsedIte
     }
 }
 
-// The byte of the digit for the first day: `1` if days are one-indexed, and otherwise `0`.
+// The byte of the digit for the first day of the week: `1` with `one_indexed`, and otherwise `0`.
 #[inline]
 fn first_digit(one_indexed: bool) -> u8
     ensures value { result ≡ Spelling.first_digit one_indexed }
@@ -164,7 +164,7 @@ fn first_digit(one_indexed: bool) -> u8
     if one_indexed { b'1' } else { b'0' }
 }
 
-// Parses any two bytes, and returns them unchanged if the case matters, otherwise in ASCII lower case.
+// Parses any two bytes, and returns them unchanged with `case_sensitive`, and otherwise in ASCII lower case.
 #[inline]
 fn two_letters(input: &[u8], case_sensitive: bool) -> Option<ParsedItem<'_, [u8; 2]>>
     ensures { Finds (IsLetters case_sensitive) (λ v. v) input.now result }
@@ -175,7 +175,7 @@ fn two_letters(input: &[u8], case_sensitive: bool) -> Option<ParsedItem<'_, [u8;
     Some(ParsedItem(rest, folded([*first, *second], case_sensitive)))
 }
 
-// The letters, unchanged if the case matters, otherwise in ASCII lower case.
+// The letters, unchanged with `case_sensitive`, and otherwise in ASCII lower case.
 #[inline]
 fn folded(letters: [u8; 2], case_sensitive: bool) -> [u8; 2]
     ensures { result ≡ ShortNames.folded case_sensitive letters }
@@ -188,8 +188,8 @@ fn folded(letters: [u8; 2], case_sensitive: bool) -> [u8; 2]
     }
 }
 
-// Parses the half of the day. If the case matters, the text is `AM` or `PM` with `is_uppercase`, and `am` or `pm`
-// without; otherwise it is `AM` or `PM` in any ASCII case.
+// Parses the half of the day. With `case_sensitive`, the text is `AM` or `PM` if `is_uppercase`, and else `am` or `pm`;
+// without it, either in any ASCII case.
 #[inline(always)]
 pub(super) fn period(input: &[u8], modifiers: modifier::Period) -> Option<ParsedItem<'_, Period>>
     ensures { Finds (HasMappedValue Spelling.period (IsNameOf modifiers.case_sensitive (period_name modifiers.is_uppercase)))

@@ -78,8 +78,8 @@ pub(super) fn ordinal(input: &[u8], padding: Padding) -> Option<ParsedItem<'_, N
     Some(ParsedItem(ordinal.0, NonZero::<u16>::new(ordinal.1)?))
 }
 
-// Parses a sign and `N` to `M` digits with the first padding, or, if the sign is missing and isn't mandatory, `A` to
-// `B` digits with the second padding. Returns the sign, positive if it is missing, and the number without it.
+// Parses a sign and `N` to `M` digits with `padding`, or, if the sign is missing and isn't mandatory, `A` to `B` digits
+// with `padding_alone`. Returns the sign, positive if it is missing, and the number without it.
 #[inline]
 fn sign_and_run<const N: u8, const M: u8, const A: u8, const B: u8, T: Integer>(
     input: &[u8],
@@ -111,7 +111,7 @@ fn sign_and_run<const N: u8, const M: u8, const A: u8, const B: u8, T: Integer>(
     }
 }
 
-// Parses a year: four digits, or a sign and four to `MOST` digits, both with the padding. It is negative after `-`.
+// Parses a year: a sign and four to `MOST` digits, or four if the sign is optional, with padding; negative after `-`.
 #[cold]
 #[inline(never)]
 pub(super) fn full_year<const MOST: u8>(
@@ -127,8 +127,8 @@ pub(super) fn full_year<const MOST: u8>(
     Some(ParsedItem(found.0, signed_year(found.1.0, found.1.1)))
 }
 
-// Parses a century: one or two digits, whatever the padding, or a sign and two to `MOST` digits with the padding. It is
-// negative after `-`. The bool is whether the sign is `-`, also for the number 0.
+// Parses a century (a year without its last two digits), negative after `-`: a sign and two to `MOST` digits with the
+// padding, or, if the sign is optional, one or two whatever the padding. The bool is whether the sign is `-`.
 #[inline]
 pub(super) fn century<const MOST: u8>(
     input: &[u8],
@@ -170,8 +170,8 @@ pub(super) fn timestamp<const MOST: u8>(
     Some(ParsedItem(found.0, signed_nanoseconds(found.1.0, found.1.1 * unit)))
 }
 
-// Parses the hours of an offset: two digits with the padding, with or without a sign. They are negative after `-`. The
-// bool is whether the sign is `-`, also for 0 hours.
+// Parses the hours of an offset: an optional or mandatory sign, and two digits with the padding. They are negative
+// after `-`. The bool is whether the sign is `-`, also for 0 hours.
 #[cold]
 #[inline(never)]
 pub(super) fn offset_hour(
@@ -238,7 +238,7 @@ fn signed_nanoseconds(sign: Sign, nanoseconds: u128) -> i128
     }
 }
 
-// Parses exactly `N` digits, 1 to 9, of a fraction of a second, as nanoseconds. Any further digits begin the rest.
+// Parses exactly `N` digits of a fraction of a second, as nanoseconds. `N` is 1 to 9. Further digits begin the rest.
 #[inline]
 pub(super) fn fraction<const N: u8>(input: &[u8]) -> Option<ParsedItem<'_, u32>>
     requires least { 1 ≤ N }
@@ -260,7 +260,7 @@ pub(super) fn long_fraction(input: &[u8]) -> Option<ParsedItem<'_, u32>>
     Some(ParsedItem(&digits.0[dropped..], digits.1 * power_of_ten(9 - count)))
 }
 
-// Ten to the given power, which must be below nine.
+// Ten to the power of `exponent`, which must be below nine.
 #[inline]
 fn power_of_ten(exponent: usize) -> u32
     requires { exponent < 9 }

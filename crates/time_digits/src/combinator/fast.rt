@@ -8,8 +8,8 @@ use crate::ParsedItem;
 use crate::combinator::grammar::without_digits;
 use crate::combinator::{any_digit, nine_digits, three_digits};
 
-// Parses a fraction of a second of nine or more digits, or of exactly six or three, in nanoseconds. Returns `None` for
-// another number of digits.
+// Parses a fraction of a second of nine or more digits, or of exactly six or three, in nanoseconds. Digits after the
+// ninth are read and ignored. Returns `None` for another number of digits.
 #[inline(always)]
 pub(super) fn fraction(input: &[u8]) -> Option<ParsedItem<'_, u32>>
     ensures { IfSome result (λ found. Cut IsFraction input.now found.0.now found.1) }

@@ -28,7 +28,7 @@ pub(super) fn exact_run(input: &[u8], n: u8) -> Option<ParsedItem<'_, u32>>
     digit_run(input, usize::from(n), usize::from(n))
 }
 
-// Parses all leading digits up to `most`. Returns `None` if there are fewer than `least`, or the value doesn't fit `T`.
+// Parses all leading digits, at most `most`. Returns `None` if fewer than `least`, or if the value doesn't fit `T`.
 #[inline]
 pub(super) fn digit_run<T: Integer>(
     input: &[u8],
@@ -120,7 +120,7 @@ pub(super) fn fraction(input: &[u8]) -> Option<ParsedItem<'_, u32>>
     Some(ParsedItem(without_digits(found.0), nanoseconds))
 }
 
-// The input after its leading digits.
+// The input after all its leading ASCII digits.
 #[inline(always)]
 pub(super) fn without_digits(input: &[u8]) -> &[u8]
     ensures { (digits : List ℕ) × (input.now ≡ digits ++ result.now) × AllDigits digits × NoDigitFirst result.now }

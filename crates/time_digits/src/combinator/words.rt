@@ -105,7 +105,7 @@ mod tests {
         (8, 98_765_432),
     ];
 
-    // The decimal value of the first 4 to 8 bytes.
+    // The result of `join_word` for the first `n` bytes, or `None` if `n` isn't 4 to 8.
     fn joined(bytes: [u8; 8], n: u8) -> Option<u32> {
         match n {
             4..=8 => join_word(u64::from_le_bytes(bytes), n),
@@ -113,7 +113,7 @@ mod tests {
         }
     }
 
-    // The first `count` digits, and zeros for the missing bytes after them.
+    // The first `count` of `DIGITS`, and zero bytes (not ASCII zeros) after them.
     fn first_digits(count: u8) -> [u8; 8] {
         let mut bytes = DIGITS;
         for place in count..8 {
@@ -124,7 +124,7 @@ mod tests {
         bytes
     }
 
-    // Whether `join_word` rejects every count of digits below `n`.
+    // Whether `join_word` of `n` bytes rejects `DIGITS` shortened to any count below `n`.
     fn is_refused_short(n: u8) -> bool {
         let mut all_refused = true;
         for count in 0..n {
@@ -146,7 +146,7 @@ mod tests {
         all_refused
     }
 
-    // Whether `join_word` rejects every byte other than a digit at every place.
+    // Whether `join_word` of `n` bytes rejects every byte other than a digit at each of the `n` places.
     fn is_refused(n: u8) -> bool {
         let mut all_refused = true;
         for place in 0..n {

@@ -21,7 +21,7 @@ const FIRST_SECOND: i64 = -377_705_023_201;
 // The last second of the range of zones, 9999-12-30T22:00:00Z, in seconds since 1970-01-01T00:00:00Z.
 const LAST_SECOND: i64 = 253_402_207_200;
 
-// Half a mean year of the calendar, in seconds: in most zones clocks go on and back once a year.
+// Half a mean Gregorian year, in seconds: in most zones clocks change twice a year, so rows are about so far apart.
 const HALF_YEAR: i64 = 15_778_476;
 
 // The greatest number of seconds that an offset is ahead of UTC or behind it: 25:59:59.
@@ -42,8 +42,8 @@ fn offset_before(rows: &[Transition], place: usize, begin: i64, end: i64) -> Opt
     Some(last.after.offset)
 }
 
-// The offset of the last row up to `end`, if `begin` isn't before that row and another row follows. `last` is the last
-// row's second. First tries the index of the following row that two rows a year would give, and the next index.
+// The offset of the latest row up to `end`. `None` if there is no such row or `begin` is before it. `last` is the Unix
+// second of the table's last row. Before a binary search, tries the two indexes that two rows a year would give.
 #[inline(always)]
 fn offset_between(rows: &[Transition], last: i64, begin: i64, end: i64) -> Option<Offset>
     requires near { (neg_ℤ (pos 377_705_023_201) ≤ℤ end) × (end <ℤ last) × (last ≤ℤ pos 253_402_207_200) }
@@ -88,7 +88,7 @@ fn offset_behind(table: &Tzif) -> Option<Offset>
 }
 
 // The offset of a table in all Unix seconds from `begin` to `end`. `end` must be in the range of zones. `None` means
-// only that no short cut applies. Inlined, so that one second costs no more work.
+// only that no short cut applies. Inlined, so that a caller with `begin` equal to `end` does less work.
 #[inline(always)]
 fn offset_by_rows(table: &Tzif, begin: i64, end: i64) -> Option<Offset>
     requires { (neg_ℤ (pos 377_705_023_201) ≤ℤ end) × (end ≤ℤ pos 253_402_207_200) }

@@ -38,7 +38,7 @@ pub(super) fn is_zone_char(byte: u8) -> bool
     is_zone_initial(byte) || byte.is_ascii_digit() || matches!(byte, b'-' | b'+')
 }
 
-// Whether the text is a byte that may begin a part of a zone's name, and then any number that may continue it.
+// Whether the text is a byte that may begin a part of a zone's name, and then any number of bytes that may continue it.
 fn is_zone_word(text: &[u8]) -> bool
     ensures { IsTrue result ↔ IsWord suffix.is_zone_initial suffix.is_zone_char text.now }
 {
@@ -115,7 +115,7 @@ fn two_digits(tens: u8, ones: u8) -> Option<u8>
     Some((tens - b'0') * 10 + (ones - b'0'))
 }
 
-// The seconds of the text `hh:mm`, from 00:00 to 23:59. `None` for any other text.
+// The seconds since midnight of the text `hh:mm`, from 00:00 to 23:59. `None` for any other text.
 fn seconds_of(text: &[u8]) -> Option<u32>
     ensures some { IfSome result (IsHourMinute text.now) }
     ensures bound { IfSome result (λ n. n < 86_400) }

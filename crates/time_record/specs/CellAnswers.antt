@@ -6,7 +6,7 @@ use Rattle.std.specs.Option.{option_map}
 use Rattle.time_record.specs.Cells.{is_one, month_in, weekday_in, bits_of}
 use Rattle.time_record.specs.Record.{Record}
 
--- f, but x at k
+-- the function f, but with the value x at k
 abbrev pub changed : {T : Type 0} → (ℕ → T) → ℕ → T → ℕ → T
 changed f k x i = if i == k then x else f i
 

@@ -113,7 +113,7 @@ greatest_values Y =
 abbrev pub InCell : ℕ → ℕ → ℤ → Type 0
 InCell Y i v = (slice_index_or (least_values Y) i (pos 0) ≤ℤ v) × (v ≤ℤ slice_index_or (greatest_values Y) i (pos 0))
 
--- a value that is there is in its range, and one that isn't is 0
+-- the value v of cell i is in the cell's range if its bit is set, and 0 if the bit isn't set
 abbrev pub IsCell : ℕ → ℕ → Bool → ℤ → Type 0
 IsCell Y i true v = InCell Y i v
 IsCell Y i false v = v ≡ pos 0
@@ -127,7 +127,7 @@ pub record IsSound (Y mask : ℕ) (bytes shorts words : List ℤ) (stamp : ℤ) 
   pub words_length : length words ≡ 3
   pub cells : (i : ℕ) → i < 23 → IsCell Y i (bit mask i) (value_at bytes shorts words stamp i)
 
--- the number of those bits, the lowest first; 0 without bits
+-- the number whose binary digits are these bits, the lowest first; 0 without bits
 abbrev pub from_bits : List Bool → ℕ
 from_bits [] = 0
 from_bits (true ∷ bits) = from_bits bits * 2 + 1

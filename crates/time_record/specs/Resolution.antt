@@ -106,7 +106,7 @@ abbrev pub IsRowDate : ℕ → Row → Result Date Refusal → Type 0
 IsRowDate Y row result = MatchResult result (HasRow Y row)
     (λ e. ((d : Date) → HasRow Y row d → ⊥) × (e ≡ row_refusal Y row))
 
--- a conversion's result, with the content of its error
+-- a conversion's result, where an error is replaced by its content, a `Refusal`
 abbrev pub erased_conversion : {V : Type 0} → Result V TryFromParsed → Result V Refusal
 erased_conversion (Ok v) = Ok v
 erased_conversion (Err e) = Err (refusal_of_parsed e)
@@ -136,7 +136,7 @@ hour_of_half (Some h) (Some is_pm) = Some (if is_pm then h % 12 + 12 else h % 12
 hour_of_half (Some h) None = None
 hour_of_half None is_pm = None
 
--- the numbers of a time
+-- the numbers of a time, perhaps out of range, such as a second of 60
 pub record Clock : Type 0 where
   pub hour : ℕ
   pub minute : ℕ
@@ -167,7 +167,7 @@ IsTimed r result = MatchOption (clock_of r) (result ≡ Err insufficient)
     (λ c. IsConstructed (time_refusal c.hour c.minute c.second c.nanosecond)
     (HasClock c.hour c.minute c.second c.nanosecond) result)
 
--- a part of an offset, negated if the record's flag of a negative offset is set, or 0 if it is missing
+-- an offset's minutes or seconds, negated if the record's flag of a negative offset is set, or 0 if they are missing
 abbrev pub offset_part : Record → Option ℤ → ℤ
 offset_part r part = unwrap_or (option_map (signed_by r.offset_is_negative) part) (pos 0)
 
@@ -175,7 +175,7 @@ offset_part r part = unwrap_or (option_map (signed_by r.offset_is_negative) part
 abbrev pub offset_seconds_of : Record → ℤ
 offset_seconds_of r = option_map_or (λ _. offset_part r r.offset_second) r.offset_minute (pos 0)
 
--- the offset of a record; without an hour, `Missing` defines the result
+-- the offset of a record's hour, minutes and seconds; without an hour, the result satisfies `Missing`
 abbrev pub IsOffsetOr : (Result UtcOffset Refusal → Type 0) → Record → Result UtcOffset Refusal → Type 0
 IsOffsetOr Missing r result = MatchOption r.offset_hour (Missing result)
     (λ h. let m = offset_part r r.offset_minute in let s = offset_seconds_of r in
@@ -201,11 +201,11 @@ IsStamped Y n subsecond date time =
     (t : Time) × (clock_nanos Y date t ≡ n)
     × HasSecond t (unwrap_or subsecond (Times.nanosecond t)) time × IsDateWithin Y date
 
--- the record's second is a leap second that is allowed
+-- whether the record's second is 60 and leap seconds are allowed
 abbrev pub is_leap_second : Record → Bool
 is_leap_second r = r.leap_second_allowed && option_map_or (λ s. s == 60) r.second false
 
--- the record with a leap second replaced by the last nanosecond before it
+-- the record, where a leap second that is allowed is replaced by the last nanosecond before it
 abbrev pub replace_leap_second : Record → Record
 replace_leap_second r =
     if is_leap_second r then record r { second = Some 59; subsecond = Some 999_999_999 } else r
@@ -229,7 +229,7 @@ IsMoment Y r result = MatchOption r.unix_timestamp_nanos (IsMomentOfParts Y r re
     (λ n. IsOkAnd result
     (λ v. IsStamped Y n r.subsecond (offset_date v) (offset_time v) × IsUtc (offset_of v)))
 
--- the date and time in UTC of an instant, or the error of one outside the range of dates
+-- the date and time in UTC of an instant, or, if it lies outside the range of dates, an error that names `year`
 abbrev pub IsInUtc : ℕ → ℤ → Result UtcDateTime Refusal → Type 0
 IsInUtc Y n (Ok u) = (utc_instant Y u ≡ n) × IsDateWithin Y (utc_date u)
 IsInUtc Y n (Err e) = (IsInstant Y n → ⊥) × (e ≡ range (codes "year") true)

@@ -27,7 +27,7 @@ use std::marker::Model;
 pub struct Parsed {
     // One bit for each component, 1 if it is set, and one for each flag.
     mask: u32,
-    // The values of the components by size; 0 for one that isn't set.
+    // The values of the components, in one array for each size, and the timestamp; 0 for a component that isn't set.
     bytes: [i8; 16],
     shorts: [i16; 3],
     words: [i32; 3],
@@ -77,9 +77,9 @@ impl Parsed {
         }
     }
 
-    /// Allows a second of 60 as a leap second, as some formats do. `OffsetDateTime`, `UtcDateTime` and `Timestamp` then
-    /// convert it to the last nanosecond before it, or reject it if that doesn't end a month in UTC. `Time` and
-    /// `PlainDateTime` always reject it. Setting and parsing a second of 60 needs no permission.
+    /// Allows a second of 60 as a leap second. Conversions to `OffsetDateTime`, `UtcDateTime` and `Timestamp` then
+    /// replace it by the last nanosecond before it, or fail if that doesn't end a month in UTC. Conversions to `Time`
+    /// and `PlainDateTime` always reject it. Setting and parsing a second of 60 needs no permission.
     #[inline]
     pub fn allow_leap_second(&mut self)
         ensures { self.new ≡ record self.old { leap_second_allowed = true } }
@@ -107,7 +107,7 @@ impl Parsed {
 }
 
 // Prints the components, then the flags. The offset's minutes and seconds are the stored numbers, not negated by the
-// flag.
+// flag of a negative offset.
 impl fmt::Debug for Parsed {
     fn fmt<W: fmt::Write>(&self, f: &mut fmt::Formatter<W>) -> fmt::Result {
         f.debug_struct("Parsed")
@@ -179,7 +179,7 @@ mod tests {
         assert_eq!(rt; size_of::<Parsed>(), 64);
     }
 
-    // The record with only that option, and the value of its cell, which is not 0.
+    // A record with only option `index` set, and the value of its cell, which is not 0. `None` for an index above 22.
     fn with_option(index: usize) -> Option<(Parsed, i128)> {
         let parsed = Parsed::new();
         let week = NonZero::<u8>::new(53)?;
@@ -214,7 +214,7 @@ mod tests {
         })
     }
 
-    // The value of a cell.
+    // The value of the cell of option `index`, whichever field has it.
     fn cell_of(parsed: &Parsed, index: usize) -> i128 {
         if index < 16 {
             parsed.bytes[index] as i128

@@ -45,24 +45,24 @@ pub(super) const OFFSET_MINUTE: usize = 14;
 
 pub(super) const OFFSET_SECOND: usize = 15;
 
-// 16 to 18 are in `shorts`.
+// Options 16 to 18 have their cells in `shorts`.
 pub(super) const YEAR_CENTURY: usize = 16;
 
 pub(super) const ISO_YEAR_CENTURY: usize = 17;
 
 pub(super) const ORDINAL: usize = 18;
 
-// 19 to 21 are in `words`.
+// Options 19 to 21 have their cells in `words`.
 pub(super) const YEAR: usize = 19;
 
 pub(super) const ISO_YEAR: usize = 20;
 
 pub(super) const SUBSECOND: usize = 21;
 
-// The bit of `stamp`.
+// The index of the timestamp's bit in the mask; its value is in `stamp`.
 pub(super) const UNIX_TIMESTAMP_NANOS: usize = 22;
 
-// The bit of each flag, which has no cell.
+// The index of each flag's bit in the mask; a flag has no cell.
 pub(super) const OFFSET_IS_NEGATIVE: usize = 23;
 
 pub(super) const YEAR_CENTURY_IS_NEGATIVE: usize = 24;
@@ -80,7 +80,7 @@ fn is_set(mask: u32, index: usize) -> bool
     (mask >> index) & 1 == 1
 }
 
-// The mask with a bit set.
+// The mask with the bit at `index` set to 1. Bit 0 is the lowest.
 #[inline]
 #[tactic(auto, using(crate::proofs::CellLemmas::bit_below, crate::proofs::CellLemmas::bit_set))]
 fn with_bit(mask: u32, index: usize) -> u32
@@ -92,7 +92,7 @@ fn with_bit(mask: u32, index: usize) -> u32
     mask | 1 << index
 }
 
-// The mask with a bit cleared.
+// The mask with the bit at `index` set to 0. Bit 0 is the lowest.
 #[inline]
 #[tactic(auto, using(crate::proofs::CellLemmas::bit_cleared))]
 fn without_bit(mask: u32, index: usize) -> u32
@@ -104,7 +104,7 @@ fn without_bit(mask: u32, index: usize) -> u32
     mask & !(1 << index)
 }
 
-// The mask with a bit set or cleared, by a flag.
+// The mask with the bit at `index` set to 1 if `on` is true, and else to 0. Bit 0 is the lowest.
 #[inline]
 fn with_flag(mask: u32, index: usize, on: bool) -> u32
     requires in_mask { index < 27 }
@@ -132,7 +132,7 @@ impl Parsed {
         self.mask & cells == cells
     }
 
-    // The value of a byte's cell by the option's index, or `None` if the option isn't set.
+    // The stored value of the option with this index, 0 to 15, from `bytes`, or `None` if the option isn't set.
     #[inline]
     pub(super) fn byte(&self, index: usize) -> Option<i8>
         requires in_cells { index < 16 }
@@ -146,7 +146,7 @@ impl Parsed {
         }
     }
 
-    // Stores a value in a byte's cell, and marks the option of this index as set.
+    // Stores the value of the option with this index, 0 to 15, in `bytes`, and marks the option as set.
     #[inline]
     pub(super) fn put_byte(&mut self, index: usize, value: i8)
         requires in_cells { index < 16 }
@@ -157,7 +157,7 @@ impl Parsed {
         self.bytes[index] = value;
     }
 
-    // The value of a short's cell by the option's index, or `None` if the option isn't set.
+    // The stored value of the option with this index, 16 to 18, from `shorts`, or `None` if the option isn't set.
     #[inline]
     pub(super) fn short(&self, index: usize) -> Option<i16>
         requires past { 16 ≤ index }
@@ -172,7 +172,7 @@ impl Parsed {
         }
     }
 
-    // Stores a value in a short's cell, and marks the option of this index as set.
+    // Stores the value of the option with this index, 16 to 18, in `shorts`, and marks the option as set.
     #[inline]
     pub(super) fn put_short(&mut self, index: usize, value: i16)
         requires past { 16 ≤ index }
@@ -184,7 +184,7 @@ impl Parsed {
         self.shorts[index - 16] = value;
     }
 
-    // The value of a word's cell by the option's index, or `None` if the option isn't set.
+    // The stored value of the option with this index, 19 to 21, from `words`, or `None` if the option isn't set.
     #[inline]
     pub(super) fn word(&self, index: usize) -> Option<i32>
         requires past { 19 ≤ index }
@@ -199,7 +199,7 @@ impl Parsed {
         }
     }
 
-    // Stores a value in a word's cell, and marks the option of this index as set.
+    // Stores the value of the option with this index, 19 to 21, in `words`, and marks the option as set.
     #[inline]
     pub(super) fn put_word(&mut self, index: usize, value: i32)
         requires past { 19 ≤ index }
@@ -244,7 +244,7 @@ impl Parsed {
         is_set(self.mask, index)
     }
 
-    // Sets or clears the flag with this index.
+    // Sets the flag with this index, 23 to 26, if `on` is true, and else clears it.
     #[inline]
     pub(super) fn set_flag(&mut self, index: usize, on: bool)
         requires past { 23 ≤ index }

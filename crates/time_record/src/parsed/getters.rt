@@ -38,7 +38,7 @@ impl Parsed {
         self.short(YEAR_CENTURY)
     }
 
-    /// Whether the century is negative, -0 included; `None` if no century is set.
+    /// Whether the century of the calendar year is negative, -0 included; `None` if no century is set.
     #[inline]
     pub fn year_century_is_negative(&self) -> Option<bool>
         ensures { result ≡ option_map (λ _. self.now.year_century_is_negative)
@@ -78,7 +78,7 @@ impl Parsed {
         self.short(ISO_YEAR_CENTURY)
     }
 
-    /// Whether the ISO century is negative, -0 included; `None` if no ISO century is set.
+    /// Whether the century of the ISO 8601 year is negative, -0 included; `None` if no ISO century is set.
     #[inline]
     pub fn iso_year_century_is_negative(&self) -> Option<bool>
         ensures { result ≡ option_map (λ _. self.now.iso_year_century_is_negative)

@@ -51,8 +51,8 @@ pub(super) fn step<'a>(
     }
 }
 
-// Parses a literal of one byte: `Some(Some(rest))`. `Some(None)`: the input doesn't begin with it. `None`: the literal
-// has several bytes, since the first step of `behind` is a further byte.
+// Parses a literal of one byte. Returns `Some(Some(rest))`; `Some(None)` if the input doesn't begin with that byte; or
+// `None` if the literal has several bytes: the first step of `behind` is its second byte.
 #[inline(always)]
 fn only_byte<'a>(byte: u8, behind: &[Step], input: &'a [u8]) -> Option<Option<&'a [u8]>>
     ensures read { (r : Record) → MayAttempt greatest_year (literal (byte ∷ further behind.now)) input.now r result r }

@@ -16,9 +16,9 @@ use crate::{Parsed, Tries};
 use time_components::{Group, Step, steps_after};
 use time_values::error::ParseFromDescription;
 
-/// Parses the steps one after the other at the start of the input, and counts the list and the items inside it that are
-/// visited. Returns the remaining input, or an error with the record unchanged. If one group of alternatives is the
-/// whole list, the list needs no loop, and no copy of the record.
+/// Parses the steps of a description at the start of the input into the record. Adds the number of items visited, and 1
+/// for the list itself, to `tries`. Returns the remaining input, or an error with the record unchanged. If one group of
+/// alternatives is the whole list, the list needs no loop, and no copy of the record.
 #[inline(always)]
 pub fn walk_steps<'a>(
     steps: &[Step],
@@ -31,7 +31,7 @@ pub fn walk_steps<'a>(
 {
     match steps {
         [Step::Group(Group::First, len), choices @ ..] if *len >= choices.len() => {
-            // One for the list, and one for the choice in it.
+            // Counts 1 for the list, and 1 for the group of alternatives in it.
             tries.add(2);
             walk_first(choices, parsed, input, tries)
         }
@@ -39,7 +39,7 @@ pub fn walk_steps<'a>(
     }
 }
 
-/// Parses the steps at the start of the input as a list, and counts it and the items inside it that are visited.
+/// Parses the steps as a list into the record. Adds the number of items visited, and 1 for the list, to `tries`.
 /// Returns the remaining input, or the error of the first item that doesn't match, with the record unchanged.
 #[cycle(steps)]
 pub fn walk_list<'a>(
@@ -52,7 +52,7 @@ pub fn walk_list<'a>(
     ensures counts { Counts greatest_year (steps_shape steps.now) input.now parsed.old tries.old tries.new }
 {
     let before = *parsed;
-    // The list itself counts as one more.
+    // The number of steps left, plus 1 in the first round, which counts the list itself.
     let mut uncounted = steps.len() + 1;
     let mut left = steps;
     let mut rest = input;
@@ -80,10 +80,10 @@ pub fn walk_list<'a>(
     }
 }
 
-// Parses items of one step one after the other, each at most once. Returns the steps from the first item on that isn't
-// parsed (none if all are), the remaining input at that item, and its error if it is known not to match. The values of
-// the items before it are stored, also with an error. No walk is called in this loop, so it needs no room for a walk's
-// result.
+// Parses literals of one byte and components in turn, as far as the fast paths cover them. Returns the steps from the
+// first item on that isn't parsed (none if all are), the remaining input at that item, and its error if it is known not
+// to match. The values of the items before it are stored, also with an error. The loop calls no walk, so it needs no
+// room for a walk's result.
 #[inline(always)]
 fn read_steps<'s, 'a>(
     steps: &'s [Step],
@@ -109,7 +109,7 @@ fn read_steps<'s, 'a>(
     (left, rest, None)
 }
 
-// The error of a leaf of one step that doesn't match: `fault` of a component, or else `InvalidLiteral`.
+// The error of a leaf of one step that doesn't match: for a component what `fault` returns, and else `InvalidLiteral`.
 #[inline(always)]
 fn step_fault(step: &Step) -> ParseFromDescription
     ensures { (behind : List Step) → refusal_of_description result ≡ leaf_refusal (tree_at steps_trees step.now behind) }
@@ -120,9 +120,9 @@ fn step_fault(step: &Step) -> ParseFromDescription
     }
 }
 
-// Parses the item of a step, with the steps of `behind` that belong to it, and counts the items visited. Returns the
-// remaining input, or an error with the record unchanged. With `Ok(..?)` a result is returned in parts, instead of
-// being stored in memory for the callers.
+// Parses the item that begins with `step`; its further steps, if any, are the first ones of `behind`. Counts the items
+// visited. Returns the remaining input, or an error with the record unchanged. `Ok(..?)` returns a result in parts,
+// instead of storing it in memory for the callers.
 #[cycle(steps)]
 #[inline(always)]
 fn walk_item<'a>(
@@ -151,7 +151,7 @@ fn walk_item<'a>(
     }
 }
 
-// Parses a group of these steps: as a list, an optional list, or alternatives. Counts the group and the items visited.
+// Parses these steps as a list, an optional list, or alternatives, by `group`. Counts the group and the items visited.
 #[cycle(steps)]
 #[inline(always)]
 fn walk_group<'a>(
@@ -179,8 +179,8 @@ fn walk_group<'a>(
     }
 }
 
-// Parses optional steps, and returns the remaining input. If they don't match, that is the whole input, and the record
-// is unchanged. Counts the list of the steps and the items visited in it, without the optional group around it.
+// Parses the steps inside an optional group. Returns the remaining input, which is the whole input, with the record
+// unchanged, if they don't match. Counts the list of the steps and the items visited in it, but not the group.
 #[cycle(steps)]
 #[inline(always)]
 #[tactic(auto, unfolding(crate::specs::Reading::Reads))]
@@ -199,8 +199,8 @@ fn walk_optional<'a>(
     }
 }
 
-// Parses the first item of the steps that matches. If none does, returns the first one's error, with the record
-// unchanged. Without steps, returns the whole input. Counts the items visited, without the group around them.
+// Parses the first item of the steps that matches. If none does, returns the first item's error, with the record
+// unchanged. Without steps, returns the whole input. Counts the items visited, but not the group around them.
 #[cycle(steps)]
 fn walk_first<'a>(
     steps: &[Step],
@@ -267,8 +267,8 @@ fn read_literal<'a>(
     }
 }
 
-// The input after the further bytes of a literal at the start of the steps. `None` if the input doesn't begin with
-// them.
+// The input after the further bytes of a literal (`Step::More`), which the steps begin with. `None` if the input
+// doesn't begin with these bytes.
 fn after_bytes<'a>(steps: &[Step], input: &'a [u8]) -> Option<&'a [u8]>
     ensures { MatchOption result ((x : List ℕ) → input.now ≢ steps_.further steps.now ++ x)
         (λ rest. input.now ≡ steps_.further steps.now ++ rest.now) }

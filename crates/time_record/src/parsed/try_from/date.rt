@@ -33,8 +33,8 @@ impl TryFrom<Parsed> for Date {
     }
 }
 
-// The date of a record, by the first of the five sets of components that is complete, with the errors of
-// `Date::try_from`.
+// The date of the first of these sets that is complete: year and ordinal; year, month and day; ISO year, week and
+// weekday; year, Sunday week and weekday; year, Monday week and weekday. The errors are those of `Date::try_from`.
 #[inline(never)]
 #[tactic(auto, unfolding(crate::specs::Resolution::IsDated))]
 pub(super) fn date_of_rows(parsed: &Parsed) -> Result<Date, TryFromParsed>
@@ -64,7 +64,7 @@ pub(super) fn date_of_rows(parsed: &Parsed) -> Result<Date, TryFromParsed>
     Err(TryFromParsed::InsufficientInformation)
 }
 
-// The year, or, if it isn't set, that of the century and the last two digits. `None` if one of these isn't set either.
+// The calendar year, if set, or else the year of its century and last two digits; `None` if one of these isn't set.
 #[inline]
 fn calendar_year(parsed: &Parsed) -> Option<i32>
     ensures value { result ≡ full_year parsed.now }
@@ -93,8 +93,8 @@ fn iso_year(parsed: &Parsed) -> Option<i32>
     Some(joined_year(century, is_negative, parsed.iso_year_last_two()?))
 }
 
-// The year of a century and two last digits: -19 and 50 is -1950. The flag is the century's sign, also for a 0: -0 and
-// 50 is -50.
+// The year of a century and the last two digits: -19 and 50 make -1950. `is_negative` is the sign of the century, which
+// may be -0: -0 and 50 make -50.
 #[inline]
 fn joined_year(century: i16, is_negative: bool, last_two: u8) -> i32
     requires century { unsigned_abs century ≤ greatest_year / 100 }
@@ -157,8 +157,8 @@ fn week_date(year: i32, week: u8, weekday: Weekday, start: Weekday) -> Result<Da
         (days_from_monday weekday) d → ⊥) × (e ≡ range (codes "ordinal") true)) }
 {
     let first = Date::from_ordinal_date(year, 1)?.weekday();
-    // The place in the year, counted so that 1 January is 8: the first day of week 1, plus whole weeks and the days
-    // since `start`.
+    // The day of the year plus 7, so that 1 January is 8, and week 0 needs no negative number: the first day of week 1,
+    // 7 days for each week, and the days from `start` to the weekday.
     let shifted = days_since(start, first) + 1 + 7 * week as u16 + days_since(weekday, start);
     if shifted <= 7 {
         return Err(TryFromParsed::ComponentRange(ComponentRange {
@@ -169,7 +169,7 @@ fn week_date(year: i32, week: u8, weekday: Weekday, start: Weekday) -> Result<Da
     Ok(Date::from_ordinal_date(year, shifted - 7)?)
 }
 
-// The number of days, 0 to 6, from the weekday `start` to the next `weekday`.
+// The number of days, 0 to 6, from the weekday `start` to the next `weekday`; 0 if they are equal.
 #[inline]
 fn days_since(weekday: Weekday, start: Weekday) -> u16
     ensures { result ≡ (days_from_monday weekday + 7 - days_from_monday start) % 7 }

@@ -16,7 +16,7 @@ use crate::parsed::try_from::time::{is_leap_second, offset_of};
 use std::num::NonZero;
 use time_values::{Date, Month, OffsetDateTime, PlainDateTime, Time, UtcOffset};
 
-// The date of a year, month and day. `None`: one isn't set, an ordinal is, or no date has these numbers.
+// The date of the record's year, month and day. `None` if one isn't set, an ordinal is set, or no such date exists.
 #[inline(always)]
 #[tactic(auto, unfolding(crate::specs::Resolution::IsDated))]
 fn date(parsed: &Parsed) -> Option<Date>
@@ -43,8 +43,8 @@ pub(super) fn year_month_day(parsed: &Parsed) -> Option<(i32, Month, NonZero<u8>
     Some((parsed.year()?, parsed.month()?, parsed.day()?))
 }
 
-// The time of an hour of the day, a minute, a second, and the subsecond or 0. `None`: one of the first three isn't set,
-// or the second is 60.
+// The time of the record's hour of the day, minute, second and subsecond, where a missing subsecond is 0. `None` if one
+// of the first three isn't set, or the second is 60.
 #[inline(always)]
 #[tactic(auto, unfolding(crate::specs::Resolution::IsTimed))]
 fn time(parsed: &Parsed) -> Option<Time>
@@ -100,7 +100,7 @@ pub(super) fn moment(parsed: &Parsed) -> Option<OffsetDateTime>
     moment_of_parts(parsed)
 }
 
-// The moment of a date, a time and an offset, without regard to a timestamp. `None` if one of the three is `None`.
+// The moment of the record's date, time and offset; a timestamp is ignored. `None` if one of the three is `None`.
 #[inline(always)]
 #[tactic(auto, unfolding(crate::specs::Resolution::IsMomentOfParts))]
 fn moment_of_parts(parsed: &Parsed) -> Option<OffsetDateTime>
@@ -115,7 +115,7 @@ fn moment_of_parts(parsed: &Parsed) -> Option<OffsetDateTime>
     Some(OffsetDateTime::new_in_offset(date, time, offset))
 }
 
-// The offset of a record. `None`: the conversion fails, since no offset hour is set.
+// The offset of a record, or `None` if no offset hour is set.
 #[inline(always)]
 fn offset(parsed: &Parsed) -> Option<UtcOffset>
     ensures { IfSome result (λ o. IsOffset parsed.now (Ok o)) }

@@ -16,8 +16,8 @@ use crate::parsed::try_from::time::{
 use time_values::OffsetDateTime;
 use time_values::error::TryFromParsed;
 
-// The moment of a record. This is not a fast path, but moves code: it inlines the errors of the usual
-// components, so that a record whose components the compiler knows needs no memory.
+// The moment of a record, or its error, as `OffsetDateTime::try_from` returns them. This is not a fast path: it inlines
+// the usual components' conversion, so that a record needs no memory if the compiler knows which components it has.
 #[inline(always)]
 #[tactic(auto, unfolding(crate::specs::Resolution::IsMoment))]
 pub(super) fn moment_or_refusal(parsed: &Parsed) -> Result<OffsetDateTime, TryFromParsed>
@@ -42,8 +42,8 @@ fn moment_of(parsed: &Parsed) -> Result<OffsetDateTime, TryFromParsed>
     }
 }
 
-// The moment at that number of nanoseconds since 1970-01-01T00:00:00Z, at offset 0. A given subsecond replaces its
-// nanosecond of the second.
+// The moment at `nanos` nanoseconds since 1970-01-01T00:00:00Z, at offset 0. If `subsecond` is given, it replaces the
+// nanoseconds of the moment's second.
 #[inline]
 fn moment_at(nanos: i128, subsecond: Option<u32>) -> Result<OffsetDateTime, TryFromParsed>
     requires nanos { IsTrue (is_instant greatest_year nanos) }
@@ -60,7 +60,7 @@ fn moment_at(nanos: i128, subsecond: Option<u32>) -> Result<OffsetDateTime, TryF
 }
 
 // The moment of a record's date, time and offset, or the first error of these, in that order. A leap second that is
-// allowed counts as the last nanosecond before it; if that isn't a month's end in UTC, the error is `misplaced`.
+// allowed counts as the last nanosecond before it; if that isn't a month's end in UTC, an error names `second`.
 #[inline(always)]
 #[tactic(auto, unfolding(crate::specs::Resolution::IsMomentOfParts))]
 fn moment_of_parts(parsed: &Parsed) -> Result<OffsetDateTime, TryFromParsed>
@@ -78,7 +78,7 @@ fn moment_of_parts(parsed: &Parsed) -> Result<OffsetDateTime, TryFromParsed>
 }
 
 // Whether the record has no allowed leap second, or the moment is the last nanosecond of a month in UTC. The moment is
-// a copy here, so that it stays in registers if no leap second is known.
+// passed by value, so that it stays in registers if the record has no leap second.
 #[inline(always)]
 fn is_leap_second_valid(parsed: &Parsed, moment: OffsetDateTime) -> bool
     ensures stands { IsTrue result → IsTrue (is_leap_second parsed.now)

@@ -104,7 +104,7 @@ pub(super) fn offset_of(parsed: &Parsed) -> Result<UtcOffset, TryFromParsed>
     }
 }
 
-// The offset of a record that has that hour; never an error.
+// The offset of a record whose offset hour is `hour`, with its minutes and seconds; never an error.
 #[inline(always)]
 #[tactic(auto, unfolding(crate::specs::Resolution::IsOffset))]
 fn offset_of_hour(hour: i8, parsed: &Parsed) -> Result<UtcOffset, TryFromParsed>
@@ -115,7 +115,7 @@ fn offset_of_hour(hour: i8, parsed: &Parsed) -> Result<UtcOffset, TryFromParsed>
     Ok(UtcOffset::from_hms(hour, minute, second_below(parsed))?)
 }
 
-// The seconds of the offset, or 0 if they or its minutes aren't set.
+// The seconds of the offset, as the signed getter returns them, or 0 if they or the offset's minutes aren't set.
 #[inline(always)]
 fn second_below(parsed: &Parsed) -> i8
     ensures { result ≡ offset_seconds_of parsed.now }
@@ -126,7 +126,7 @@ fn second_below(parsed: &Parsed) -> i8
     }
 }
 
-// Whether the record's second is a leap second that is allowed.
+// Whether the record's second is 60 and leap seconds are allowed.
 #[inline(always)]
 pub(super) fn is_leap_second(parsed: &Parsed) -> bool
     ensures { result ≡ Resolution.is_leap_second parsed.now }
@@ -134,7 +134,7 @@ pub(super) fn is_leap_second(parsed: &Parsed) -> bool
     parsed.is_leap_second_allowed() && parsed.second() == Some(60)
 }
 
-// The second and the subsecond of a record. A leap second is replaced by the last nanosecond before it.
+// The second and the subsecond of a record, or 59 and 999999999 if the second is a leap second that is allowed.
 #[inline(always)]
 pub(super) fn replace_leap_second(parsed: &Parsed) -> (Option<u8>, Option<u32>)
     ensures { record parsed.now { second = result.0; subsecond = result.1 }

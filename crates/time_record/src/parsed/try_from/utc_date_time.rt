@@ -37,8 +37,8 @@ impl TryFrom<Parsed> for UtcDateTime {
     }
 }
 
-// The moment at that number of nanoseconds since 1970-01-01T00:00:00Z. A given subsecond replaces its nanosecond of the
-// second.
+// The moment at `nanos` nanoseconds since 1970-01-01T00:00:00Z. If `subsecond` is given, it replaces the nanoseconds of
+// the moment's second.
 #[inline]
 fn moment_at(nanos: i128, subsecond: Option<u32>) -> Result<UtcDateTime, TryFromParsed>
     requires nanos { IsTrue (is_instant greatest_year nanos) }
@@ -55,7 +55,7 @@ fn moment_at(nanos: i128, subsecond: Option<u32>) -> Result<UtcDateTime, TryFrom
 
 // The moment in UTC of a record's date, time and offset, or the first error of these, in that order. Without an
 // offset's hour the offset is 0. An error names `year` if the moment has no date in UTC. A leap second that is allowed
-// counts as the last nanosecond before it; if that isn't a month's end in UTC, the error is `misplaced`.
+// counts as the last nanosecond before it; if that isn't a month's end in UTC, an error names `second`.
 #[inline]
 #[tactic(auto, unfolding(crate::specs::Resolution::IsUtcMomentOfParts))]
 pub(super) fn moment_of_parts(parsed: &Parsed) -> Result<UtcDateTime, TryFromParsed>

@@ -86,10 +86,10 @@ bracketed text =
 
 -- ---- How a parser of items appends steps
 
--- A text starts `begun` steps after the old ones, with room for n in all. If they fit, they are appended, as the steps
--- of what was read, and the result is the remaining text; or the result is the first fault. If they don't fit, the
--- result is `NoRoom`, and then n is less than the old steps and `bytes` together. The appended steps and the remaining
--- bytes together are at most `bytes`. After an error, the new steps are unspecified.
+-- The result and the new steps of a parser that appends to `old`, with room for n steps in all. The text parses as
+-- `read`, and starts `begun` steps. If these fit, they are appended, as `steps` of what is read, and the result is the
+-- rest; or it is the fault in `read`. Otherwise it is `NoRoom`, and n is less than the old steps and `bytes` together.
+-- The appended steps and the rest's bytes together are at most `bytes`. After an error, the new steps are unspecified.
 abbrev pub Adds : {A : Type 0} → (A → List Step) → ℕ → Read A → ℕ → ℕ
     → List Step → Result (Bor (List ℕ)) Fault → List Step → Type 0
 Adds {A} steps n read begun bytes old (Ok rest) new =

@@ -20,18 +20,18 @@ abbrev pub are_plain : Bool → List ℕ → Bool
 are_plain nested [] = true
 are_plain nested (b ∷ bytes) = is_plain versions.Two nested b && are_plain nested bytes
 
--- whether a text of version 2 can describe the bytes as one literal, inside a list if `nested`: they are one escaped
--- byte, or they aren't empty and none needs a backslash
+-- whether a text of version 2 can describe the bytes as one literal, inside a list if `nested`: they are one byte `[`,
+-- `\` or `]`, or they aren't empty and none needs a backslash
 abbrev pub is_literal : Bool → List ℕ → Bool
 is_literal nested [] = false
 is_literal nested (b ∷ bytes) = is_escape (b ∷ bytes) || are_plain nested (b ∷ bytes)
 
--- whether the tree is a literal other than one escaped byte; two of these in a row would be parsed as one literal
+-- whether the tree is a literal other than `[`, `\` or `]` alone; two of these in a row would be parsed as one literal
 abbrev pub is_run : Tree → Bool
 is_run (literal bytes) = not (is_escape bytes)
 is_run _ = false
 
--- whether the first tree is a literal other than one escaped byte; false for no trees
+-- whether the first tree is a literal other than `[`, `\` or `]` alone; false for no trees
 abbrev pub begins_run : Trees → Bool
 begins_run none = false
 begins_run (more t ts) = is_run t

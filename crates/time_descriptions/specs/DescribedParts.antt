@@ -77,8 +77,8 @@ padding_part (component.OffsetMinute m) = padding_text m.padding
 padding_part (component.OffsetSecond m) = padding_text m.padding
 padding_part _ = []
 
--- the component's modifier after the padding, with a space before it; empty if the modifier has its default, or if the
--- component has no such modifier
+-- a space and the component's modifier `case_sensitive`, `one_indexed`, `sign`, `digits` or `trailing_input`; empty if
+-- it has the default, or if the component has none of these
 abbrev pub modifier_part : Component → List ℕ
 modifier_part (component.MonthShort m) = case_sensitive_text m.case_sensitive
 modifier_part (component.MonthLong m) = case_sensitive_text m.case_sensitive
@@ -109,7 +109,7 @@ abbrev pub count_part : Component → List ℕ
 count_part (component.Ignore m) = decimal m.count.value
 count_part _ = []
 
--- the text between the brackets of a component: its name, padding, other modifier and count, each as its part
+-- the text between the brackets of a component: its name, its padding, its other modifier and its count, in order
 abbrev pub parts_of : Component → List ℕ
 parts_of c = name_part c ++ (padding_part c ++ (modifier_part c ++ count_part c))
 

@@ -66,7 +66,7 @@ HasPieces text tree =
 
 -- ---- Laws of descriptions
 
--- a text describes at most one tree
+-- in each version, a text describes at most one tree
 abbrev pub OneDescription : Type 0
 OneDescription = (version : Version) (text : List ℕ) (a b : Tree) → Describes version text a
     → Describes version text b → a ≡ b
@@ -87,7 +87,7 @@ VersionsAgree = (text : List ℕ) → has_no_escape text ≡ true
     → ((tree : Tree) → (Describes versions.One text tree ↔ Describes versions.Two text tree))
     × ((n : ℕ) (r : Refusal) → (IsRefused n versions.One text r ↔ IsRefused n versions.Two text r))
 
--- The canonical text of a tree describes it, if any text does.
+-- The canonical text of a tree describes it in version 2, if any text does.
 abbrev pub DescribedBack : Type 0
 DescribedBack = (text : List ℕ) (tree : Tree) → Describes versions.Two text tree
     → Describes versions.Two (tree_text tree) tree
@@ -99,7 +99,7 @@ OneStrftimeOutcome = (n : ℕ) (text : List ℕ) (r : Refusal) → IsRefusedStrf
     → ((s : Refusal) → IsRefusedStrftime n text s → r ≡ s)
     × ((tree : Tree) → DescribesStrftime text tree → Fits n text → ⊥)
 
--- A text that is rejected, with room for n steps, has exactly one error, and describes no tree in at most n steps.
+-- In each version, a text rejected with room for n steps has exactly one error, and describes no tree in up to n steps.
 abbrev pub OneOutcome : Type 0
 OneOutcome = (n : ℕ) (version : Version) (text : List ℕ) (r : Refusal) → IsRefused n version text r
     → ((s : Refusal) → IsRefused n version text s → r ≡ s)

@@ -100,7 +100,7 @@ group_word (b ∷ rest) =
     let len = prefix_len is_of_word named in
     if b == 91 then option_map (λ g. (g, drop len named)) (group_named (take len named)) else None
 
--- the white space that is expected after the group's word
+-- what is expected after the group's word if no white space follows it: white space after `optional`, or after `first`
 abbrev pub space_after : Group → Expectation
 space_after groups.Optional = expected.SpaceAfterOptional
 space_after _ = expected.SpaceAfterFirst
@@ -181,11 +181,11 @@ item version (suc depth) nested text =
 abbrev pub items : Version → ℕ → Bool → List ℕ → Read (List Item)
 items version depth nested text = items_by (item version depth nested) (length text) nested text
 
--- how deep lists may nest, outermost lists included
+-- how deep the lists of optional items and choices may nest, with the outermost of them as the first level
 abbrev pub most_lists : ℕ
 most_lists = 8
 
--- description: its items and the empty text after them, or the first fault
+-- the items of the whole text as a description, and the empty text after them; or the first fault
 abbrev pub description : Version → List ℕ → Read (List Item)
 description version text = items version most_lists false text
 
@@ -211,12 +211,12 @@ items_step_count item begun (suc n) nested text =
     if ends nested text then 0
     else begun text + counted (λ x. items_step_count item begun n nested x.1) (item text)
 
--- how many steps the items of a list start, given the text after its opening bracket
+-- how many steps the items of a list start, given the text after its opening bracket; `begun` counts those of one item
 abbrev pub list_step_count : (List ℕ → Read Item) → (List ℕ → ℕ) → List ℕ → ℕ
 list_step_count item begun text = items_step_count item begun (length text) true text
 
 -- how many steps at most n lists start, with one step for each list itself, given the text after the first one's
--- opening bracket; `opening` only locates faults
+-- opening bracket; `begun` counts the steps that one item starts, and `opening` only locates faults
 unfoldable pub lists_step_count : (List ℕ → Read Item) → (List ℕ → ℕ) → ℕ → ℕ → List ℕ → ℕ
 lists_step_count item begun opening zero text = 0
 lists_step_count item begun opening (suc n) text =
@@ -229,7 +229,7 @@ inside_step_count item begun opening groups.Optional text = list_step_count item
 inside_step_count item begun opening _ text = lists_step_count item begun opening (suc (length text)) text
 
 -- how many steps a group starts, with one step for itself, given the group and the text after its word; none if its
--- first list isn't opened
+-- first list isn't opened; `begun` counts the steps that one item starts
 unfoldable pub group_step_count : (List ℕ → Read Item) → (List ℕ → ℕ) → ℕ → Group × List ℕ → ℕ
 group_step_count item begun opening found =
     counted (λ text. 1 + inside_step_count item begun opening found.0 text) (opened found.0 found.1)

@@ -61,7 +61,7 @@ flat is = all_steps_of (items_of is)
 
 -- ---- Items without other items inside them
 
--- the item of a leaf
+-- a leaf, which is a literal or a component, as an item
 abbrev pub leaf_item : Leaf → Item
 leaf_item (leaf.Literal b bytes) = literal b bytes.now
 leaf_item (leaf.Component c) = component c

@@ -79,7 +79,7 @@ abbrev pub unsupported_text : Unsupported → List ℕ
 unsupported_text unsupported.DeepList = codes "a list in more than seven others"
 unsupported_text unsupported.Conversion = codes "this conversion"
 
--- the words that name the kind of description that doesn't support it
+-- the words that name the kind of description that doesn't support this: `a description` or `a strftime description`
 abbrev pub context_text : Unsupported → List ℕ
 context_text unsupported.DeepList = codes "a description"
 context_text unsupported.Conversion = codes "a strftime description"

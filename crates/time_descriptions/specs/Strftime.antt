@@ -73,8 +73,8 @@ components =
     ∷ (87, component.WeekNumberMonday (record { padding = padding.Zero }))
     ∷ []
 
--- the other letters except "z", with the bytes that they abbreviate: D x F R T X r c n t %; a byte that is a letter of
--- `components` abbreviates its component, and another byte is literal
+-- the letters, except "z", that have a meaning but aren't in `components`, with the bytes that they abbreviate:
+-- D x F R T X r c n t %; a byte that is a letter of `components` abbreviates its component, and another byte is literal
 unfoldable pub shorthands : Rows (List ℕ)
 shorthands =
     (68, codes "m/d/y")
@@ -90,7 +90,7 @@ shorthands =
     ∷ (37, codes "%")
     ∷ []
 
--- the item of a byte in a shorthand: the component of that letter, or else the byte
+-- the item of a byte in a shorthand: the component of that letter, or else the byte as a literal
 abbrev pub item_of_byte : ℕ → Item
 item_of_byte b = by_option (literal b []) component_item (row_of components b)
 
@@ -125,7 +125,7 @@ flags =
     ∷ (58, flag.Colon)
     ∷ []
 
--- the component with that padding instead of its own; `None` if it has no padding, or if no letter means it alone
+-- the component with its padding replaced by that; `None` if it has no padding, or if no letter means its variant alone
 unfoldable pub with_padding : Padding → Component → Option Component
 with_padding p (component.Day m) = Some (component.Day (record m { padding = p }))
 with_padding p (component.MonthNumerical m) = Some (component.MonthNumerical (record m { padding = p }))
@@ -159,7 +159,7 @@ pointed_fraction =
     (items_of (literal 46 [] ∷ component_item (component.Subsecond (record { digits = digits.OneOrMore })) ∷ []))
     ∷ []
 
--- the offset as "z" means it, with a colon between its hours and its minutes
+-- the meaning of ":z": the hours with a mandatory sign, a colon, and the minutes, both numbers padded with zeros
 abbrev pub colon_offset : List Item
 colon_offset =
     component_item (component.OffsetHour (record { padding = padding.Zero; sign_is_mandatory = true })) ∷ literal 58 []

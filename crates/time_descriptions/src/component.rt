@@ -90,8 +90,8 @@ fn after_component(text: &[u8], opening: usize) -> Result<&[u8], Fault>
 }
 
 /// The component in the brackets at the start of the text, and the text after its closing bracket; or the first fault.
-/// The first byte must be the opening bracket, and isn't checked. The missing `count` of an `ignore` is the fault only
-/// if its brackets have no other fault.
+/// The text must not be empty; its first byte is taken as the opening bracket, unchecked. The missing `count` of an
+/// `ignore` is the fault only if the brackets have no other fault.
 #[tactic(auto, unfolding(crate::specs::Components::bracketed))]
 pub fn bracketed(text: &[u8]) -> Result<(Component, &[u8]), Fault>
     requires { 1 ≤ length text.now }

@@ -9,7 +9,7 @@ use crate::items::add_items;
 use crate::leaf::{Step, Version};
 use arrayvec::ArrayVec;
 
-/// How deep lists may nest, with the outermost lists as the first level.
+/// How deep the lists of optional items and choices may nest, with the outermost of them as the first level.
 pub(crate) const MOST_LISTS: usize = 8;
 
 /// A description of the text of a date, a time or an offset, of at most `N` steps.
@@ -23,8 +23,8 @@ pub struct Description<const N: usize> {
 }
 
 impl<const N: usize> Description<N> {
-    /// The steps, at most `N`, in the order of the text; none for an empty text. A group contains as many of the steps
-    /// after it as its length states.
+    /// The steps, at most `N`, in the order of the text; none for an empty text. A `Step::Group` with the length `len`
+    /// contains the `len` steps after it, those of inner groups included.
     pub fn steps(&self) -> &[Step]
         ensures steps { result.now ≡ self.now.steps.items }
         ensures bound { length result.now ≤ N }
@@ -44,7 +44,7 @@ pub(crate) fn version_of(number: usize) -> Version
     }
 }
 
-/// Parses a description of version 1 or 2: components in brackets, literal bytes, `[optional [..]]`, and
+/// Parses a description of version 1 or 2, by `VERSION`: components in brackets, literal bytes, `[optional [..]]`, and
 /// `[first [..] [..]]` with one list or more. A literal `[` is `[[` in version 1; in version 2 a backslash escapes a
 /// bracket or a backslash. The names of components, and the keys and the values of modifiers, are in any ASCII case,
 /// `optional` and `first` in lowercase. Lists nest at most 8 deep. An empty text is a description without steps.

@@ -7,8 +7,8 @@ ghost use Rattle.time_descriptions.specs.Refusal.{refusal_at, refusal_of, refusa
 use crate::names::{after, front};
 use std::fmt;
 
-/// Why a text isn't a description. An index counts bytes of the text from 0; it equals the text's length if the error
-/// is at its end.
+/// Why a text isn't parsed as a description. All errors but `TooLong` have a byte index in the text, counted from 0; it
+/// equals the text's length if the error is at the text's end.
 #[derive(Clone, Copy, Debug, PartialEq, Eq)]
 pub enum InvalidFormatDescription<'a> {
     /// An opening bracket is never closed, or something else is found instead of its closing bracket.
@@ -199,7 +199,7 @@ fn unsupported_text(what: Unsupported) -> &'static str
     }
 }
 
-// The words that name the kind of description that doesn't support it.
+// The words that name the kind of description that doesn't support `what`.
 fn context_text(what: Unsupported) -> &'static str
     ensures { result.now ≡ refusal.context_text what }
 {
@@ -210,7 +210,7 @@ fn context_text(what: Unsupported) -> &'static str
 }
 
 impl<'a> InvalidFormatDescription<'a> {
-    // The error of a fault in the text.
+    // The error of a fault in the text: its index replaces the number of bytes left. For `NoRoom` it is `TooLong`.
     pub(crate) fn at(text: &'a [u8], fault: Fault) -> InvalidFormatDescription<'a>
         ensures { refusal_of result ≡ refusal_at text.now fault }
     {
@@ -255,7 +255,7 @@ impl<'a> InvalidFormatDescription<'a> {
     }
 }
 
-/// What is expected where the text has something else, or ends.
+/// What is expected where the text has something else, or ends: an escaped byte, white space, a bracket or a modifier.
 #[derive(Clone, Copy)]
 pub enum Expectation {
     /// A bracket or a backslash after a backslash, in version 2.
@@ -270,7 +270,7 @@ pub enum Expectation {
     Modifier,
 }
 
-/// What isn't supported, although its syntax is known.
+/// What isn't supported, although its syntax is known: a list nested too deep, or strftime's `%E`, `%O` or `%Z`.
 #[derive(Clone, Copy)]
 pub enum Unsupported {
     /// A list in more than seven others.
@@ -279,8 +279,8 @@ pub enum Unsupported {
     Conversion,
 }
 
-/// The first fault from the left, with the number of bytes from its place to the end of the text. A parser that sees
-/// only the remaining text knows this number, and the index follows from it.
+/// The first fault from the left, with `left`, the number of bytes from its place to the end of the whole text, which
+/// gives its index; or `NoRoom` if there are too many steps. A parser that sees only the remaining text knows `left`.
 #[derive(Clone, Copy)]
 pub enum Fault {
     /// An opening bracket is never closed, or something else is found instead of its closing bracket.

@@ -54,8 +54,8 @@ pub(crate) fn group_word(text: &[u8]) -> Option<(Group, &[u8])>
     }
 }
 
-// The text after the bracket that opens a group's first list. The given text begins after the group's word. Without
-// white space there, the error is that white space is expected, and without a bracket after it, that a bracket is.
+// The text after the bracket that opens a group's first list. The given text begins after the group's word. The error
+// is `Expected`: white space if none begins the text, or else the bracket if it doesn't follow the white space.
 #[tactic(auto, unfolding(crate::specs::Grammar::opened))]
 pub(crate) fn opened(group: Group, text: &[u8]) -> Result<&[u8], Fault>
     ensures reads { Returns (λ x. x.now) result (grammar.opened group text.now) }
@@ -129,7 +129,7 @@ pub(crate) fn push<const N: usize>(steps: &mut ArrayVec<Step, N>, step: Step) ->
     }
 }
 
-// Appends the steps of a leaf. The error is `NoRoom` if not all fit; some may then have been appended.
+// Appends the steps of a literal or component. The error is `NoRoom` if not all fit; some may then have been appended.
 fn push_leaf<const N: usize>(steps: &mut ArrayVec<Step, N>, leaf: Leaf<'_>) -> Result<(), Fault>
     ensures ok { OnOk result (steps.new.items ≡ steps.old.items ++ steps_of (leaf_item leaf.entry)) }
     ensures room { OnOk result (length steps.new.items ≤ N) }
@@ -180,8 +180,8 @@ fn close_group<const N: usize>(steps: &mut ArrayVec<Step, N>, group: Group, inde
     steps[index] = Step::Group(group, len);
 }
 
-// Appends the leaf at the start of the text, inside a list if `nested`, and returns the text after it. The error is the
-// leaf's fault, or `NoRoom`.
+// Appends the steps of the literal or component at the start of the text, inside a list if `nested`, and returns the
+// text after it. The error is its first fault, or `NoRoom` if its steps don't fit.
 fn add_leaf<'a, const N: usize>(
     version: Version,
     nested: bool,
@@ -201,8 +201,8 @@ fn add_leaf<'a, const N: usize>(
     }
 }
 
-// Appends the item at the start of the text, inside a list if `nested`, and returns the text after it. Lists in the
-// item may nest `depth` deep.
+// Appends the steps of the item at the start of the text, inside a list if `nested`, and returns the text after it.
+// Lists in the item may nest `depth` deep; for 0, an optional item or a choice is the error `NotSupported`.
 #[cycle(items)]
 fn add_item<'a, const N: usize>(
     version: Version,
@@ -229,9 +229,9 @@ fn add_item<'a, const N: usize>(
     }
 }
 
-// Appends a group, and returns the text after its closing bracket. The given text begins after the group's word, and
-// lists in the group's lists may nest `depth` deep. `opening` counts the bytes from the group's opening bracket to the
-// end of the whole text.
+// Appends an optional item or a choice as a group, and returns the text after its closing bracket. The given text
+// begins after its word, `optional` or `first`. Lists in the group's lists may nest `depth` deep. `opening` counts the
+// bytes from the group's opening bracket to the end of the whole text.
 #[cycle(items)]
 fn add_group<'a, const N: usize>(
     version: Version,
@@ -260,8 +260,8 @@ fn add_group<'a, const N: usize>(
     }
 }
 
-// Appends the contents of a group whose first list is open, and returns the text after the bracket that closes its
-// last list. The group's own closing bracket isn't parsed.
+// Appends the contents of a group, given the text after the opening bracket of its first list. Returns the text after
+// the closing bracket of its last list. The group's own closing bracket isn't parsed.
 #[cycle(items)]
 fn add_inside<'a, const N: usize>(
     version: Version,
@@ -314,7 +314,7 @@ fn add_lists<'a, const N: usize>(
 }
 
 // Appends the items of a list whose opening bracket precedes the text, and returns the text after its closing bracket.
-// Without one, the error is at the group's bracket, by `opening`.
+// If that is missing, the error is `UnclosedOpeningBracket` at the group's opening bracket, by `opening`.
 #[cycle(items)]
 fn add_list<'a, const N: usize>(
     version: Version,
@@ -334,10 +334,10 @@ fn add_list<'a, const N: usize>(
     }
 }
 
-/// Appends the items at the start of the text, up to its end or, if `nested`, up to a closing bracket, and returns the
-/// remaining text, which is empty or begins with this bracket. Lists may nest `depth` deep. The error is `NoRoom`
-/// if the steps that the text starts up to its first fault or the end of the items don't fit, and otherwise this fault.
-/// After an error, some steps may have been appended.
+/// Parses the items at the start of the text, up to its end or, if `nested`, up to a closing bracket. Appends their
+/// steps, and returns the remaining text, which is empty or begins with this bracket. Lists may nest `depth` deep. The
+/// error is `NoRoom` if the steps started up to the first fault or the end of the items exceed `N` in all, and
+/// otherwise the first fault. After an error, some steps may have been appended.
 #[cycle(items)]
 pub fn add_items<'a, const N: usize>(
     version: Version,

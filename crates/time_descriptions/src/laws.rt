@@ -12,8 +12,8 @@ pub fn law_one_strftime_description()
     ensures { OneStrftimeDescription }
 {}
 
-/// In each version, a rejected text has exactly one error, and it describes no tree in as many steps as there is room
-/// for.
+/// In each version, a text that is rejected with room for n steps has exactly one error, and describes no tree in at
+/// most n steps.
 pub fn law_one_outcome()
     ensures { OneOutcome }
 {}
@@ -30,19 +30,19 @@ pub fn law_versions_agree()
     ensures { VersionsAgree }
 {}
 
-/// The canonical text of a tree describes the tree in version 2, if any text does.
+/// The canonical text of a tree, which `text_of` writes, describes the tree in version 2, if any text does.
 pub fn law_described_back()
     ensures { DescribedBack }
 {}
 
 /// A text describes a tree in strftime's syntax if and only if it splits into pieces that give the tree's items in
-/// order. A piece is a byte, a conversion, or a conversion with a flag; tables of letters and flags define its items.
+/// order. A piece is a byte but `%`, a conversion, or one with a flag; tables of letters and flags define its items.
 pub fn law_strftime_pieces()
     ensures { StrftimePieces }
 {}
 
-/// In strftime's syntax, a rejected text has exactly one error, and it describes no tree in as many steps as there is
-/// room for.
+/// In strftime's syntax, a text that is rejected with room for n steps has exactly one error, and describes no tree in
+/// at most n steps.
 pub fn law_one_strftime_outcome()
     ensures { OneStrftimeOutcome }
 {}

@@ -11,7 +11,7 @@ use crate::names::{after, front};
 use time_components::Component;
 pub use time_components::{Group, Step};
 
-/// An item without other items inside it.
+/// An item without other items inside it: a literal of one or more bytes, or a component.
 #[derive(Clone, Copy)]
 pub enum Leaf<'a> {
     /// The first byte of a literal, and its further bytes, which may be none.
@@ -57,9 +57,9 @@ fn escaped(text: &[u8]) -> Result<(Leaf<'_>, &[u8]), Fault>
     }
 }
 
-/// The literal, the escape or the component at the start of the text, and the text after it; or the first fault. A
-/// literal extends up to the first byte that isn't plain. `nested` means inside a list, where `]` ends a literal; but
-/// a `]` at the start of the text begins one. For an empty text, the error is `MissingComponentName`.
+/// The literal, escape or component at the start of the text, and the text after it; or the first fault, for an empty
+/// text `MissingComponentName`. A literal ends before `[`, in version 2 also before `\`, and if `nested` (in a list)
+/// before `]`; but a `]` may begin it. An escape is a literal byte: in version 1 `[[`, in version 2 `\[`, `\\` or `\]`.
 #[tactic(auto, unfolding(crate::specs::Grammar::leaf))]
 pub fn read_leaf(version: Version, nested: bool, text: &[u8]) -> Result<(Leaf<'_>, &[u8]), Fault>
     ensures reads { Returns (λ x. (leaf_item x.0, x.1.now)) result (grammar.leaf version nested text.now) }
@@ -85,7 +85,7 @@ pub fn read_leaf(version: Version, nested: bool, text: &[u8]) -> Result<(Leaf<'_
     }
 }
 
-/// A version of the syntax of descriptions. The two differ only in how a literal bracket or backslash is written.
+/// Version 1 or 2 of the syntax of descriptions. They differ only in how a literal bracket or backslash is written.
 #[derive(Clone, Copy)]
 pub enum Version {
     /// `[[` is a literal `[`, and a backslash is a literal byte.

@@ -8,14 +8,14 @@ use crate::leaf::Step;
 use crate::modifiers::component;
 use time_components::{Component, Padding, SubsecondDigits};
 
-// A letter, and its component: the one of that name with these modifiers.
+// A letter, and its component, given by the component's name and modifiers.
 macro_rules! row {
     ($letter:literal, $($component:tt)*) => {
         ($letter, component!($($component)*))
     };
 }
 
-// The letters that mean one component each.
+// The strftime letters that mean one component each.
 const COMPONENTS: [(u8, Component); 30] = [
     row!(b'a', WeekdayShort, case_sensitive: true),
     row!(b'A', WeekdayLong, case_sensitive: true),
@@ -49,8 +49,8 @@ const COMPONENTS: [(u8, Component); 30] = [
     row!(b'W', WeekNumberMonday, padding: Padding::Zero),
 ];
 
-// The other letters except `z`, with the bytes that they abbreviate. A byte that is a component's letter means the
-// component.
+// The strftime letters, except `z`, that have a meaning but aren't in `COMPONENTS`, and the bytes that they abbreviate.
+// A byte that is a letter in `COMPONENTS` means its component, and another byte is literal.
 const SHORTHANDS: [(u8, &[u8]); 11] = [
     (b'D', b"m/d/y"),
     (b'x', b"m/d/y"),
@@ -104,22 +104,22 @@ fn row_of<V: Copy>(rows: &[(u8, V)], letter: u8) -> Option<V>
     None
 }
 
-/// The component that the letter means. `None` for `z`, a shorthand and a letter without a meaning.
+/// The component that a strftime letter means. `None` for `z`, a shorthand such as `F`, and a letter without a meaning.
 pub fn component_of_letter(letter: u8) -> Option<Component>
     ensures { result ≡ row_of letters.components letter }
 {
     row_of(&COMPONENTS, letter)
 }
 
-/// The flag that the byte means. `None` if it isn't a flag.
+/// The flag that the byte means: `-`, `_`, `0`, `3`, `6`, `9`, `.` or `:`. `None` for any other byte.
 pub fn flag_of(byte: u8) -> Option<Flag>
     ensures { result ≡ row_of letters.flags byte }
 {
     row_of(&FLAGS, byte)
 }
 
-/// The bytes that the letter abbreviates, such as `Y-m-d` for `F`; each byte that is a component's letter means the
-/// component. `None` if the letter isn't a shorthand.
+/// The bytes that a strftime letter abbreviates, such as `Y-m-d` for `F`; each byte that is a component's letter means
+/// the component, and another byte is literal. `None` if the letter isn't a shorthand.
 pub fn shorthand(letter: u8) -> Option<&'static [u8]>
     ensures { Finds (λ bytes. bytes.now) result (row_of letters.shorthands letter) }
 {

@@ -15,7 +15,7 @@ macro_rules! component {
 
 pub(crate) use component;
 
-/// The values of the modifiers of any component. Each component uses only its own.
+/// The values of all modifiers that any component can have. A component uses only the values of its own modifiers.
 #[derive(Clone, Copy)]
 pub struct Modifiers {
     /// Whether the year is that of an ISO week date.
@@ -61,7 +61,7 @@ impl Modifiers {
         trailing_input: TrailingInput::Prohibit,
     };
 
-    // The values with one more modifier, which replaces an earlier value of its key. All other values are unchanged.
+    /// The values with one more modifier, which replaces an earlier value of its key. All other values are unchanged.
     pub fn with(mut self, modifier: Modifier) -> Modifiers
         ensures { result ≡ modifiers_.with_modifier self modifier }
     {
@@ -188,8 +188,8 @@ fn hour(modifiers: Modifiers) -> Component
     }
 }
 
-// The component with that name that the modifiers select. Returns `None` only for `ignore` without a count. Values of
-// modifiers that the component doesn't have are ignored.
+/// The component with that name that the modifiers select. Returns `None` only for `ignore` without a count. Values of
+/// modifiers that the component doesn't have are ignored.
 #[tactic(auto, unfolding(crate::specs::Modifiers::component_of))]
 pub fn component_of(name: ComponentName, modifiers: Modifiers) -> Option<Component>
     ensures { result ≡ modifiers_.component_of name modifiers }

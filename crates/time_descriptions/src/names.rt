@@ -8,7 +8,7 @@ ghost use Rattle.std.specs.Str.{str_eq_ignore_ascii_case};
 use std::num::NonZero;
 use time_components::modifier;
 
-/// The names of components in brackets.
+/// The name of a component, the first word in its brackets, such as `year` in `[year padding:none]`.
 #[derive(Clone, Copy)]
 pub enum ComponentName {
     /// `day`
@@ -47,7 +47,7 @@ pub enum ComponentName {
     Year,
 }
 
-/// The keys of modifiers, which precede the colon.
+/// The key of a modifier, which precedes the colon, such as `padding` in `[year padding:none]`.
 #[derive(Clone, Copy)]
 pub enum ModifierKey {
     /// `base`
@@ -188,7 +188,7 @@ pub fn modifier_key(component: ComponentName, name: &[u8]) -> Option<ModifierKey
     }
 }
 
-// The first `count` bytes of the text.
+/// The first `count` bytes of the text.
 #[inline(always)]
 pub fn front(text: &[u8], count: usize) -> &[u8]
     requires { count ≤ length text.now }
@@ -197,7 +197,7 @@ pub fn front(text: &[u8], count: usize) -> &[u8]
     &text[..count]
 }
 
-// The text after its first `count` bytes.
+/// The text after its first `count` bytes.
 #[inline(always)]
 pub fn after(text: &[u8], count: usize) -> &[u8]
     requires { count ≤ length text.now }
@@ -206,7 +206,7 @@ pub fn after(text: &[u8], count: usize) -> &[u8]
     &text[count..]
 }
 
-// The number of bytes of white space (spaces, TAB, LF, FF, CR) at the start of the text.
+/// The number of bytes of white space (spaces, TAB, LF, FF, CR) at the start of the text.
 #[inline]
 pub fn space_len(text: &[u8]) -> usize
     ensures count { result ≡ prefix_len is_space text.now }
@@ -217,8 +217,8 @@ pub fn space_len(text: &[u8]) -> usize
         .count()
 }
 
-// The length in bytes of the word at the start of the text, which may be 0. A word ends before white space or a
-// bracket, or with the text.
+/// The length in bytes of the word at the start of the text, which may be 0. A word ends before white space or a
+/// bracket, or with the text.
 #[inline]
 pub fn word_len(text: &[u8]) -> usize
     ensures count { result ≡ prefix_len is_of_word text.now }
@@ -237,7 +237,7 @@ fn is_same_name(name: &[u8], other: &[u8]) -> bool
     name.eq_ignore_ascii_case(other)
 }
 
-// The value of the first row with that name, ignoring the case of ASCII letters. `None` if there is no such row.
+/// The value of the first row with that name, ignoring the case of ASCII letters. `None` if there is no such row.
 pub fn look_up<V: Copy>(rows: &[(&[u8], V)], name: &[u8]) -> Option<V>
     ensures { result ≡ look_up (map (λ r. (r.0.now, r.1)) rows.now) name.now }
 {
@@ -251,8 +251,8 @@ pub fn look_up<V: Copy>(rows: &[(&[u8], V)], name: &[u8]) -> Option<V>
     None
 }
 
-// The `ignore` whose count has these ASCII digits, which may begin with zeros. `None` if another byte occurs, or if the
-// count isn't 1 to 65535; so for no digits too.
+/// The `ignore` whose count has these ASCII digits, which may begin with zeros. `None` if another byte occurs, or if the
+/// count isn't 1 to 65535; so for no digits too.
 pub fn ignore_count(digits: &[u8]) -> Option<modifier::Ignore>
     ensures { result ≡ ignore_count digits.now }
 {

@@ -15,7 +15,7 @@ use std::alloc::{AllocError, AllocFailed, Global};
 use std::fmt;
 use time_components::OwnedFormatItem;
 
-/// The error of [`parse_owned`].
+/// The error of [`parse_owned`]: the text isn't a description, or out of memory.
 #[derive(Clone, Copy, Debug, PartialEq, Eq)]
 pub enum OwnedError<'a> {
     /// The text isn't a description.
@@ -37,7 +37,7 @@ impl fmt::Display for OwnedError<'_> {
 
 impl std::error::Error for OwnedError<'_> {}
 
-/// Why parsing failed.
+/// Why a parser of owned items failed: the text's first fault, or out of memory.
 #[derive(Clone, Copy)]
 pub enum Unread {
     /// The first fault.
@@ -85,7 +85,7 @@ fn owned_leaf(alloc: Global, leaf: Leaf<'_>) -> Result<OwnedFormatItem, AllocErr
     }
 }
 
-// A list of the items.
+// The item that is a list of the given items, a `Compound`.
 fn compound(items: Vec<OwnedFormatItem>) -> OwnedFormatItem
     ensures { owned_shape result ≡ sequence (trees (map owned_shape items.items)) }
 {
@@ -111,9 +111,9 @@ fn owned_group(
     }
 }
 
-// The item at the start of the text, and the text after it. Lists in the item may nest `depth` deep. `nested` means
-// that the item is inside a list, where a closing bracket ends a literal. `read_items` calls this function only where
-// `ends` is false.
+// The item at the start of the text, inside a list if `nested`, and the text after it. Lists in the item may nest
+// `depth` deep; for 0, an optional item or a choice is the error `NotSupported`. `read_items` calls this function only
+// where `ends` is false.
 #[cycle(owned)]
 fn read_item<'a>(
     alloc: Global,
@@ -143,9 +143,9 @@ fn read_item<'a>(
     }
 }
 
-// A group, and the text after its closing bracket. The given text begins after the group's word, and lists in the
-// group's lists may nest `depth` deep. `opening` counts the bytes from the group's opening bracket to the end of the
-// whole text.
+// An optional item or a choice, and the text after its closing bracket. The given text begins after its word,
+// `optional` or `first`. Lists in its lists may nest `depth` deep. `opening` counts the bytes from its opening bracket
+// to the end of the whole text.
 #[cycle(owned)]
 fn read_group<'a>(
     alloc: Global,
@@ -165,8 +165,8 @@ fn read_group<'a>(
     Ok((item, rest))
 }
 
-// The contents of a group whose first list is open: the items of the list of `optional`, or the lists of `first`. The
-// remaining text begins after the last list's closing bracket. `opening` is as in `read_group`.
+// The items of `optional` or the lists of `first`, given the text after the first list's opening bracket; and the text
+// after the last list. `opening` counts the bytes from the group's opening bracket to the end of the whole text.
 #[cycle(owned)]
 fn read_inside<'a>(
     alloc: Global,
@@ -211,8 +211,8 @@ fn read_lists<'a>(
     }
 }
 
-// The items of a list whose opening bracket precedes the text, and the text after its closing bracket. Without one, the
-// error is at the group's bracket, by `opening`.
+// The items of a list whose opening bracket precedes the text, and the text after its closing bracket. If that is
+// missing, the error is `UnclosedOpeningBracket` at the group's opening bracket, by `opening`.
 #[cycle(owned)]
 fn read_list<'a>(
     alloc: Global,
@@ -254,8 +254,8 @@ fn read_items<'a>(
     Ok((items, rest))
 }
 
-/// Parses a description of version 1 or 2, by `VERSION`, of any number of steps. The result is a list
-/// ([`OwnedFormatItem::Compound`]) of the text's items, with each literal as bytes, which are allocated with `alloc`.
+/// Parses a description of version 1 or 2, by `VERSION`, in the syntax of `parse_borrowed`, with any number of steps.
+/// Returns the list of its items ([`OwnedFormatItem::Compound`]), with literals as bytes, allocated with `alloc`.
 ///
 /// # Errors
 ///

@@ -18,7 +18,7 @@ use crate::modifiers::component;
 use arrayvec::ArrayVec;
 use time_components::{Component, Padding, SubsecondDigits};
 
-/// The meaning of a byte or a conversion.
+/// The meaning of a literal byte or a conversion of a description in strftime's syntax.
 #[derive(Clone, Copy)]
 pub enum Part {
     /// A literal byte.

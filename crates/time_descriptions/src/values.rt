@@ -28,7 +28,7 @@ pub enum Representation {
     LastTwo,
 }
 
-/// The unit of a Unix timestamp.
+/// The unit of a Unix timestamp: seconds, milliseconds, microseconds or nanoseconds.
 #[derive(Clone, Copy)]
 pub enum Precision {
     /// `second`
@@ -41,7 +41,7 @@ pub enum Precision {
     Nanosecond,
 }
 
-/// A modifier with its value.
+/// A modifier of a component with its value, such as `padding:none`.
 #[derive(Clone, Copy)]
 pub enum Modifier {
     /// Whether the year is that of an ISO week date.

@@ -31,7 +31,7 @@ hour_12 h = if h % 12 == 0 then 12 else h % 12
 abbrev pub half_of : ℕ → Period
 half_of h = if nat_lt h 12 then Am else Pm
 
--- the weekday of the date
+-- the weekday of the moment's date; `Y` is the greatest year
 unfoldable pub weekday_of : ℕ → OffsetDateTime → Weekday
 weekday_of Y v = weekday_at (Dates.weekday Y (offset_date v))
 
@@ -92,7 +92,7 @@ century_of Y v (component.IsoYearCenturyStandardRange m) =
     let y = iso_year Y (offset_date v) in Some (in_standard_range y (century m.sign_is_mandatory m.padding y))
 century_of Y v _ = None
 
--- the text of a component of none of the tables above; the error `Ignore` for an `Ignore` and for each one of those
+-- the text of a component with `None` in the four tables above; the error `Ignore` for one in them, and for an `Ignore`
 abbrev pub other_of : ℕ → OffsetDateTime → Component → Result (List ℕ) Unformattable
 other_of Y v (component.Ordinal m) = Ok (padded m.padding 3 (Dates.ordinal (offset_date v)))
 other_of Y v (component.WeekdaySunday m) = Ok ((first_digit m.one_indexed + days_from_sunday (weekday_of Y v)) ∷ [])
@@ -127,7 +127,7 @@ abbrev pub or_year : Option (Result (List ℕ) Unformattable) → Result (List �
 or_year (Some text) other = text
 or_year None other = other
 
--- the text of a component, or an error; each component is in one of the five tables
+-- the text of a component for the moment, or the error `Year` or `Ignore`; each component is in one of the five tables
 abbrev pub component_text : ℕ → OffsetDateTime → Component → Result (List ℕ) Unformattable
 component_text Y v c =
     or_number (number_of Y v c)
@@ -143,15 +143,15 @@ kept k n = n / 10 ^ (9 - k) * 10 ^ (9 - k)
 abbrev pub last_two : ℤ → ℕ
 last_two y = unsigned_abs y % 100
 
--- a year without its last two digits, and whether it has a minus
+-- the value of a century: the year without its last two digits, and whether it has a minus, which may precede 0
 abbrev pub century_value : ℤ → Value
 century_value y = flagged (signed_by (int_lt y (pos 0)) (pos (unsigned_abs y / 100))) (int_lt y (pos 0))
 
--- the whole units in that many nanoseconds, rounded down, in nanoseconds
+-- the value of n nanoseconds, rounded down to a multiple of `unit` nanoseconds, also below 0
 abbrev pub units_value : ℕ → ℤ → Value
 units_value unit n = signed (whole unit n *ℤ pos unit)
 
--- the value that a component has for the moment
+-- the value that a component has for the moment; `Y` is the greatest year
 abbrev pub value_of : ℕ → OffsetDateTime → Component → Value
 value_of Y v (component.Day m) = number (Dates.day (offset_date v))
 value_of Y v (component.MonthShort m) = month (Dates.month (offset_date v))
@@ -222,8 +222,8 @@ abbrev pub FractionStops : SubsecondDigits → List ℕ → Type 0
 FractionStops OneOrMore rest = NoDigitFirst rest
 FractionStops digits rest = Unit {0}
 
--- The rest may follow the component's text: a parser then reads all of that text, as the moment's value. Only an
--- empty rest may follow an `End`, and any rest may follow a component that isn't listed below.
+-- The rest may follow the component's text: a parser then reads all of that text, as the component's value for the
+-- moment. Only an empty rest may follow an `End`, and any rest may follow a component that isn't listed below.
 abbrev pub Stops : ℕ → OffsetDateTime → Component → List ℕ → Type 0
 Stops Y v (component.Day m) = PaddedStops m.padding
 Stops Y v (component.MonthNumerical m) = PaddedStops m.padding

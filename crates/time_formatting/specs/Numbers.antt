@@ -49,11 +49,11 @@ year_of_thursday Y y day =
     if nat_lt day (year_start Y y) then y -ℤ pos 1 else
     if nat_lt day (year_start Y y + year_length y) then y else y +ℤ pos 1
 
--- the year of the date's ISO week, which is that of the week's Thursday
+-- the year of the date's ISO week, which is that of the week's Thursday; `Y` is the greatest year
 unfoldable pub iso_year : ℕ → Date → ℤ
 iso_year Y d = year_of_thursday Y (Dates.year d) (thursday_of (Dates.day_number Y d))
 
--- the number of the date's ISO week: how many Thursdays its ISO year has up to the one of that week, inclusive
+-- the date's ISO week: how many Thursdays its ISO year has up to that of the week, inclusive; `Y` is the greatest year
 unfoldable pub iso_week : ℕ → Date → ℕ
 iso_week Y d =
     weekdays_in 3 (year_start Y (iso_year Y d)) (thursday_of (Dates.day_number Y d) + 1 - year_start Y (iso_year Y d))

@@ -14,7 +14,7 @@ use Rattle.time_formatting.specs.declared.walk.Unformattable.TheVariants.{TooLon
 abbrev pub joined : ℕ → List ℕ → List ℕ → Result (List ℕ) Unformattable
 joined most before bytes = if nat_le (length (before ++ bytes)) most then Ok (before ++ bytes) else Err TooLong
 
--- the next text, unless there is an error
+-- the result of the function for the bytes, or the error
 abbrev pub and_then : Result (List ℕ) Unformattable → (List ℕ → Result (List ℕ) Unformattable)
     → Result (List ℕ) Unformattable
 and_then (Ok bytes) next = next bytes
@@ -42,7 +42,7 @@ abbrev mutual
   first_after most Y v before none = Ok before
   first_after most Y v before (tree_more t ts) = text_after most Y v before t
 
--- the text of a moment by a tree, or the first error
+-- the text of a moment by a tree, of at most `most` bytes, or the first error; `Y` is the greatest year
 abbrev pub text_of : ℕ → ℕ → OffsetDateTime → Tree → Result (List ℕ) Unformattable
 text_of most Y v tree = text_after most Y v [] tree
 
@@ -66,7 +66,7 @@ unformattable_text TooLong = codes "The text is too long."
 
 -- ---- Laws of the definitions, each proved by the function of module `laws` whose contract it is
 
--- The text of a component, before a rest that may follow it, spells the value that the component has for the moment.
+-- A component's text spells the component's value for the moment, before each rest that `Stops` allows after the text.
 abbrev pub ComponentSpelled : ℕ → Type 0
 ComponentSpelled Y =
     (v : OffsetDateTime) (c : Component) (whole : Bool) (text rest : List ℕ)

@@ -21,17 +21,17 @@ use Rattle.time_formatting.specs.declared.parts.FractionDigits.TheVariants.{Auto
 use Rattle.time_formatting.specs.declared.parts.Unwritable.{Unwritable}
 use Rattle.time_formatting.specs.declared.parts.Unwritable.TheVariants.{Year, OffsetHour, OffsetSecond}
 
--- how many of the nine digits of n nanoseconds are written: for `Auto` those up to the last that isn't 0; else k or 9
+-- how many of the nine digits of n nanoseconds are written: for `Auto` those up to the last that isn't 0; else min k 9
 abbrev pub count_of : FractionDigits → ℕ → ℕ
 count_of Auto n = significant 9 n
 count_of (Exactly k) n = min k 9
 
--- `YYYY-MM-DD`
+-- the date as `YYYY-MM-DD`, with the last four digits of its year, and without the sign of its year
 abbrev pub date_text : Date → List ℕ
 date_text d = fixed 4 (unsigned_abs (Dates.year d)) ++ codes "-" ++ fixed 2 (month_number (Dates.month d))
     ++ codes "-" ++ fixed 2 (Dates.day d)
 
--- `HH:MM:SS`
+-- the time as `HH:MM:SS`, without its fraction
 abbrev pub clock_text : Time → List ℕ
 clock_text t = fixed 2 (Times.hour t) ++ codes ":" ++ fixed 2 (Times.minute t) ++ codes ":" ++ fixed 2 (Times.second t)
 
@@ -53,7 +53,7 @@ numeric_text o =
     offset_sign o ∷ fixed 2 (unsigned_abs (Offsets.hours o)) ++ codes ":"
     ++ fixed 2 (unsigned_abs (Offsets.minutes o))
 
--- `Z` for no hours and minutes, and else the numeric form
+-- `Z` if the hours and the minutes of the offset are 0, and otherwise `+HH:MM` or `-HH:MM`
 abbrev pub offset_text : UtcOffset → List ℕ
 offset_text o = if is_none o then codes "Z" else numeric_text o
 

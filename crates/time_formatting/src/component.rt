@@ -57,8 +57,8 @@ fn number(value: &OffsetDateTime, component: Component) -> Option<(Padding, u8)>
     }
 }
 
-// How many of a nanosecond's nine digits are written: the fixed number, or for `OneOrMore` those up to the last that
-// isn't 0, but at least one.
+// How many of the nine digits of a second's fraction are written: the fixed number, or for `OneOrMore` those up to the
+// last that isn't 0, but at least one.
 fn count(digits: SubsecondDigits, nanosecond: u32) -> usize
     ensures count { result ≡ components.count_of digits nanosecond }
     ensures bound { result ≤ 9 }

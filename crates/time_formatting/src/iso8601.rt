@@ -63,7 +63,7 @@ fn basic_clock(time: &Time) -> [u8; 7]
     [b'T', h1, h2, m1, m2, s1, s2]
 }
 
-// The basic text of a moment whose year is 0 to 9999. Omits the fraction of the second, and the offset's seconds.
+// The text in ISO 8601's basic form of a moment whose year is 0 to 9999. Omits the fraction and the offset's seconds.
 fn write(value: OffsetDateTime) -> Text
     requires { IsBetween (pos 0) (pos 9999) (Dates.year (offset_date value)) }
     ensures { result.items ≡ basic_text value }

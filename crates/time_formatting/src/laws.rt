@@ -4,8 +4,8 @@ ghost use Rattle.time_formatting.specs.WellKnown.{timestamp_display, IsInjective
 ghost use Rattle.time_values.specs.Calendar.{greatest_year};
 ghost use Rattle.time_values.specs.DisplayTexts.{date_display, time_display, offset_display, plain_display, utc_display, moment_display};
 
-/// The text of a component spells the value that the component has for the moment, before each rest that may follow the
-/// text by `Stops`.
+/// The text that a moment has for a component spells the component's value for that moment, in the syntax that parsers
+/// accept, if the rest of the input is one that `Stops` allows after the text.
 #[tactic(auto, using(crate::proofs::Spelled::component_spelled))]
 pub fn law_component_spelled()
     ensures { ComponentSpelled greatest_year }

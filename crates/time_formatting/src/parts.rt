@@ -22,8 +22,8 @@ pub(crate) fn date(date: &Date) -> [u8; 10]
     [y1, y2, y3, y4, b'-', m1, m2, b'-', d1, d2]
 }
 
-// The byte `mark` and a time as `HH:MM:SS`, without its fraction. LLVM would join the eight bytes alone to one number
-// before it stores them.
+// The byte `mark` and a time as `HH:MM:SS`, without its fraction. The array has `mark` too, since LLVM would join the
+// eight bytes alone to one number before it stores them.
 #[inline(always)]
 pub(crate) fn clock(mark: u8, time: &Time) -> [u8; 9]
     ensures { result ≡ (mark ∷ []) ++ Texts.clock_text time.now }
@@ -52,7 +52,7 @@ pub(crate) fn is_none(offset: UtcOffset) -> bool
     hours == 0 && minutes == 0
 }
 
-// The magnitude of hours or minutes from -59 to 0. `unsigned_abs` would test the sign of each.
+// The magnitude of hours or minutes from -59 to 0, by negation: `unsigned_abs` would test their sign.
 #[inline(always)]
 pub(crate) fn magnitude(part: i8) -> u8
     requires { IsBetween (neg_ℤ (pos 59)) (pos 0) part }
@@ -73,7 +73,7 @@ pub(crate) fn hours_and_minutes(sign: u8, hours: u8, minutes: u8) -> [u8; 6]
     [sign, h1, h2, b':', m1, m2]
 }
 
-// The hours and the minutes of an offset as `+HHMM` or `-HHMM`, with the sign of `sign_of`. Omits its seconds.
+// The hours and minutes of an offset as `-HHMM` if either is below 0, and otherwise as `+HHMM`. Omits its seconds.
 #[inline(always)]
 #[tactic(auto, using(time_values::proofs::NumberLemmas::two))]
 pub(crate) fn offset_without_colon(offset: UtcOffset) -> [u8; 5]
@@ -120,7 +120,7 @@ pub(crate) fn month_letters(month: Month) -> [u8; 3]
     }
 }
 
-/// The number of digits of a second's fraction. If it is 0, the point is omitted too.
+/// The number of digits of a second's fraction: as few as needed, or a fixed number. If it is 0, the point is omitted.
 #[derive(Clone, Copy, Debug, PartialEq, Eq)]
 pub enum FractionDigits {
     /// Those of the nine digits up to the last that isn't 0, so none for a whole second.
@@ -143,7 +143,7 @@ impl FractionDigits {
     }
 }
 
-/// Why a moment has no text by RFC 3339, RFC 2822 or ISO 8601.
+/// Why a moment has no text by RFC 3339, RFC 2822 or ISO 8601: its year, its offset's hours or its offset's seconds.
 #[derive(Clone, Copy, Debug, PartialEq, Eq)]
 pub enum Unwritable {
     /// The year is outside 0 to 9999, or for RFC 2822 outside 1900 to 9999.

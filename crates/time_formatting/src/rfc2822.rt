@@ -11,7 +11,7 @@ use time_values::digits::{four, pair};
 use time_values::text::Text;
 use time_values::{Date, OffsetDateTime, Weekday};
 
-// `Sat, 02 Jan ` of a date and its weekday.
+// The weekday, and the day and the month of the date, in the form `Sat, 02 Jan ` with a space at the end.
 #[inline(always)]
 fn weekday_and_day(weekday: Weekday, date: &Date) -> [u8; 12]
     ensures { result ≡ short_weekday weekday ++ codes ", " ++ fixed 2 (Dates.day date.now) ++ codes " "
@@ -23,7 +23,7 @@ fn weekday_and_day(weekday: Weekday, date: &Date) -> [u8; 12]
     [w1, w2, w3, b',', b' ', d1, d2, b' ', m1, m2, m3, b' ']
 }
 
-// The text of a moment whose year is 0 to 9999. Omits the fraction of the second, and the offset's seconds.
+// The text by RFC 2822 of a moment whose year is 0 to 9999. Omits the fraction of the second, and the offset's seconds.
 #[inline(always)]
 fn write(value: OffsetDateTime) -> Text
     requires { IsBetween (pos 0) (pos 9999) (Dates.year (offset_date value)) }

@@ -19,7 +19,7 @@ fn append_offset(text: &mut Text, offset: &UtcOffset)
     ensures { text.new.items ≡ text.old.items ++ offset_text offset.now }
 {
     let (hours, minutes, _) = offset.as_hms();
-    // Hours and minutes have one sign, which is that of their sum.
+    // Hours and minutes never have opposite signs, so their sum has their sign, and is 0 only if both are 0.
     let sum = hours + minutes;
     if sum == 0 {
         text.append(b"Z");
@@ -40,8 +40,8 @@ fn has_text(year: i32, hours: i8, seconds: i8) -> bool
     year >= 0 && year <= 9999 && hours >= -23 && hours <= 23 && seconds == 0
 }
 
-// The first error of a moment without a text, by its year and the hours of its offset: `OffsetSecond` if both are in
-// range. Not inlined, so that only `has_text` runs before the text is written.
+// The error of a moment without a text by RFC 3339: `Year` if its year is out of range, else `OffsetHour` if the hours
+// of its offset are, else `OffsetSecond`. Not inlined, so that only `has_text` runs before the text is written.
 #[inline(never)]
 fn first_reason(year: i32, hours: i8) -> Unwritable
     ensures { result ≡ if int_lt year (pos 0) || int_lt (pos 9999) year then Year else
@@ -56,7 +56,7 @@ fn first_reason(year: i32, hours: i8) -> Unwritable
     Unwritable::OffsetSecond
 }
 
-// Why the moment has no text: the first of `Year`, `OffsetHour` and `OffsetSecond` that applies. `None` if it has one.
+// Why a moment has no text by RFC 3339: `Year`, `OffsetHour` or `OffsetSecond`, the first that applies; or else `None`.
 #[inline(always)]
 pub(crate) fn reason(value: OffsetDateTime) -> Option<Unwritable>
     ensures { result ≡ unwritable_3339 value }

@@ -15,9 +15,9 @@ use time_values::OffsetDateTime;
 /// The text of a moment by the steps of a description, of at most `CAP` bytes. It contains all optional items, and the
 /// first item of each choice.
 ///
-/// The error is the first from the left: [`Unformattable::Year`] for a component of the standard range whose year is
-/// outside -9999 to 9999, [`Unformattable::Ignore`] for an `ignore`, or [`Unformattable::TooLong`] if the text would
-/// exceed `CAP` bytes.
+/// The error is the first from the left in what is written: [`Unformattable::Year`] for a component of the standard
+/// range whose year is outside -9999 to 9999, [`Unformattable::Ignore`] for an `ignore`, or [`Unformattable::TooLong`]
+/// if the text would exceed `CAP` bytes.
 pub fn format<const CAP: usize>(
     value: OffsetDateTime,
     steps: &[Step],
@@ -71,7 +71,7 @@ fn write_steps<const CAP: usize>(
     Ok(())
 }
 
-// Writes the item of a step, with the steps after it that belong to it, and returns the steps after them.
+// Writes the item of `step` and of the steps in `behind` that belong to it, and returns the other steps of `behind`.
 #[cycle(steps)]
 fn write_item<'s, const CAP: usize>(
     step: &Step,
@@ -134,7 +134,7 @@ fn write_first<const CAP: usize>(
     }
 }
 
-// Writes a literal of this byte and the further bytes at the start of the steps, and returns the steps after them.
+// Writes a literal: the byte `first` and the bytes of the leading `More` steps. Returns the steps after those.
 fn write_literal<'s, const CAP: usize>(
     first: u8,
     steps: &'s [Step],
@@ -153,7 +153,7 @@ fn write_literal<'s, const CAP: usize>(
     Ok(left)
 }
 
-/// Why a moment isn't written by a description.
+/// Why a moment has no text by a description: a year out of range, an `ignore`, or too many bytes.
 #[derive(Clone, Copy, Debug, PartialEq, Eq)]
 pub enum Unformattable {
     /// A component of the standard range has a year outside -9999 to 9999.

@@ -74,14 +74,14 @@ fn in_standard_range(year: i32, text: Text) -> Result<Text, Unformattable>
     }
 }
 
-// Formats a component's year with the function.
+// Formats the year with the function `$text`, by the component's modifiers, and returns `Ok`.
 macro_rules! extended {
     ($text:ident, $modifiers:ident, $year:expr) => {
         Ok($text($modifiers.sign_is_mandatory, $modifiers.padding, $year))
     };
 }
 
-// Formats a component's year with the function if the year has at most four digits, or else returns an error.
+// Formats the year with `$text`, by the component's modifiers. The error is `Year` for a year outside -9999 to 9999.
 macro_rules! standard {
     ($text:ident, $modifiers:ident, $year:expr) => {{
         let year = $year;

@@ -58,7 +58,7 @@ fn name_part(component: Component) -> &'static str
     }
 }
 
-// An expression over the modifiers of a component with one of the names, or else the last value.
+// For a component with one of a row's names: the row's `$value`, over the modifiers as `$modifiers`; else `$other`.
 macro_rules! of_names {
     ($component:ident, $modifiers:ident: $($($name:ident)|+ => $value:expr,)+ _ => $other:expr) => {
         match $component {
@@ -141,8 +141,8 @@ fn trailing_input_text(trailing_input: TrailingInput) -> &'static str
     }
 }
 
-// The component's modifier after the padding, with a space before it. Empty if it has the default, or if the component
-// has no such modifier.
+// A space and the component's modifier `case_sensitive`, `one_indexed`, `sign`, `digits` or `trailing_input`. Empty if
+// it has the default, or if the component has none of these.
 fn modifier_part(component: Component) -> &'static str
     ensures { result.now ≡ parts.modifier_part component }
 {
@@ -175,7 +175,7 @@ fn put_count<const N: usize>(
     }
 }
 
-// Appends the contents of the component's brackets. The error is that there is no room.
+// Appends what a component's brackets contain. The error is that there is no room; a part may then have been appended.
 fn put_words<const N: usize>(
     component: Component,
     text: &mut DescriptionText<N>,

@@ -12,7 +12,7 @@ use crate::describing::writing::{DescriptionText, put_item};
 use crate::{Description, parse_borrowed};
 use time_components::{Component, Inspect, Node};
 
-// How deep lists may nest, with the outermost lists as the first level.
+// How deep the lists of optional items and choices may nest, with the outermost of them as the first level.
 const MOST_LISTS: usize = 8;
 
 // Whether the literal is exactly one byte that is written after a backslash: `[`, `\` or `]`.
@@ -41,15 +41,15 @@ fn are_plain(nested: bool, bytes: &[u8]) -> bool
     plain_len(nested, bytes) == bytes.len()
 }
 
-// Whether a text can describe the bytes as one literal, inside a list if `nested`: they are one escaped byte, or they
-// aren't empty and none needs a backslash.
+// Whether a text can describe the bytes as one literal, inside a list if `nested`: they are one byte `[`, `\` or `]`,
+// or they aren't empty and none needs a backslash.
 fn is_literal(nested: bool, bytes: &[u8]) -> bool
     ensures { result ≡ described.is_literal nested bytes.now }
 {
     is_escape(bytes) || !bytes.is_empty() && are_plain(nested, bytes)
 }
 
-// Whether the item is a literal other than one escaped byte. Two of these in a row would be parsed as one literal.
+// Whether the item is a literal other than `[`, `\` or `]` alone. Two of these in a row would be parsed as one literal.
 fn is_run<I: Inspect>(item: &I) -> bool
     ensures { result ≡ described.is_run (I.shape item.now) }
 {
@@ -71,7 +71,7 @@ fn has_words(component: Component) -> bool
 }
 
 // Whether a text can describe the item, inside a list if `nested`, with lists nested at most `depth` deep in it. False
-// for a list outside a group, and for a component that must end between characters.
+// for a `List`, which must be part of a group, and for a component of version 3, a `WholeComponent`.
 #[cycle(described)]
 fn is_item<I: Inspect>(depth: usize, nested: bool, item: &I) -> bool
     ensures { result ≡ described.is_item depth nested (I.shape item.now) }
@@ -108,7 +108,7 @@ fn is_list<I: Inspect>(depth: usize, item: &I) -> bool
     }
 }
 
-// Whether a text can describe each of these as a list of a choice. True for none.
+// Whether a text can describe each item as a list of a choice, with lists `depth` deep at most in it. True for none.
 #[cycle(described)]
 fn are_lists<I: Inspect>(depth: usize, lists: &[I]) -> bool
     ensures { result ≡ described.are_lists depth (trees (map I.shape lists.now)) }
@@ -121,8 +121,8 @@ fn are_lists<I: Inspect>(depth: usize, lists: &[I]) -> bool
     true
 }
 
-// Whether a text can describe these items in turn, inside a list if `nested`. False if a literal other than one escaped
-// byte directly follows another such literal; true for no items.
+// Whether a text can describe the items in turn, inside a list if `nested`, with lists at most `depth` deep in each.
+// False if a literal other than one byte `[`, `\` or `]` directly follows another such literal; true for no items.
 #[cycle(described)]
 fn are_items<I: Inspect>(depth: usize, nested: bool, items: &[I]) -> bool
     ensures { result ≡ described.are_items depth nested (trees (map I.shape items.now)) }
@@ -143,10 +143,10 @@ fn are_items<I: Inspect>(depth: usize, nested: bool, items: &[I]) -> bool
 
 /// Whether a text of version 2 describes the item.
 ///
-/// The item has to be a list of items, each a component, a literal, an optional list, or a choice of at least one list.
-/// A literal is one byte that is written after a backslash, `[`, `\` or `]`; or else it is at least one byte without
-/// those (outside all lists it may contain `]`), and then no such literal follows it directly. Lists may be nested
-/// eight deep. No text describes a component of version 3, which has to end between characters.
+/// The item must be a list, maybe empty, of components, literals, optional lists, and choices of one or more lists.
+/// Inner lists are of this form too, nested at most eight deep. A literal is one byte `[`, `\` or `]`; or it has one or
+/// more bytes but no such byte (outside inner lists `]` may occur), and no other literal of this second form directly
+/// follows it. No text describes a component of version 3 (`Node::WholeComponent`).
 pub fn is_described<I: Inspect>(item: &I) -> bool
     ensures { result ≡ described.is_described (I.shape item.now) }
 {
@@ -156,7 +156,7 @@ pub fn is_described<I: Inspect>(item: &I) -> bool
     }
 }
 
-/// Why an item has no text.
+/// Why [`text_of`](crate::text_of) or `description_of` fails: the item has no text, or the text exceeds `N` bytes.
 #[derive(Clone, Copy, Debug, PartialEq, Eq)]
 pub enum NoText {
     /// No text describes it, by [`is_described`](crate::is_described).
@@ -165,8 +165,8 @@ pub enum NoText {
     TooLong,
 }
 
-/// The text that describes an item, by version 2, of at most `N` bytes. It has those modifiers of a component that
-/// aren't the default, and one space before each modifier and each list of a group.
+/// The text that describes an item in version 2, of at most `N` bytes. It omits modifiers with their default values,
+/// and has one space before each modifier, and before each list of an optional item or a choice.
 ///
 /// # Errors
 ///
@@ -186,11 +186,11 @@ pub fn text_of<const N: usize, I: Inspect>(item: &I) -> Result<DescriptionText<N
     }
 }
 
-/// The description that the text of an item, of at most `N` bytes, parses as. It has the item's tree.
+/// The description that the text of an item ([`text_of`], at most `N` bytes) parses as. It has the item's tree.
 ///
 /// # Errors
 ///
-/// The errors of [`text_of`]: `TooLong` if the text has more than `N` bytes, even if its steps would fit.
+/// `Undescribed` if no text describes the item; `TooLong` if its text exceeds `N` bytes, even if its steps would fit.
 pub fn description_of<const N: usize, I: Inspect>(item: &I) -> Result<Description<N>, NoText>
     ensures ok { IfOk result (λ d. description.shape d ≡ I.shape item.now) }
     ensures err { IfErr result (λ e. IsNoText N (I.shape item.now) e) }

@@ -20,7 +20,7 @@ fn put_literal<const N: usize>(bytes: &[u8], text: &mut DescriptionText<N>) -> R
 }
 
 /// Appends the text of an item, whether or not it describes the item. The error is that there is no room; a part may
-/// then have been appended. That a component must end between characters isn't written.
+/// then have been appended. A component of version 3 is written like any other.
 #[cycle(items)]
 pub(crate) fn put_item<const N: usize, I: Inspect>(
     item: &I,
@@ -53,7 +53,7 @@ fn put_items<const N: usize, I: Inspect>(
     Ok(())
 }
 
-// Appends the text of an optional item, whose list is the given item: `[optional [` and `]]` around it.
+// Appends the text of an optional item with the given list: `[optional [`, the text of the list, and `]]`.
 #[cycle(items)]
 fn put_optional<const N: usize, I: Inspect>(
     item: &I,
@@ -66,7 +66,7 @@ fn put_optional<const N: usize, I: Inspect>(
     text.put(b"]]")
 }
 
-// Appends the text of a choice with the given lists: `[first` and `]` around them.
+// Appends the text of a choice with the given lists: `[first`, the text of each list as ` [..]`, and `]`.
 #[cycle(items)]
 fn put_first<const N: usize, I: Inspect>(
     items: &[I],

@@ -71,8 +71,8 @@ HaveEqualResults Y t u =
     → t ≡ u → Answers Y t bytes old result new → Answers Y u bytes old other other_new
     → (told result ≡ told other) × (new ≡ other_new)
 
--- A tree, and that tree without its marks on components to end between characters, are equivalent on bytes and a record
--- if no `Ignore` that the unmarked tree visits ends inside a UTF-8 character.
+-- A tree with any components marked to end between UTF-8 characters, and that tree without the marks, are equivalent
+-- on bytes and a record if no `Ignore` that the unmarked tree visits there ends inside a character.
 abbrev pub WholeCharacters : ℕ → Type 0
 WholeCharacters Y =
     (t u : Tree) (bytes : List ℕ) (r : Record) → unmarked t ≡ u → Clean Y u bytes r → AreEquivalentOn Y t u bytes r

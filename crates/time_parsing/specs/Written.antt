@@ -30,8 +30,8 @@ pub record IsCut (k : ℕ) (v w : OffsetDateTime) : Type 0 where
 abbrev pub written : FractionDigits → OffsetDateTime → ℕ
 written digits v = count_of digits (Times.nanosecond (offset_time v))
 
--- For each moment that has a text of RFC 3339, and each choice of digits, the text parses back as that moment except
--- for the digits that aren't written, without defaults, on the format's path and over an empty record.
+-- For each moment that has a text of RFC 3339, and each choice of digits, the text parses back as that moment with
+-- zeros for the digits that aren't written: on the format's path without defaults, and also over an empty record.
 abbrev pub ReadsBack : ℕ → Path → Reading → Refusing → Type 0
 ReadsBack Y path reads refuses =
     (digits : FractionDigits) (v w : OffsetDateTime)
@@ -59,8 +59,8 @@ OneShortText =
     → unwritable_3339 v ≡ None → unwritable_3339 w ≡ None
     → moment_text (written Auto v) v ≡ moment_text (written Auto w) w → v ≡ w
 
--- For each moment that has a text of RFC 2822, the text parses back as the moment without its fraction, without
--- defaults, on the format's path and over an empty record.
+-- For each moment that has a text of RFC 2822, the text parses back as the moment with a fraction of 0: on the format's
+-- path without defaults, and also over an empty record.
 abbrev pub ReadsMailBack : ℕ → Path → Reading → Refusing → Type 0
 ReadsMailBack Y path reads refuses =
     (v w : OffsetDateTime) (bytes : List ℕ)
@@ -93,8 +93,8 @@ ReadsCanonicalBack Y path reads refuses =
 
 -- ---- Written texts of ISO 8601, which are parsed back
 
--- For each moment that has a basic text of ISO 8601, it parses back as that moment without its fraction, without
--- defaults, on the format's path and over an empty record.
+-- For each moment that has a basic text of ISO 8601, the text parses back as the moment with a fraction of 0: on the
+-- format's path without defaults, and also over an empty record.
 abbrev pub ReadsBasicBack : ℕ → Path → Reading → Refusing → Type 0
 ReadsBasicBack Y path reads refuses =
     (v w : OffsetDateTime)
@@ -104,27 +104,27 @@ ReadsBasicBack Y path reads refuses =
 
 -- ---- Written texts of moments, which are parsed as dates and times in UTC
 
--- `u` is `v` in UTC with the first k of nine digits of its fraction, then zeros; its date is in the range of years `Y`
+-- `u` is `v` in UTC with the first k of nine digits of its fraction, then zeros; its date is in the years -Y to Y
 abbrev pub IsUtcCut : ℕ → ℕ → OffsetDateTime → UtcDateTime → Type 0
 IsUtcCut Y k v u =
     (w : OffsetDateTime) × IsCut k v w × (utc_instant Y u ≡ offset_instant Y w) × IsDateWithin Y (utc_date u)
 
 -- For each moment that has a text of RFC 3339 and, in UTC, a date in the range of years, and for each choice of digits,
--- the text parses as its date and time in UTC, except for the digits that aren't written.
+-- the text parses as its date and time in UTC, with zeros for the digits that aren't written.
 abbrev pub ReadsUtcBack : ℕ → Reading → Refusing → Type 0
 ReadsUtcBack Y reads refuses =
     (digits : FractionDigits) (v : OffsetDateTime) (u : UtcDateTime)
     → unwritable_3339 v ≡ None → IsUtcCut Y (written digits v) v u
     → IsOutcome (IsUtcMoment Y) reads refuses (moment_text (written digits v) v) empty (Ok u)
 
--- A moment's basic text of ISO 8601, if any, parses as its UTC date and time, if in range, without the fraction.
+-- A moment's basic text of ISO 8601, if any, parses as its UTC date and time, if in range, with a fraction of 0.
 abbrev pub ReadsBasicUtcBack : ℕ → Reading → Refusing → Type 0
 ReadsBasicUtcBack Y reads refuses =
     (v : OffsetDateTime) (u : UtcDateTime)
     → unwritable_3339 v ≡ None → IsUtcCut Y 0 v u
     → IsOutcome (IsUtcMoment Y) reads refuses (basic_text v) empty (Ok u)
 
--- A moment's text of RFC 2822, if any, parses as its UTC date and time, if in range, without the fraction.
+-- A moment's text of RFC 2822, if any, parses as its UTC date and time, if in range, with a fraction of 0.
 abbrev pub ReadsMailUtcBack : ℕ → Reading → Refusing → Type 0
 ReadsMailUtcBack Y reads refuses =
     (v : OffsetDateTime) (u : UtcDateTime) (bytes : List ℕ)

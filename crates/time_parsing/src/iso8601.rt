@@ -89,8 +89,8 @@ fn store_date(numbers: DateNumbers, parsed: &mut Parsed) -> Result<(), ParseFrom
     Ok(())
 }
 
-// Stores a date's numbers. If one is out of its range, returns the error of the first such number, as `store_date`, and
-// stores nothing.
+// Stores a date's numbers. If one is out of its range, stores nothing, and returns the error of the first such number,
+// an invalid component `year`, `day`, `ordinal` or `week`.
 #[inline(always)]
 fn put_date(numbers: DateNumbers, parsed: &mut Parsed) -> Result<(), ParseFromDescription>
     ensures { MatchResult result

@@ -66,18 +66,18 @@ pub fn law_optional_as_first()
     ensures { OptionalAsFirst greatest_year }
 {}
 
-/// Two items of one shape, whatever their types, give equal results for each input and record, and leave equal records.
+/// Items of any types with equal trees (`shape`) parse any input over any record with equal results and records.
 pub fn law_equal_shapes<I: AnyFormatItem, J: AnyFormatItem>(item: &I, other: &J)
     ensures { HaveEqualResults greatest_year (I.shape item.now) (J.shape other.now) }
 {}
 
-/// A description that was parsed from a text and an item of its shape give equal results, and leave equal records.
+/// A description and an item with equal trees (`shape`) parse any input over any record with equal results and records.
 pub fn law_equal_described<const N: usize, I: AnyFormatItem>(description: &Description<N>, item: &I)
     ensures { HaveEqualResults greatest_year (shape description.now) (I.shape item.now) }
 {}
 
-/// A version-3 description parses an input as a description of another type does whose tree differs only in the marks
-/// of version 3 on components, if no `Ignore` that is visited on that input ends inside a UTF-8 character.
+/// A `FormatDescriptionV3` and a description of another type with equal items give equal rests, records and errors for
+/// an input on which no visited `Ignore` ends inside a UTF-8 character. The former rejects such an `Ignore`.
 #[tactic(auto, using(crate::proofs::OneOutcome::whole_characters))]
 pub fn law_whole_characters()
     ensures { WholeCharacters greatest_year }

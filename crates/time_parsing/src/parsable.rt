@@ -161,14 +161,14 @@ pub trait Parsable {
     // The format has at most one reading or one error for a text over a record, and never both.
     ghost exact: { (s : Self) → IsExact (reads s) (refuses s) };
 
-    // The format's direct path, if it has one, has at most one error for a text, and none for a text with a moment.
+    // A direct path, if any, has at most one error for a text, and none for one that is a moment over an empty record.
     ghost exact_path: { (s : Self) → IsExactPath greatest_year (path s) (reads s) (refuses s) };
 }
 
 /// The record that a parse begins with: the defaults, or an empty one for `None`.
 ///
-/// The empty record is made before the defaults are inspected. Otherwise the compiler would choose between two records
-/// for each of their pieces.
+/// The empty record is made before the defaults are inspected. Otherwise the compiled code would choose between the two
+/// records anew for each field.
 #[inline(always)]
 pub fn begin(defaults: Option<Parsed>) -> Parsed
     ensures { result ≡ begun defaults }

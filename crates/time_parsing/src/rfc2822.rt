@@ -34,9 +34,9 @@ use time_values::error::Parse;
 ///
 /// [`Parsable::parse_into`] returns the error of [`place_fault`] for the first of the fifteen places that doesn't match
 /// or whose number is out of its range. But [`Parsable::parse_offset_date_time`] without defaults is
-/// [`direct::rfc2822`]. It first checks the places without the ranges, and then rejects bytes that remain. Last it
-/// rejects the first of `day`, `hour`, `minute`, `second` and the offset's `hours` and `minutes` that is out of range,
-/// and a leap second that isn't the last second of a month in UTC.
+/// [`direct::rfc2822`]. It first checks the places, with no range but a year of 1900 or later, and then rejects bytes
+/// that remain. Last it rejects the first of `day`, `hour`, `minute`, `second` and the offset's `hours` and `minutes`
+/// that is out of range, and a leap second that isn't the last second of a month in UTC.
 #[derive(Clone, Copy, Debug, PartialEq, Eq)]
 pub struct Rfc2822;
 

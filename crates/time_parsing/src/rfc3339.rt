@@ -39,8 +39,8 @@ use time_values::{Date, Month, OffsetDateTime, Time, UtcOffset};
 ///
 /// [`Parsable::parse_into`] returns the error of [`place_fault`] for the first of the fifteen places that doesn't match
 /// or whose number is out of its range. But [`Parsable::parse_offset_date_time`] without defaults is
-/// [`direct::rfc3339`]. It first checks the places without the ranges. Then it rejects an offset's minute above 59, as
-/// `minutes` out of range, and after that bytes that remain. Last it rejects the first of `month`, `day`, `hour`,
+/// [`direct::rfc3339`]. It first checks the places, with no ranges but month not 00 and offset hour up to 23. Then it
+/// rejects an offset's minute above 59, as `minutes`, then bytes that remain, then the first of `month`, `day`, `hour`,
 /// `minute` and `second` that is out of range, and a leap second that isn't the last second of a month in UTC.
 #[derive(Clone, Copy, Debug, PartialEq, Eq)]
 pub struct Rfc3339;

@@ -62,7 +62,7 @@ IsLeapSecondValid Y s v = s.second ≡ 60 → IsLeapSecondMoment Y (offset_insta
 abbrev pub IsMade : ℕ → MomentNumbers → OffsetDateTime → Type 0
 IsMade Y s v = (first_refusal Y s ≡ None) × IsMoment s v × IsLeapSecondValid Y s v
 
--- the first number's range error; or else, if a second of 60 doesn't end a month in UTC, a conditional one of `second`
+-- the first range error of the numbers; or else, if a second of 60 ends no month in UTC, a conditional one of `second`
 abbrev pub IsNotMade : ℕ → MomentNumbers → Refusal → Type 0
 IsNotMade Y s e =
     (first_refusal Y s ≡ Some e)
@@ -125,30 +125,30 @@ rfc2822_numbers n = record {
   offset_minute = n.offset_minute;
 }
 
--- the moment of a whole text of RFC 3339, parsed by the direct path
+-- the moment of a whole text of RFC 3339, parsed directly, without a record; the first parameter is the greatest year
 abbrev pub IsDirectRfc3339 : ℕ → List ℕ → OffsetDateTime → Type 0
 IsDirectRfc3339 = IsDirect (rfc3339.HasForm false) minute_refusal rfc3339_numbers
 
--- the error of a text that the direct path of RFC 3339 rejects
+-- the error of a text that the direct path of RFC 3339 rejects; the first parameter is the greatest year
 abbrev pub RefusesRfc3339 : ℕ → List ℕ → Refusal → Type 0
 RefusesRfc3339 =
     RefusesDirectly (rfc3339.HasForm false) (rfc3339.FailsAt false) rfc3339.fault minute_refusal rfc3339_numbers
 
--- the result of the direct path of RFC 3339: the moment of the whole text, or the error
+-- the result of the direct path of RFC 3339: the moment of the whole text, or the error; `Y` is the greatest year
 abbrev pub DirectRfc3339 : ℕ → List ℕ → Result OffsetDateTime Parse → Type 0
 DirectRfc3339 Y bytes result =
     MatchResult result (λ v. IsDirectRfc3339 Y bytes v) (λ e. RefusesRfc3339 Y bytes (refusal_of e))
 
--- the moment of a whole mail date of RFC 2822, parsed by the direct path
+-- the moment of a whole RFC 2822 mail date, parsed directly, without a record; the first parameter is the greatest year
 abbrev pub IsDirectRfc2822 : ℕ → List ℕ → OffsetDateTime → Type 0
 IsDirectRfc2822 = IsDirect (rfc2822.HasForm false) (λ n. None) rfc2822_numbers
 
--- the error of a text that the direct path of RFC 2822 rejects
+-- the error of a text that the direct path of RFC 2822 rejects; the first parameter is the greatest year
 abbrev pub RefusesRfc2822 : ℕ → List ℕ → Refusal → Type 0
 RefusesRfc2822 =
     RefusesDirectly (rfc2822.HasForm false) (rfc2822.FailsAt false) rfc2822.fault (λ n. None) rfc2822_numbers
 
--- the result of the direct path of RFC 2822: the moment of the whole text, or the error
+-- the result of the direct path of RFC 2822: the moment of the whole text, or the error; `Y` is the greatest year
 abbrev pub DirectRfc2822 : ℕ → List ℕ → Result OffsetDateTime Parse → Type 0
 DirectRfc2822 Y bytes result =
     MatchResult result (λ v. IsDirectRfc2822 Y bytes v) (λ e. RefusesRfc2822 Y bytes (refusal_of e))

@@ -38,19 +38,19 @@ hour_and_minute h m = record nothing_given { hour = h; minute = m }
 abbrev pub second_found : TimeNumbers → ExtendedKind → (List ℕ × Number) → Option (Found TimeNumbers)
 second_found t kind f = option_map (λ u. record { rest = f.0; value = u; kind = kind }) (says any_second f.1 t)
 
--- The rest of a time after an hour and a minute without separators: a second, or no bytes. The last parameter is the
+-- The time t, of an hour and a minute without separators, with a second if one follows. The last parameter is the
 -- number at the front of the bytes with the bytes after it, if there is one. Nothing if that number isn't a second.
 abbrev pub basic_second : TimeNumbers → List ℕ → Option (List ℕ × Number) → Option (Found TimeNumbers)
 basic_second t bytes None = Some (record { rest = bytes; value = t; kind = Basic })
 basic_second t bytes (Some f) = second_found t Basic f
 
--- The rest of a time after an hour and a minute with separators: a colon and a second, or no bytes. The last parameter
--- is the bytes after a colon, if there is one. Nothing if no second follows the colon.
+-- The time t, of an hour and a minute in an extended text, with a second if a colon and a second follow. The last
+-- parameter is the bytes after a colon, if there is one. Nothing if no second follows the colon.
 abbrev pub extended_second : TimeNumbers → List ℕ → Option (List ℕ) → Option (Found TimeNumbers)
 extended_second t bytes None = Some (record { rest = bytes; value = t; kind = Extended })
 extended_second t bytes (Some after) = option_and_then (second_found t Extended) (number after)
 
--- a minute of an offset without a colon: two digits must be 0 to 59, and without two digits the minute is 0
+-- an offset's minute without a colon: 0 if the last parameter, any two digits, is nothing; else they must be 0 to 59
 abbrev pub minute_or_none : List ℕ → Option (List ℕ × ℕ) → Option (List ℕ × ℕ)
 minute_or_none bytes None = Some (bytes, 0)
 minute_or_none bytes (Some f) = up_to 59 2 bytes

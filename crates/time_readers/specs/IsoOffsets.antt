@@ -23,7 +23,7 @@ no_digits bytes = is_none (digits 2 bytes)
 abbrev pub no_colon_no_digits : List ℕ → Bool
 no_colon_no_digits bytes = no_colon bytes && no_digits bytes
 
--- The texts of an offset. A colon makes an unknown kind extended. At most one row matches (`law_one_offset_row`).
+-- The rows of offsets: places, kinds before, bytes after, kind after. At most one row matches (`law_one_offset_row`).
 abbrev pub offset_rows : List (Row OffsetPlace)
 offset_rows =
     row (z ∷ []) any anything as_before

@@ -47,11 +47,11 @@ leading_digits (c ∷ cs) = if is_digit c then c ∷ leading_digits cs else []
 unfoldable pub byte : ℕ → Reader
 byte b = one_of (λ c. nat_eq c b)
 
--- `.` or `,`
+-- the rest after a `.` or `,` at the front of the bytes, or nothing if they begin with neither
 unfoldable pub point : Reader
 point = byte 46 or byte 44
 
--- `-` or `+`, as a sign
+-- the rest after a `-` or `+` at the front of the bytes, and its sign; or nothing if they begin with neither
 unfoldable pub sign : Piece Sign
 sign [] = None
 sign (c ∷ cs) =
@@ -170,7 +170,7 @@ ReturnsPartOrFault view found (Ok p) = found ≡ Ok (record { rest = p.rest.now;
 
 -- ---- The pieces of ISO 8601 texts as relations of a text, the bytes after it, and its value
 
--- the function finds exactly the prefix that the relation allows
+-- the function finds a rest and a value if and only if the relation has the prefix before that rest, with that value
 abbrev pub IsCutOf : {V : Type 0} → Piece V → Form V → Type 0
 IsCutOf {V} find S = (s rest : List ℕ) (v : V) → (find s ≡ Some (rest, v)) ↔ Cut S s rest v
 

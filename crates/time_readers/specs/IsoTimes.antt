@@ -162,7 +162,7 @@ no_number bytes = is_none (number bytes)
 abbrev pub no_colon_no_number : List ℕ → Bool
 no_colon_no_number bytes = no_colon bytes && no_number bytes
 
--- The texts of a time. At most one row matches (`law_one_time_row`).
+-- The rows of times: places, kinds before, bytes after, kind after. At most one row matches (`law_one_time_row`).
 abbrev pub time_rows : List (Row Place)
 time_rows =
     row (hour_and_fraction ∷ []) any anything as_before

@@ -27,7 +27,7 @@ pub record IsRepeated (p : Reader) : Type 0 where
   pub repeats : (s r : List ℕ) → p s ≡ Some r → zero_or_more p s ≡ zero_or_more p r
   pub ends : (s : List ℕ) → p s ≡ None → zero_or_more p s ≡ Some s
 
--- each piece of ISO 8601 finds exactly the prefix that spells its value
+-- the function of each piece of ISO 8601 finds a prefix and a value if and only if the relation of the piece has them
 pub record IsoPiecesAreCuts : Type 0 where
   pub digits : (n : ℕ) → IsCutOf (IsoPieces.digits n) (IsDigitRun n n)
   pub sign : IsCutOf IsoPieces.sign IsSign

@@ -85,7 +85,7 @@ zone_hours =
     ∷ (codes "pst", neg_ℤ (pos 8)) ∷ (codes "pdt", neg_ℤ (pos 7))
     ∷ (codes "gmt", pos 0) ∷ []
 
--- the number beside the name in the table, or nothing if the table lacks the name
+-- the number beside the name in the table, or nothing if the name isn't in the table
 abbrev pub beside : List ℕ → List (List ℕ × ℤ) → Option ℤ
 beside name [] = None
 beside name (row ∷ rows) = if bytes_eq name row.0 then Some row.1 else beside name rows
@@ -108,8 +108,8 @@ military_zone (c ∷ rest) = if is_military (to_ascii_lowercase c) then Some (po
 abbrev pub short_zone : List ℕ → Option (ℤ × List ℕ)
 short_zone s = if bytes_eq (str_to_ascii_lowercase s) (codes "ut") then Some (pos 0, []) else military_zone s
 
--- obs-zone (section 4.3): the hours from UTC of the zone name at the front of the bytes, and the rest. The RFC allows
--- any bytes after a name. Here 3 bytes or more begin with a table name; fewer are `UT` or begin with a military zone.
+-- obs-zone (section 4.3): the hours from UTC of the zone name at the front of the bytes, and the rest. Unlike in the
+-- RFC, 3 bytes or more must begin with a name in `zone_hours`; fewer must be `UT` or begin with a military zone.
 unfoldable pub zone_literal : List ℕ → Option (ℤ × List ℕ)
 zone_literal (a ∷ b ∷ c ∷ rest) = option_map (λ hours. (hours, rest)) (hours_of (a ∷ b ∷ c ∷ []))
 zone_literal s = short_zone s

@@ -47,14 +47,14 @@ abbrev pub year_blanks : Bool → Reader
 year_blanks true = fws
 year_blanks false = cfws
 
--- nothing if there is no colon, or a colon between optional blanks, and two digits, 0 to 60 if ranges are checked
+-- nothing if there is no colon; or a colon with optional blanks around it and two digits, 0 to 60 if ranges are checked
 abbrev pub IsSecond : Bool → Form (Option ℕ)
 IsSecond check_ranges text after None = (text ≡ []) × (opt_cfws_colon_opt_cfws after ≡ None)
 IsSecond check_ranges text after (Some v) =
     (colon digits : List ℕ) × (text ≡ colon ++ digits)
     × IsRead opt_cfws_colon_opt_cfws colon (digits ++ after) × IsTwoDigits check_ranges 0 60 digits after v
 
--- a zone name, which stores no sign and its hours from UTC
+-- a zone name, whose hours from UTC are stored as the hour of the offset, and `None` as its sign
 abbrev pub IsZone : Numbers → Form Numbers
 IsZone n text after m =
     (hours : ℤ) × (zone_literal (text ++ after) ≡ Some (hours, after))
@@ -128,7 +128,7 @@ day_places = WeekdayName ∷ Day ∷ []
 abbrev pub month_places : List Place
 month_places = DayBlanks ∷ MonthName ∷ MonthBlanks ∷ Year ∷ YearBlanks ∷ []
 
--- the places of the time, in order
+-- the places of the time and the blanks after it, in order
 abbrev pub time_places : List Place
 time_places = Hour ∷ HourColon ∷ Minute ∷ Second ∷ TimeBlanks ∷ []
 
@@ -136,7 +136,7 @@ time_places = Hour ∷ HourColon ∷ Minute ∷ Second ∷ TimeBlanks ∷ []
 abbrev pub to_offset_places : List Place
 to_offset_places = month_places ++ time_places
 
--- the places of the offset, in order
+-- the places of the offset and the blanks after it, in order
 abbrev pub offset_places : List Place
 offset_places = OffsetHour ∷ OffsetMinute ∷ EndBlanks ∷ []
 

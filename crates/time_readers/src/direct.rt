@@ -16,11 +16,11 @@ use time_values::error::{ComponentRange, Parse, ParseFromDescription, TryFromPar
 use time_values::sign::signed;
 use time_values::{Date, Month, OffsetDateTime, Time, UtcOffset};
 
-/// The numbers of a text, from which a direct path makes a moment.
+/// The numbers of a text of RFC 3339 or RFC 2822, from which this module's parsers make an `OffsetDateTime`.
 ///
-/// Most ranges aren't checked yet: a number of two digits may be up to 99, apart from its sign.
+/// Most ranges aren't checked yet: apart from its sign, a number of two digits may be up to 99. The month isn't 0.
 ///
-/// No parser returns it. It is public because laws state what a direct path and a parse over a record make of it.
+/// No parser returns it. It is public because laws compare these parsers with a parse over a `Parsed` record.
 #[derive(Clone, Copy, Debug)]
 pub struct MomentNumbers {
     /// The year, 0 to 9999.
@@ -50,10 +50,10 @@ pub struct MomentNumbers {
 ///
 /// # Errors
 ///
-/// In this order: the error of the first place that doesn't match, by [`rfc3339::place_fault`]; `minutes` out of range,
-/// if the minute of the offset is above 59; unexpected trailing characters; the first of `month`, `day` (conditional),
-/// `hour`, `minute` and `second` that is out of range; conditional `second`, if a leap second isn't the last second of
-/// a month in UTC.
+/// In this order: the error of the first place that doesn't match, by [`rfc3339::place_fault`]; a `ComponentRange` of
+/// `minutes`, for an offset's minute above 59; unexpected trailing characters; a `ComponentRange` of the first of
+/// `month`, `day` (conditional), `hour`, `minute` and `second` that is out of range; and a conditional one of `second`
+/// if a leap second isn't the last second of a month in UTC.
 pub fn rfc3339(input: &[u8]) -> Result<OffsetDateTime, Parse>
     ensures { DirectRfc3339 greatest_year input.now result }
 {
@@ -80,8 +80,8 @@ pub fn rfc3339(input: &[u8]) -> Result<OffsetDateTime, Parse>
 /// # Errors
 ///
 /// In this order: the error of the first place that doesn't match, by [`rfc2822::place_fault`]; unexpected trailing
-/// characters; the first of `day` (conditional), `hour`, `minute`, `second`, `hours` and `minutes` that is out of
-/// range; conditional `second`, if a leap second isn't the last second of a month in UTC.
+/// characters; a `ComponentRange` of the first of `day` (conditional), `hour`, `minute`, `second` and the offset's
+/// `hours` and `minutes` that is out of range; and a conditional one of `second` if a leap second ends no UTC month.
 pub fn rfc2822(input: &[u8]) -> Result<OffsetDateTime, Parse>
     ensures { DirectRfc2822 greatest_year input.now result }
 {
@@ -91,8 +91,8 @@ pub fn rfc2822(input: &[u8]) -> Result<OffsetDateTime, Parse>
     }
 }
 
-/// The moment's numbers from those of RFC 3339. A missing fraction is 0. The hour and the minute of the offset have its
-/// sign, and are 0 for `Z`.
+/// The moment's numbers from those of RFC 3339. A missing fraction is 0. The hour and the minute of the offset get its
+/// sign. `is_utc` isn't used, since the parsed hour and minute of `Z` are 0.
 #[inline(always)]
 pub fn rfc3339_numbers(numbers: rfc3339::Numbers) -> MomentNumbers
     requires hour { numbers.offset_hour ≤ 23 }

@@ -21,7 +21,7 @@ use std::num::NonZero;
 use time_values::error::ParseFromDescription;
 use time_values::{Month, Weekday};
 
-/// Whether a text has separators.
+/// Whether an ISO 8601 text is extended (with `-` and `:` between its numbers), basic (without), or not known yet.
 #[derive(Clone, Copy, Debug, PartialEq, Eq)]
 pub enum ExtendedKind {
     /// It is basic, without separators.
@@ -86,7 +86,7 @@ impl ExtendedKind {
     }
 }
 
-/// A parsed part of a text: the unparsed rest, the value, and the kind after the part.
+/// A parsed date, time or offset of ISO 8601: the unparsed rest, the value, and the text's [`ExtendedKind`] after it.
 #[derive(Clone, Copy, Debug)]
 pub struct Part<'a, V> {
     /// The unparsed rest.
@@ -97,7 +97,7 @@ pub struct Part<'a, V> {
     pub kind: ExtendedKind,
 }
 
-/// The numbers of a date.
+/// The numbers of an ISO 8601 date: by month and day, by the day of the year, or by week and weekday.
 ///
 /// They are those of the text, and the calendar may not have that date: a year is -999999 to 999999, a day of the month
 /// or a week 1 to 99, and a day of the year 1 to 999.
@@ -111,7 +111,7 @@ pub enum DateNumbers {
     Week(i32, NonZero<u8>, Weekday),
 }
 
-/// The numbers of a time. A number that is missing in the text is 0 if no fraction of a larger unit determines it.
+/// The numbers of an ISO 8601 time. One that is missing in the text is 0 if no fraction of a larger unit determines it.
 #[derive(Clone, Copy, Debug)]
 pub struct TimeNumbers {
     /// The hour, 0 to 23.
@@ -124,7 +124,7 @@ pub struct TimeNumbers {
     pub subsecond: u32,
 }
 
-/// The date of a text, and the time after it if there is one.
+/// The date of an ISO 8601 text, and the time after it, if a `T` and a valid time follow. An offset isn't included.
 #[derive(Clone, Copy, Debug)]
 pub struct DateAndTime<'a> {
     /// The date, with all bytes after it as the rest.
@@ -133,7 +133,7 @@ pub struct DateAndTime<'a> {
     pub time: Option<Part<'a, TimeNumbers>>,
 }
 
-/// The numbers of an offset.
+/// The numbers of an ISO 8601 offset: `Z`, or an hour and a minute, both with the offset's sign.
 #[derive(Clone, Copy, Debug)]
 pub enum OffsetNumbers {
     /// `Z`, for UTC.
@@ -152,7 +152,7 @@ pub enum OffsetNumbers {
 /// # Errors
 ///
 /// An invalid component `year`, `month`, `day`, `week` or `weekday`, or an invalid literal if `-` is missing. If no
-/// form matches after the year, it is the error of the third form if there is a `W`, and else of the first.
+/// form matches after the year, the error is the third form's if its `W` is there, and else the first form's.
 #[inline(always)]
 pub fn date(input: &[u8]) -> Result<Part<'_, DateNumbers>, ParseFromDescription>
     ensures { ReturnsPartOrFault iso_date (date_text input.now) result }
@@ -196,8 +196,8 @@ pub fn time<'a>(input: &'a [u8], kind: ExtendedKind, needs_t: bool) -> Option<Pa
 pub fn date_and_time(input: &[u8]) -> Result<DateAndTime<'_>, ParseFromDescription>
     ensures { ReturnsDateAndTime input.now result }
 {
-    // The two fast results are returned separately: joined before their use, they would cost a moment some fifty
-    // instructions more.
+    // Each of the two fast results is returned at once. Joined into one result first, they would cost the parse of a
+    // moment some fifty instructions more.
     if let Some(found) = fast::extended_date_and_time(input) {
         return Ok(found);
     }

@@ -34,7 +34,7 @@ pub fn law_repeated()
     ensures { (p : Reader) → Consumes p → IsRepeated p }
 {}
 
-/// Each piece of ISO 8601, defined as a function, finds exactly the prefix that spells its value.
+/// Each piece of ISO 8601, such as a year, is defined as a function that finds exactly the prefix spelling its value.
 pub fn law_iso_pieces()
     ensures { IsoPiecesAreCuts }
 {}
@@ -55,7 +55,7 @@ pub fn law_one_fraction()
     ensures { OneFraction }
 {}
 
-/// The direct paths of RFC 3339 and RFC 2822 have at most one moment and at most one error for a text, and never both.
+/// The parsers of RFC 3339 and RFC 2822 in `direct` have at most one moment and one error for a text, and never both.
 pub fn law_one_direct()
     ensures rfc3339 { OneDirect (IsDirectRfc3339 greatest_year) (RefusesRfc3339 greatest_year) }
     ensures rfc2822 { OneDirect (IsDirectRfc2822 greatest_year) (RefusesRfc2822 greatest_year) }

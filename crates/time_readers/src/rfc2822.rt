@@ -55,8 +55,8 @@ pub enum Place {
     EndBlanks,
 }
 
-/// The numbers of the places of a text. Without range checks, a number of two digits may be 0 to 99, and the offset's
-/// hour and minute -99 to 99.
+/// The numbers of the places of a mail date. Without range checks, a number of two digits may be 0 to 99, and the
+/// offset's hour and minute -99 to 99. A year of two digits is stored as 1950 to 2049.
 #[derive(Clone, Copy, Debug)]
 pub struct Numbers {
     /// The weekday, if the text has one. It may differ from that of the date.
@@ -135,8 +135,8 @@ fn to_day<'a, const CHECK_RANGES: bool>(
     grammar::day::<CHECK_RANGES>(rest, numbers).ok_or(Place::Day)
 }
 
-// Parses optional blanks, and then nothing, or a weekday's name, a comma and optional blanks. Stores the weekday, or
-// `None`. Returns the rest, or `None` for a name without a comma.
+// Parses optional blanks, and then nothing, or a weekday's first three letters, a comma and optional blanks. Stores the
+// weekday, or `None`. Returns the rest, or `None` for a name without a comma.
 #[inline(always)]
 fn weekday_name<'a>(input: &'a [u8], numbers: &mut Numbers) -> Option<&'a [u8]>
     ensures { Reads (PlaceSyntax false place.WeekdayName numbers.old) input.now result numbers.new }

@@ -47,7 +47,7 @@ tree_exact Y t = record {
 
 -- ---- The direct paths of RFC 3339 and RFC 2822 have one answer for a text
 
--- the direct path of RFC 3339 has at most one error for a text, and none for a text that has a moment
+-- the direct path of RFC 3339 has at most one error for a text, and none for one that is a moment over an empty record
 pub rfc3339_exact_path :
     IsExactPath greatest_year (direct (RefusesRfc3339 greatest_year)) (Rfc3339.Reads greatest_year)
     (Rfc3339.Refuses greatest_year)
@@ -61,7 +61,7 @@ rfc3339_exact_path =
           refused,
     )
 
--- the direct path of RFC 2822 has at most one error for a text, and none for a text that has a moment
+-- the direct path of RFC 2822 has at most one error for a text, and none for one that is a moment over an empty record
 pub rfc2822_exact_path :
     IsExactPath greatest_year (direct (RefusesRfc2822 greatest_year)) (Rfc2822.Reads greatest_year)
     (Rfc2822.Refuses greatest_year)
@@ -162,7 +162,7 @@ strict_exact Y = record {
   not_both = λ b. (rfc3339_exact Y).not_both (strict_text b);
 }
 
--- the strict direct path has at most one error for a text, and none for a text that has a moment
+-- the strict direct path has at most one error for a text, and none for one that is a moment over an empty record
 pub strict_exact_path :
     IsExactPath greatest_year (direct (Strict.RefusesDirectly greatest_year)) (Strict.Reads greatest_year)
     (Strict.Refuses greatest_year)

@@ -20,7 +20,7 @@ pub(super) use dates_and_times::{basic_date_and_time, extended_date_and_time};
 use std::num::NonZero;
 use time_values::Month;
 
-/// The two-digit numbers of a calendar date, 0 to 99 each, the bytes after the date, and its kind.
+/// The numbers, 0 to 99, of each two digits of `YYYYMMDD` or `YYYY-MM-DD`, the bytes after the date, and its kind.
 #[derive(Clone, Copy)]
 pub struct CalendarDigits<'a> {
     /// The first two digits of the year.
@@ -43,7 +43,7 @@ pub struct CalendarDigits<'a> {
 pub(in crate::iso8601) fn date(input: &[u8]) -> Option<Part<'_, DateNumbers>>
     ensures { IfSome result (λ p. ReturnsPartOrFault iso_date (date_text input.now) (Ok p)) }
 {
-    // The byte after a year of four digits tells the two forms apart.
+    // A `-` after a year of four digits distinguishes the form with separators from the one without.
     let digits = match input {
         [_, _, _, _, b'-', ..] => extended_date(input)?,
         _ => basic_date(input)?,
@@ -142,8 +142,8 @@ pub fn date_of(digits: CalendarDigits<'_>) -> Option<DateNumbers>
     }
 }
 
-// Parses `T`, a whole hour, a whole minute and a second, with separators or without. `None` for any other form, and for
-// one that the kind doesn't allow.
+// Parses `T`, an hour and a minute without fractions, and a second, with separators or without. `None` for any other
+// form, for a number out of its range, for a fraction that rounds to 1, and for a form that the kind doesn't allow.
 #[inline(always)]
 pub(in crate::iso8601) fn time<'a>(
     input: &'a [u8],
@@ -154,8 +154,8 @@ pub(in crate::iso8601) fn time<'a>(
     after_t(byte::<b'T'>(input)?, kind)
 }
 
-// Parses a whole hour, a whole minute and a second, with separators or without. `None` for any other form, and for one
-// that the kind doesn't allow.
+// Parses an hour and a minute without fractions, and a second, with separators or without. `None` for any other form,
+// for a number out of its range, for a fraction that rounds to 1, and for a form that the kind doesn't allow.
 #[inline(always)]
 fn after_t<'a>(input: &'a [u8], kind: ExtendedKind) -> Option<Part<'a, TimeNumbers>>
     ensures { IfSome result (λ p. ReturnsPart (spec.time_after kind input.now) (Some p)) }
@@ -170,8 +170,8 @@ fn after_t<'a>(input: &'a [u8], kind: ExtendedKind) -> Option<Part<'a, TimeNumbe
     }
 }
 
-// Parses a whole minute and a second after a whole hour, as a time with that hour. `None` for an extended kind and for
-// any other form.
+// Parses a minute without a fraction and a second, which follow a whole `hour`, as a time with that hour. `None` for an
+// extended kind, any other form, a number out of its range, and a fraction that rounds to 1.
 #[inline(always)]
 fn basic_time<'a>(input: &'a [u8], kind: ExtendedKind, hour: u8) -> Option<Part<'a, TimeNumbers>>
     requires hour { hour ≤ 23 }
@@ -199,8 +199,8 @@ fn basic_time<'a>(input: &'a [u8], kind: ExtendedKind, hour: u8) -> Option<Part<
     })
 }
 
-// Parses a whole minute, a colon and a second after a whole hour and a colon, as a time with that hour. `None` for a
-// basic kind and for any other form.
+// Parses a minute without a fraction, a colon and a second, which follow a whole `hour` and a colon, as a time with
+// that hour. `None` for a basic kind, any other form, a number out of its range, and a fraction that rounds to 1.
 #[inline(always)]
 fn extended_time<'a>(input: &'a [u8], kind: ExtendedKind, hour: u8) -> Option<Part<'a, TimeNumbers>>
     requires { hour ≤ 23 }

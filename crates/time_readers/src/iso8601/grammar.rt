@@ -20,7 +20,7 @@ use crate::iso8601::{DateAndTime, DateNumbers, ExtendedKind, OffsetNumbers, Part
 use time_values::error::ParseFromDescription;
 use time_values::sign::signed;
 
-// Parses the date of a text, and the time after it, whose `T` is required. A time that is missing or invalid is `None`.
+// Parses the date of a text, or returns its error, and the time after a required `T`: `None` if missing or invalid.
 #[inline(never)]
 pub(in crate::iso8601) fn date_and_time(
     input: &[u8],
@@ -34,7 +34,7 @@ pub(in crate::iso8601) fn date_and_time(
     })
 }
 
-// Parses the date of a text.
+// Parses the date of a text: a year, a `-` if the text is extended, and the first of three forms that matches then.
 #[inline(always)]
 #[tactic(auto, unfolding(crate::specs::IsoDates::date_text))]
 pub(in crate::iso8601) fn date(input: &[u8]) -> Result<Part<'_, DateNumbers>, ParseFromDescription>
@@ -63,8 +63,8 @@ pub(in crate::iso8601) fn date(input: &[u8]) -> Result<Part<'_, DateNumbers>, Pa
     }
 }
 
-// Parses the first of the three forms that matches after a year and, if `is_extended`, the `-` after it. The error is
-// that of the week's form after a `W`, and else that of the month's.
+// Parses what follows a year and, if `is_extended`, its `-`: a month and a day, or else a day of the year, or else `W`,
+// a week and a weekday. If none matches, the error is the third form's after a `W`, and else the first form's.
 #[inline(always)]
 #[tactic(auto, unfolding(crate::specs::IsoDates::forms))]
 fn after_year(
@@ -240,8 +240,8 @@ pub fn round_fraction(digits: &[u8], unit: u64) -> u64
     (carried(digits, 2 * unit) + 1) / 2
 }
 
-// The fraction of a unit, truncated, from the last digit to the first: the floor of the later digits' fraction is
-// carried to the digit before.
+// The fraction of a unit, truncated to a whole number. Computed from the last digit to the first: the floor of the
+// later digits' fraction is carried to the digit before.
 fn carried(digits: &[u8], unit: u64) -> u64
     requires digits { AllDigits digits.now }
     requires least { 1 ≤ unit }

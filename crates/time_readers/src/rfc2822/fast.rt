@@ -18,11 +18,11 @@ use crate::{ParsedItem, block, component};
 use std::simd::prelude::*;
 use time_values::sign::signed;
 
-// The least value of each of the first sixteen bytes, as of ` Jan 2021 03:04:`. The month and the hour are checked
-// later.
+// The least value of each of the sixteen bytes after the day, as of ` Jan 2021 03:04:`. The month's name, the least
+// year, 1900, and the greatest hour are checked later.
 const LEAST: [u8; 16] = *b" A\x00\x00 0000 00:00:";
 
-// The greatest value of each of the first sixteen bytes.
+// The greatest value of each of the sixteen bytes after the day.
 const GREATEST: [u8; 16] = *b" \xff\xff\xff 9999 29:59:";
 
 // Whether the byte isn't a blank or a carriage return, so that no blank and no fold begins with it.
@@ -114,7 +114,7 @@ pub fn weekday_name<'a>(input: &'a [u8], numbers: &mut Numbers) -> Option<&'a [u
     Some(&input[5..])
 }
 
-// The numbers of the pairs of digits of these bytes: the two of the year, the hour and the minute.
+// The numbers of the pairs of digits of bytes such as ` Jan 2021 03:04:`: the two of the year, the hour and the minute.
 #[inline(always)]
 fn pairs(bytes: &[u8; 16]) -> [u8; 4]
     ensures { AllWithin LEAST GREATEST bytes.now → result ≡ map (pair_at bytes.now) (5 ∷ 7 ∷ 10 ∷ 13 ∷ []) }

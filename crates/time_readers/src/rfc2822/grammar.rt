@@ -36,7 +36,7 @@ pub(super) fn weekday_name<'a>(input: &'a [u8], numbers: &mut Numbers) -> Option
     Some(opt_cfws(comma.0).0)
 }
 
-// Parses and stores a day of one or two digits: 1 to 31 with range checks.
+// Parses and stores a day of one or two digits: 1 to 31 with range checks, else 0 to 99.
 #[inline(always)]
 pub(super) fn day<'a, const CHECK_RANGES: bool>(
     input: &'a [u8],
@@ -109,7 +109,7 @@ pub(super) fn offset<'a, const CHECK_RANGES: bool>(
     end_blanks(rest).ok_or(Place::EndBlanks)
 }
 
-// The rest alone, without the empty value.
+// The rest of a parsed item, without its empty value. `None` for `None`.
 #[inline(always)]
 fn rest_of(answer: Option<ParsedItem<'_, ()>>) -> Option<&[u8]>
     ensures { option_copied result ≡ option_map (λ p. p.0.now) answer.entry }

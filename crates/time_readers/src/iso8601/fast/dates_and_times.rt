@@ -10,17 +10,17 @@ use crate::iso8601::grammar::pieces::byte;
 use crate::iso8601::{DateAndTime, ExtendedKind, Part, TimeNumbers};
 use std::simd::prelude::*;
 
-// The least value of each of the first sixteen bytes, with separators. These ranges also admit numbers that are checked
-// later: months of 00 and 13 to 19, days of 00 and hours of 24 to 29.
+// The least value of each of the first sixteen bytes of a text with separators. These ranges also admit numbers that
+// are checked later: months of 00 and 13 to 19, days of 00 and hours of 24 to 29.
 const LEAST: [u8; 16] = *b"0000-00-00T00:00";
 
-// The greatest value of each of the first sixteen bytes, with separators.
+// The greatest value of each of the first sixteen bytes of a text with separators.
 const GREATEST: [u8; 16] = *b"9999-19-39T29:59";
 
-// The least value of each of the first sixteen bytes, without separators. The last of them is after the second.
+// The least value of each of the first sixteen bytes of a text without separators. The last may be any byte.
 const BASIC_LEAST: [u8; 16] = *b"00000000T000000\x00";
 
-// The greatest value of each of the first sixteen bytes, without separators.
+// The greatest value of each of the first sixteen bytes of a text without separators.
 const BASIC_GREATEST: [u8; 16] = *b"99991939T295959\xff";
 
 // The two-digit numbers of a date, of the hour after it, 0 to 29, and of the minute, 0 to 59. `after` is the input
@@ -33,8 +33,8 @@ struct FirstSixteen<'a> {
     after: &'a [u8],
 }
 
-// Parses a calendar date, and a time with a second and its fraction, if any, with separators. `None` for any other
-// form.
+// Parses `YYYY-MM-DDThh:mm:ss` and a fraction, if any. `None` for any other form, a day of 0 or above 39, another
+// number out of its range, and a fraction that rounds to 1.
 #[inline(always)]
 pub(in crate::iso8601) fn extended_date_and_time(input: &[u8]) -> Option<DateAndTime<'_>>
     ensures { IfSome result (λ p. ReturnsDateAndTime input.now (Ok p)) }
@@ -42,8 +42,8 @@ pub(in crate::iso8601) fn extended_date_and_time(input: &[u8]) -> Option<DateAnd
     date_and_time_of(extended_first_sixteen(input)?)
 }
 
-// Parses a calendar date, and a time with a second and its fraction, if any, without separators. `None` for any other
-// form, a second of 60, and a text under sixteen bytes, which ends after a whole second or before.
+// Parses `YYYYMMDDThhmmss` and a fraction, if any. `None` for any other form, a day of 0 or above 39, a second of 60,
+// another number out of its range, a fraction that rounds to 1, and a text of under sixteen bytes.
 #[inline(always)]
 pub(in crate::iso8601) fn basic_date_and_time(input: &[u8]) -> Option<DateAndTime<'_>>
     ensures { IfSome result (λ p. ReturnsDateAndTime input.now (Ok p)) }
@@ -51,7 +51,7 @@ pub(in crate::iso8601) fn basic_date_and_time(input: &[u8]) -> Option<DateAndTim
     date_and_time_of(basic_first_sixteen(input)?)
 }
 
-// Parses the date, the hour and the minute with separators, and the colon after them. `None` for any other form.
+// Parses `YYYY-MM-DDThh:mm:`, MM to 19, DD to 39, hh to 29, mm to 59. `None` for any other form.
 #[inline(always)]
 fn extended_first_sixteen(input: &[u8]) -> Option<FirstSixteen<'_>>
     ensures { IfSome result (IsFirstSixteen input.now) }
@@ -78,7 +78,7 @@ fn extended_first_sixteen(input: &[u8]) -> Option<FirstSixteen<'_>>
     })
 }
 
-// Parses the date, the hour and the minute without separators, if a second 00 to 59 and a byte follow; else `None`.
+// Parses `YYYYMMDDThhmm`, MM to 19, DD to 39, hh to 29, mm to 59, if a second 00 to 59 and a byte follow; else `None`.
 #[inline(always)]
 fn basic_first_sixteen(input: &[u8]) -> Option<FirstSixteen<'_>>
     ensures { IfSome result (IsFirstSixteen input.now) }

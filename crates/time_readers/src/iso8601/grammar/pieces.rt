@@ -154,7 +154,7 @@ pub fn float(input: &[u8]) -> Option<ParsedItem<'_, (u8, Option<&[u8]>)>>
     Some(ParsedItem(&after[count..], (whole.1, Some(digits))))
 }
 
-// Parses the byte `C`, and returns the rest.
+// Parses the byte `C`, and returns the rest. `None` for any other input.
 #[inline(always)]
 pub(in crate::iso8601) fn byte<const C: u8>(input: &[u8]) -> Option<&[u8]>
     ensures { Leaves (spec.byte C input.now) result }
@@ -165,7 +165,7 @@ pub(in crate::iso8601) fn byte<const C: u8>(input: &[u8]) -> Option<&[u8]>
     }
 }
 
-// Parses `.` or `,`, and returns the rest.
+// Parses `.` or `,`, and returns the rest. `None` for any other input.
 #[inline(always)]
 #[tactic(auto, unfolding(crate::specs::IsoPieces::point))]
 pub(in crate::iso8601) fn point(input: &[u8]) -> Option<&[u8]>
@@ -177,7 +177,7 @@ pub(in crate::iso8601) fn point(input: &[u8]) -> Option<&[u8]>
     }
 }
 
-// Parses `+` or `-`, as a sign.
+// Parses `+` or `-`, as a sign. `None` for any other input.
 #[inline(always)]
 pub(super) fn sign(input: &[u8]) -> Option<ParsedItem<'_, Sign>>
     ensures { Returns (spec.sign input.now) result }
@@ -212,7 +212,7 @@ fn one_digit(input: &[u8]) -> Option<ParsedItem<'_, u8>>
     run_of_one(input)
 }
 
-// Parses one digit as its number, 0 to 9, with a contract over digit runs.
+// Parses one digit as its number, 0 to 9. `None` for any other input. The contract is stated over digit runs.
 #[inline(always)]
 #[tactic(auto, using(crate::proofs::IsoPieces::run_one))]
 fn run_of_one(input: &[u8]) -> Option<ParsedItem<'_, u8>>

@@ -11,7 +11,7 @@ use crate::iso8601::grammar::pieces::{byte, float};
 use crate::iso8601::grammar::{floor_fraction, round_fraction};
 use crate::iso8601::{ExtendedKind, Part, TimeNumbers};
 
-// Parses the time of a text of that kind, with its `T`, which is optional unless `needs_t`.
+// Parses the time of a text of kind `kind`. Its `T` is optional unless `needs_t`. `None` for any other input.
 #[inline(never)]
 pub(in crate::iso8601) fn time<'a>(
     input: &'a [u8],
@@ -27,7 +27,7 @@ pub(in crate::iso8601) fn time<'a>(
     }
 }
 
-// Parses a time after its `T`, or without one: from the hour on.
+// Parses a time after its `T`, if any. `None` for an invalid hour, minute or second, or for `hh:` in a basic text.
 #[inline(always)]
 fn after_t<'a>(input: &'a [u8], kind: ExtendedKind) -> Option<Part<'a, TimeNumbers>>
     ensures { ReturnsPart (spec.time_after kind input.now) result }
@@ -66,8 +66,8 @@ fn after_hour<'a>(input: &'a [u8], kind: ExtendedKind, hour: u8) -> Option<Part<
     }
 }
 
-// Parses the rest of a time after a whole hour without a colon: nothing, or a minute and an optional second. In an
-// extended text a colon precedes the second.
+// Parses the rest of a time after a whole hour that no colon follows: nothing, or a minute and an optional second, with
+// a colon before the second in an extended text. `None` for an invalid minute or second.
 #[inline(always)]
 fn minute_without_colon<'a>(
     input: &'a [u8],

@@ -14,8 +14,8 @@ use crate::{ParsedItem, rfc2822};
 // How deep comments may be nested, counting the outermost.
 const MOST_COMMENTS: u8 = 31;
 
-// Parses blanks, folded over lines or not: one fold; or blanks, and then any number of folds. Returns `None` if a CR LF
-// after blanks has no blank after it.
+// Parses blanks, folded over lines or not: one fold; or blanks, and then any number of folds. Returns `None` for any
+// other input, and if a CR LF after blanks has no blank after it.
 pub(crate) fn fws(input: &[u8]) -> Option<ParsedItem<'_, ()>>
     ensures { option_map (λ p. p.0.now) result ≡ spec.fws input.now }
 {
@@ -87,7 +87,7 @@ fn text(input: &[u8]) -> Option<&[u8]>
     }
 }
 
-// Parses the byte `C`.
+// Parses the byte `C`, and returns the rest. `None` for any other input.
 #[inline]
 fn one<const C: u8>(input: &[u8]) -> Option<&[u8]>
     ensures { option_copied result ≡ one_of (λ c. c == C) input.now }
@@ -166,8 +166,8 @@ pub(crate) fn opt_cfws_colon_opt_cfws(input: &[u8]) -> Option<ParsedItem<'_, ()>
     Some(rfc2822::opt_cfws(rest))
 }
 
-// Parses a zone name in any case, as its hours from UTC: three letters of the table if the input has three bytes or
-// more, and else `UT` or one letter.
+// Parses a zone name in any case, as its hours from UTC: if the input has three bytes or more, a name of three letters
+// that `hours_of` knows, as `EST`; and else `UT` or one letter except J.
 pub(crate) fn zone_literal(input: &[u8]) -> Option<ParsedItem<'_, i8>>
     ensures { option_map (λ p. (p.1, p.0.now)) result ≡ zone_literal input.now }
 {

@@ -35,7 +35,7 @@ target_named name =
     if bytes_eq name (codes "staged") then Some target.Staged else
     if bytes_eq name (codes "timestamp") then Some target.Timestamp else None
 
--- A component, as in a description before version 3.
+-- A component, as in a description before version 3: an `Ignore` may end inside a UTF-8 character.
 abbrev pub part : Component → Tree
 part = component false
 

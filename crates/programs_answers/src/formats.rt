@@ -8,7 +8,7 @@ use time_readers::{
     SubsecondDigits, modifier,
 };
 
-/// The formats that a line may name.
+/// A format that a line or an argument may name: that of a standard, or one of four descriptions.
 #[derive(Clone, Copy, Debug)]
 pub enum Format {
     /// A date, time and offset of RFC 3339, section 5.6, as `1985-04-12T23:20:50.52Z`.
@@ -28,7 +28,7 @@ pub enum Format {
     Local,
 }
 
-/// The targets that a line may name.
+/// A target that a line or an argument may name: the type of value that a text is parsed for.
 #[derive(Clone, Copy, Debug)]
 pub enum Target {
     /// A date.
@@ -103,8 +103,8 @@ pub fn compound<'a>(items: &'a [BorrowedFormatItem<'a>]) -> BorrowedFormatItem<'
     BorrowedFormatItem::Compound(items)
 }
 
-/// An item that parses by the first of these items that succeeds where it is tried. Without items it parses the empty
-/// text.
+/// An item that tries these items in turn at the same place, and parses by the first that matches. Without items it
+/// parses the empty text.
 pub fn first<'a>(items: &'a [BorrowedFormatItem<'a>]) -> BorrowedFormatItem<'a>
     ensures { borrowed_shape result ≡ first_of (trees (map borrowed_shape items.now)) }
 {

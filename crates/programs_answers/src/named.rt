@@ -63,7 +63,7 @@ fn clock() -> Prepared<11>
     }
 }
 
-// The prepared description of a choice: it parses by the first of these items that succeeds. `Err` is the error of
+// The prepared description of a choice: it parses by the first of these items that matches. `Err` is the error of
 // `Prepared::from_items`, as `TooLong` for more than 21 steps.
 fn choice(lists: &[BorrowedFormatItem<'_>]) -> Result<Prepared<21>, Unprepared>
     ensures { Prepares 21 (trees (first_of (trees (map borrowed_shape lists.now)) ∷ [])) result }

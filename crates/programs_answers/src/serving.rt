@@ -8,7 +8,7 @@ ghost use Rattle.programs_answers.specs.Pieces.{WithLineFeed};
 use byte_streams::{BufferedSink, Sink, Source, Unwritten, first_line};
 use std::alloc::Allocator;
 
-/// Why the program exits early.
+/// Why the program exits early: a read failed or the input didn't end, memory ran out, or a write failed.
 #[derive(Clone, Copy, Debug, PartialEq, Eq)]
 pub enum Stop {
     /// A read failed, or the input didn't end within the reads that [`serve`] makes.
@@ -87,8 +87,8 @@ fn answer_lines<A: LineHandler, W: Sink>(
 /// Writes the answer to each line of the input and an LF after it, and allocates nothing. Earlier contents of the
 /// buffer are dropped.
 ///
-/// Each line ends with LF, which is optional after the last one. A handler's line has no LF. After `Ok` all answers are
-/// in the sink, which isn't flushed. `Err` if a write failed, after which it is unspecified how much was written.
+/// Each line ends with LF, which is optional after the last one and isn't passed to the handler. After `Ok` all answers
+/// are in the sink, which isn't flushed. `Err` if a write failed; then it is unspecified how much was written.
 #[inline(always)]
 #[tactic(auto, using(crate::proofs::OutputLemmas::Writes_flushed))]
 pub fn run<A: LineHandler, W: Sink>(
@@ -131,7 +131,7 @@ fn read_all<R: Source, G: Allocator>(alloc: G, input: &mut R) -> Result<Vec<u8, 
 }
 
 /// Reads the input to its end, with at most 4294967296 reads, and writes the answer to each of its lines and an LF
-/// after it, as [`run`] does: it drops the buffered bytes. If the reads don't reach the end, it returns `Unread`.
+/// after it, as [`run`] does: it drops what `out` had buffered. If the reads don't reach the end, it returns `Unread`.
 ///
 /// A failed read isn't retried, not even an interrupted one. The sink isn't flushed. After [`Stop::Unread`] or
 /// [`Stop::Memory`] nothing was written, and `out` is unchanged. After [`Stop::Unwritten`] it is unspecified how much

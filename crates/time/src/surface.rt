@@ -2,7 +2,7 @@
 //! this doesn't compile. A module that is exported whole is named by one of its items.
 use crate as here;
 
-// The types of values are those of `time_values`.
+// Compiles only if the types of values that this crate exports are those of `time_values`.
 fn values(
     its: (
         here::Date,
@@ -31,7 +31,7 @@ fn values(
     its
 }
 
-// The types of errors of values and of parsing are those of `time_values`.
+// Compiles only if the types of errors of values and of parsing that this crate exports are those of `time_values`.
 fn errors(
     its: (
         here::error::ComponentRange,
@@ -52,7 +52,7 @@ fn errors(
     its
 }
 
-// The types of errors of descriptions, of preparing and of formatting are those of their crates.
+// Compiles only if the types of errors of descriptions, of preparing and of formatting here are those of their crates.
 fn refusals<'a>(
     its: (
         here::error::InvalidFormatDescription<'a>,
@@ -71,12 +71,12 @@ fn refusals<'a>(
     its
 }
 
-// The type of the error of an owned description is that of `time_descriptions`.
+// Compiles only if the type of the error of an owned description here is that of `time_descriptions`.
 fn owned_error(its: here::error::OwnedError<'_>) -> time_descriptions::OwnedError<'_> {
     its
 }
 
-// The types of the parts of descriptions are those of `time_components`.
+// Compiles only if the types of the parts of descriptions that this crate exports are those of `time_components`.
 fn parts<'a>(
     its: (
         here::format_description::BorrowedFormatItem<'a>,
@@ -97,46 +97,46 @@ fn parts<'a>(
     its
 }
 
-// The type of a description's node is that of `time_components`. A function with a parameter of this type gets no
-// proof, so the trait is implemented for it by its path here, and required by its other path.
+// Compiles only if the type of a description's node is that of `time_components`. A function with a parameter of this
+// type gets no proof, so the trait is implemented for it by its path here, and required by its other path.
 trait IsNode {}
 
 impl IsNode for here::format_description::Node<'_, u8> {}
 
 fn is_node<T: IsNode>() {}
 
-// The type of an owned description is that of `time_components`.
+// Compiles only if the type of an owned description that this crate exports is that of `time_components`.
 fn owned(its: here::format_description::OwnedFormatItem) -> time_components::OwnedFormatItem {
     its
 }
 
-// The type of a description of version 3 is that of `time_components`.
+// Compiles only if the type of a description of version 3 that this crate exports is that of `time_components`.
 fn third_version(
     its: here::format_description::FormatDescriptionV3<'_>,
 ) -> time_components::FormatDescriptionV3<'_> {
     its
 }
 
-// The type of the items of a description of version 3 is that of `time_components`.
+// Compiles only if the type of the items of a description of version 3 here is that of `time_components`.
 fn third_items(
     its: here::format_description::FormatDescriptionV3Inner<'_>,
 ) -> time_components::FormatDescriptionV3Inner<'_> {
     its
 }
 
-// The type of a parsed description is that of `time_descriptions`.
+// Compiles only if the type of a parsed description that this crate exports is that of `time_descriptions`.
 fn description(its: here::format_description::Description<8>) -> time_descriptions::Description<8> {
     its
 }
 
-// The type of a description's text is that of `time_descriptions`.
+// Compiles only if the type of a description's text that this crate exports is that of `time_descriptions`.
 fn description_text(
     its: here::describing::DescriptionText<8>,
 ) -> time_descriptions::DescriptionText<8> {
     its
 }
 
-// The types of formats are those of `time_parsing`.
+// Compiles only if the types of formats that this crate exports are those of `time_parsing`.
 fn formats(
     its: (
         here::format_description::well_known::Iso8601,
@@ -153,14 +153,14 @@ fn formats(
     its
 }
 
-// The types for texts of moments are those of `time_formatting` and `time_values`.
+// Compiles only if the types for texts of moments here are those of `time_formatting` and `time_values`.
 fn writing(
     its: (here::formatting::FractionDigits, here::formatting::Text),
 ) -> (time_formatting::FractionDigits, time_values::text::Text) {
     its
 }
 
-// The types that parsers use are those of their crates.
+// Compiles only if the types that parsers use, as this crate exports them, are those of their own crates.
 fn parsing<'a>(
     its: (
         here::parsing::Items<'a, u8>,
@@ -181,34 +181,34 @@ fn parsing<'a>(
     its
 }
 
-// The type of the record of parsed components is that of `time_record`.
+// Compiles only if the type of the record of parsed components that this crate exports is that of `time_record`.
 fn record(its: here::parsing::Parsed) -> time_record::Parsed {
     its
 }
 
-// The type of the counter of visited items is that of `time_record`.
+// Compiles only if the type of the counter of visited items that this crate exports is that of `time_record`.
 fn tries(its: here::parsing::Tries) -> time_record::Tries {
     its
 }
 
-// The type of a prepared description is that of `time_preparing`.
+// Compiles only if the type of a prepared description that this crate exports is that of `time_preparing`.
 fn prepared(its: here::preparing::Prepared<8>) -> time_preparing::Prepared<8> {
     its
 }
 
-// The types of the locations of errors are those of `time_locating`.
+// Compiles only if the types of the locations of errors that this crate exports are those of `time_locating`.
 fn places<'a>(
     its: (here::locating::Expected<'a>, here::locating::Located<'a>),
 ) -> (time_locating::Expected<'a>, time_locating::Located<'a>) {
     its
 }
 
-// The type of a time zone is that of `time_zones`.
+// Compiles only if the type of a time zone that this crate exports is that of `time_zones`.
 fn zone(its: here::zones::TimeZone<'_>) -> time_zones::TimeZone<'_> {
     its
 }
 
-// The types of suffixes, and of the error of a local time, are those of `time_zones`.
+// Compiles only if the types of suffixes, and of the error of a local time, here are those of `time_zones`.
 fn suffixes<'a>(
     its: (
         here::zones::NotOne,

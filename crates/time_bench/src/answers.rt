@@ -5,7 +5,7 @@ use time_record::Parsed;
 use time_values::error::Parse;
 use time_values::{Date, OffsetDateTime, PlainDateTime, Time, Timestamp, UtcDateTime, UtcOffset};
 
-/// A type of value that a text is parsed for, and what such a value adds to a sum.
+/// A type of value that a text is parsed for, and the number that such a value adds to the sum over many parses.
 pub trait Answer: Copy {
     /// Parses a whole text for such a value, without defaults (for `Staged` with an empty record as defaults).
     fn parse<F: Parsable>(format: &F, text: &[u8]) -> Result<Self, Parse>;
@@ -102,7 +102,7 @@ impl Answer for Timestamp {
     }
 }
 
-/// A date, time and offset that are parsed with an empty record as defaults, instead of without defaults.
+/// A date, time and offset, always parsed over a record: with an empty one as defaults, instead of without defaults.
 #[derive(Clone, Copy)]
 pub struct Staged(OffsetDateTime);
 

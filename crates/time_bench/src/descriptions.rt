@@ -72,8 +72,8 @@ pub fn second_items<'a>(fraction: &'a BorrowedFormatItem<'a>) -> [BorrowedFormat
     ]
 }
 
-/// The items of a time such as `1:05 PM`, with `seconds`, which is made optional, before the space. The hour needs no
-/// padding, and `AM` or `PM` may be in any case.
+/// The items of a time such as `1:05 PM`, with `seconds`, which is made optional, before the space. The hour has one or
+/// two digits, and `AM` or `PM` may be in any case.
 pub fn clock_items<'a>(seconds: &'a BorrowedFormatItem<'a>) -> [BorrowedFormatItem<'a>; 6] {
     [
         item!(Hour12, padding: Padding::None),

@@ -59,8 +59,8 @@ pub fn sum_for<F: Parsable>(
     }
 }
 
-// The sum, as by `sum_for`, by the description of a time of the 12-hour clock, as `1:05:09.25 PM`; the second and its
-// fraction are optional. `None`: no target has that name.
+// The sum over `times` parses, as `sum_for` returns it, by the description of a time of the 12-hour clock, as
+// `1:05:09.25 PM`; the second and its fraction are optional. `None`: no target has that name.
 fn sum_of_clocks(target: &[u8], times: u64, texts: Texts<'_>) -> Option<i64> {
     let fraction = BorrowedFormatItem::Compound(&FRACTION_ITEMS);
     let seconds = second_items(&fraction);
@@ -69,8 +69,8 @@ fn sum_of_clocks(target: &[u8], times: u64, texts: Texts<'_>) -> Option<i64> {
     sum_for(&BorrowedFormatItem::Compound(&items), target, times, texts)
 }
 
-// The sum, as by `sum_for`, by the description of a date, time and offset, or else of a year and a day of the year.
-// `None`: no target has that name.
+// The sum over `times` parses, as `sum_for` returns it, by the description of a date, time and offset, or else of a
+// year and a day of the year. `None`: no target has that name.
 fn sum_of_local(target: &[u8], times: u64, texts: Texts<'_>) -> Option<i64> {
     let lists = [
         BorrowedFormatItem::Compound(&DATE_TIME_ITEMS),
@@ -79,18 +79,18 @@ fn sum_of_local(target: &[u8], times: u64, texts: Texts<'_>) -> Option<i64> {
     sum_for(&BorrowedFormatItem::First(&lists), target, times, texts)
 }
 
-// The sum, as by `sum_for`, by a description of version 2. `None`: it is malformed or has more than 64 steps, or no
-// target has that name.
+// The sum over `times` parses, as `sum_for` returns it, by a description of version 2. `None`: it is malformed or has
+// more than 64 steps, or no target has that name.
 fn sum_of_text(description: &[u8], target: &[u8], times: u64, texts: Texts<'_>) -> Option<i64> {
     let description = parse_borrowed::<2, 64>(description).ok()?;
     sum_for(&description, target, times, texts)
 }
 
-/// The sum over this many parses of the text and its copy in turn. A format that is none of `rfc3339`, `rfc2822`,
-/// `iso8601`, `ymd`, `clock`, `unix` and `local` is a description of version 2. `None`: it is malformed or has more
-/// than 64 steps, or no target has that name.
+/// The wrapping sum over `times` parses of the text and its copy in turn. A format that is none of `rfc3339`,
+/// `rfc2822`, `iso8601`, `ymd`, `clock`, `unix` and `local` is a description of version 2. `None`: that description is
+/// malformed or has more than 64 steps, or no target has the name.
 ///
-/// A value adds its parts, a timestamp its nanoseconds modulo 1,000,000,007, and an error 1. The sum wraps.
+/// A value adds the sum of its numbers, a timestamp its nanoseconds modulo 1,000,000,007, and an error 1.
 pub fn sum_by_name(format: &[u8], target: &[u8], times: u64, texts: Texts<'_>) -> Option<i64> {
     match format {
         b"rfc3339" => sum_for(&Rfc3339, target, times, texts),

@@ -124,10 +124,10 @@ fn sum_by_name(name: &[u8], times: u64, day: u8) -> Option<i64> {
     }
 }
 
-/// The wrapping sum over `times` moments, four from that day of March 2021 on in turn (each a day and an hour after the
-/// one before, or equal from day 20 on): for `unix` of their Unix seconds, for `none` of their days of the month, and
-/// else of the last bytes of their texts (1 for an error): for `mail` by RFC 2822, and for `z`, `auto`, `nine`,
-/// `micro`, `behind` and `exact0` by RFC 3339. `None`: no such case, `times` is no `u64`, or `day` isn't from 1 to 23.
+/// The wrapping sum over `times` moments: four, from `day` of March 2021 on, in turn (each a day and an hour after the
+/// one before, or equal to it from day 20 on). It adds Unix seconds for `unix`, days of the month for `none`, and else
+/// the last bytes of texts (1 for an error): of RFC 2822 for `mail`, of RFC 3339 for `z`, `auto`, `nine`, `micro`,
+/// `behind` and `exact0`. `None`: no such case, `times` is no `u64`, or `day` isn't from 1 to 23.
 pub fn sum_of(case: &str, times: &str, day: &str) -> Option<i64> {
     let times = times.parse::<u64>().ok()?;
     let day = day.parse::<u8>().ok()?;

@@ -45,7 +45,7 @@ fn split_request(line: &[u8]) -> Request<'_>
 }
 
 /// Answers a line of a format's name, TAB, a target's name, TAB and a text with the value or error of parsing the text.
-/// With fewer TABs the answer is `error: line`, and with an unknown name `error: format`, or else `error: target`.
+/// With fewer TABs the answer is `error: line`, else `error: format` for an unknown format, or else `error: target`.
 #[derive(Drop)]
 pub struct Fields {
     named: Named,

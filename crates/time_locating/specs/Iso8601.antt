@@ -161,7 +161,7 @@ left_at_number Extended (week y w d) rest = 4 + rest
 left_at_number kind (week y w d) rest = 3 + rest
 
 -- the misses of a text that begins with a date: those of what follows the date if a record allows the date, and
--- otherwise that of the date's number and then those of the text without a date
+-- otherwise that of the date's number out of range, and then those of the text without a date
 abbrev pub after_date : List ℕ → Found IsoDate → Result Record Refusal → List Miss
 after_date bytes d (Ok q) = from_time true d.kind d.rest
 after_date bytes d (Err e) =

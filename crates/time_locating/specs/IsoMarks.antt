@@ -56,7 +56,7 @@ rows_mark name left [] bytes = None
 rows_mark name left (row ∷ rows) bytes =
     if leaves left (after_row row bytes) then row_mark name row bytes else rows_mark name left rows bytes
 
--- how many bytes are left where that name begins in an offset after such a part that leaves exactly `left`, or none
+-- how many bytes are left where that name begins in an offset, after a part of that kind, that leaves `left`, or none
 abbrev pub offset_mark : List ℕ → ℕ → ExtendedKind → List ℕ → Option ℕ
 offset_mark name left kind = rows_mark name left (rows_after offset_piece offset_rows kind)
 

@@ -15,7 +15,7 @@ OneList =
     (told : LiteralReport) (t : Tree) (bytes : List ℕ) (r : Record) (ms ns : List Miss)
     → Misses told t bytes r ms → Misses told t bytes r ns → ms ≡ ns
 
--- the error of a leaf that expects this
+-- the error of a leaf that expects this and doesn't match: an invalid literal or component, or trailing characters
 abbrev pub refusal_by : Expectation → Refusal
 refusal_by (these_bytes text) = literal
 refusal_by (named name) = component name

@@ -83,7 +83,7 @@ abbrev pub IsErrorAt : Reading → Locating → Marking → List ℕ → Record 
 IsErrorAt reads locates marks bytes begin e index =
     (place : Option Located) × IsLocated reads locates bytes begin place × IsRefusedAt marks bytes begin e place index
 
--- A text over a record has at most one place, and none if it is read whole.
+-- A text that is parsed over a record has at most one place of an error, and none if it is read whole.
 pub record IsExactPlace (reads : Reading) (locates : Locating) : Type 0 where
   pub one_place : (bytes : List ℕ) (r : Record) (m n : Miss) → locates bytes r m → locates bytes r n → m ≡ n
   pub not_read : (bytes : List ℕ) (r q : Record) (m : Miss) → locates bytes r m → reads bytes r [] q → ⊥

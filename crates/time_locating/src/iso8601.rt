@@ -21,7 +21,7 @@ use time_parsing::{Iso8601, Parsable, begin};
 use time_readers::iso8601::{DateNumbers, ExtendedKind, date, time};
 use time_record::Parsed;
 
-/// A piece of an ISO 8601 text.
+/// A piece of an ISO 8601 text: a number (of a year with its sign, of a time with its fraction, if any) or a character.
 #[derive(Clone, Copy)]
 pub enum Piece {
     /// Four digits, or a sign (`-` or `+`) and six digits.
@@ -116,10 +116,10 @@ const COLON_SECOND: &[Piece] = &[
     Piece::Second,
 ];
 
-// The rows of a time that a basic text may have.
+// The rows of pieces of a time in a text of the basic format, without separators.
 const BASIC_TIMES: [&[Piece]; 5] = [PART_OF_HOUR, HOUR, PART_OF_MINUTE, MINUTE, SECOND];
 
-// The rows of a time that an extended text may have. The colon before a minute is optional.
+// The rows of pieces of a time in a text of the extended format. The colon before a minute is optional.
 const EXTENDED_TIMES: [&[Piece]; 8] = [
     PART_OF_HOUR,
     HOUR,
@@ -131,7 +131,7 @@ const EXTENDED_TIMES: [&[Piece]; 8] = [
     COLON_SECOND,
 ];
 
-// The rows of a time that a text of an unknown kind may have.
+// The rows of pieces of a time in a text that isn't known yet to be of the basic or of the extended format.
 const ANY_TIMES: [&[Piece]; 8] = [
     PART_OF_HOUR,
     HOUR,
@@ -157,10 +157,10 @@ const OFFSET_COLON_MINUTE: &[Piece] = &[
     Piece::OffsetMinute,
 ];
 
-// The rows of an offset that a basic text may have.
+// The rows of pieces of an offset in a text of the basic format, without separators.
 const BASIC_OFFSETS: [&[Piece]; 3] = [UTC, OFFSET_HOUR, OFFSET_MINUTE];
 
-// The rows of an offset that an extended text, or one of an unknown kind, may have.
+// The rows of pieces of an offset in a text of the extended format, or one not known yet to be of either format.
 const OFFSETS: [&[Piece]; 4] = [UTC, OFFSET_HOUR, OFFSET_MINUTE, OFFSET_COLON_MINUTE];
 
 // The miss at the first piece of a row that doesn't match, or `None` if all match.
@@ -177,8 +177,8 @@ fn row_missed(row: &[Piece], input: &[u8]) -> Option<Miss<'static>>
     None
 }
 
-// The furthest of the misses of the rows, each at the front of the input; of several as far, the first row's. `None` if
-// each row matches.
+// The furthest of the misses of the rows, each tried at the front of the input; of several at one index, the first
+// row's. `None` if each row matches.
 #[tactic(auto, using(crate::proofs::IsoLengths::rows_next))]
 fn rows_missed(rows: &[&[Piece]], input: &[u8]) -> Option<Miss<'static>>
     ensures { erased_miss result ≡ furthest (spec.rows_misses (map (λ row. row.now) rows.now) input.now) }
@@ -190,7 +190,7 @@ fn rows_missed(rows: &[&[Piece]], input: &[u8]) -> Option<Miss<'static>>
     missed
 }
 
-// The rows of pieces that a time may have in a text of that kind.
+// The rows of pieces that a time may have in a text of that kind: basic, extended, or not known yet.
 fn times_of(kind: ExtendedKind) -> &'static [&'static [Piece]]
     ensures { map (λ row. row.now) result.now ≡ spec.rows_after spec.time_piece time_rows kind }
 {
@@ -201,7 +201,7 @@ fn times_of(kind: ExtendedKind) -> &'static [&'static [Piece]]
     }
 }
 
-// The rows of pieces that an offset may have in a text of that kind.
+// The rows of pieces that an offset may have in a text of that kind: basic, extended, or not known yet.
 fn offsets_of(kind: ExtendedKind) -> &'static [&'static [Piece]]
     ensures { map (λ row. row.now) result.now ≡ spec.rows_after spec.offset_piece offset_rows kind }
 {

@@ -15,9 +15,9 @@ pub fn law_misses()
     ensures furthest { FurthestLeavesFewest }
 {}
 
-/// If ISO 8601 rejects the date of a text with an error, one miss of the text is of the error's kind and component, and
-/// each miss before it in the list leaves more bytes. So if no prefix of the text matches, `locate` returns the place
-/// of that miss unless a later miss in the list is further on: of the misses at one index, it returns the date's.
+/// If ISO 8601 rejects the date of a text with an error, one miss of the text (a part that is tried and doesn't match)
+/// is of the error's kind and component, and each miss before it in the list leaves more bytes. So if no prefix of the
+/// text matches, `locate` returns the place of that miss unless a later miss in the list is further into the text.
 pub fn law_iso_misses()
     ensures { IsoOwnMiss }
 {}
@@ -36,9 +36,9 @@ pub fn law_place_of_refusal<T: Locate>(format: &T)
     ensures { PlacesRefusals (T.reads format.now) (T.refuses format.now) (T.locates format.now) }
 {}
 
-/// `locate` returns `None` if and only if the text is read whole and the outcome of a parse over a record, a value or
-/// an error, is that of converting the text's record. So if a parse returns a value, `locate` returns `None`; and if a
-/// parse rejects a text for which `locate` returns `None`, the record has no value. This holds for each type of value.
+/// `locate` returns `None` if and only if the format reads the whole text, and the outcome of parsing it over a record
+/// is what the record then converts to, a value or an error. So if the parse returns a value, `locate` returns `None`;
+/// and if it returns an error and `locate` returns `None`, the record has no value. This holds for each type of value.
 #[tactic(auto, using(crate::proofs::WholeTexts::place_of_outcome))]
 pub fn law_place_of_outcome<T: Locate>(format: &T)
     ensures date { PlacesOutcomes (IsDated greatest_year) (T.reads format.now) (T.refuses format.now) (T.locates format.now) }

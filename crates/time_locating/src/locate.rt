@@ -42,10 +42,10 @@ pub trait Locate: Parsable {
     fn locate_component(&self, input: &[u8], defaults: Option<Parsed>, name: &str) -> Option<usize>
         ensures { IsMarked (marks self.now) name.now input.now (begun defaults) result };
 
-    // A text over a record has at most one place, and none if it is read whole.
+    // A text that is parsed over a record has at most one place of an error, and none if it is read whole.
     ghost exact_place: { (s : Self) → IsExactPlace (Self.reads s) (locates s) };
 
-    // A text over a record has at most one mark for each component's name.
+    // For a text that is parsed over a record, `marks` allows at most one result for each component's name.
     ghost exact_mark: { (s : Self) → IsExactMark (marks s) };
 }
 

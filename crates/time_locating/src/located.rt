@@ -5,7 +5,7 @@ ghost use Rattle.time_locating.specs.Located.{end_of, erased_located, expected_t
 
 use std::fmt;
 
-/// What was expected at the place of an error.
+/// What was expected at the place of an error: bytes of a literal, a component, or the end of the text.
 #[derive(Clone, Copy, Debug, PartialEq, Eq)]
 pub enum Expected<'a> {
     /// These bytes: the rest of a literal, from its first byte that doesn't match. For a literal of a `Description` or
@@ -32,7 +32,7 @@ impl fmt::Display for Expected<'_> {
     }
 }
 
-/// The place of the error in a rejected text.
+/// The place of the error in a rejected text: its byte index, and what was expected there.
 #[derive(Clone, Copy, Debug, PartialEq, Eq)]
 pub struct Located<'a> {
     /// The byte index at which `expected` was expected: the start of a component, the first byte of a literal that

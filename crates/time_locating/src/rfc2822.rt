@@ -27,7 +27,7 @@ use time_record::Parsed;
 // How many letters a weekday's abbreviated name has.
 const WEEKDAY_LETTERS: usize = 3;
 
-// All places of a text, in order.
+// All fifteen places (parts) of an RFC 2822 text, in order.
 const PLACES: [Place; 15] = [
     Place::WeekdayName,
     Place::Day,
@@ -76,7 +76,7 @@ fn expected_from(place: Place, input: &[u8]) -> &[u8]
     }
 }
 
-// What the places so far determine for those after them.
+// What the places of a text that were parsed so far determine for those after them.
 #[derive(Clone, Copy)]
 struct Passed {
     // Whether the year has four digits.
@@ -197,7 +197,7 @@ fn places_before(place: Place) -> usize
     place as usize
 }
 
-// The bytes from the start of this place on, if the places before it match.
+// The bytes from the start of this place on. The result is only meant for a text whose places before this one match.
 fn rest_before<'a>(place: Place, input: &'a [u8]) -> Option<&'a [u8]>
     ensures { (stop : FailsAt true input.now place) → option_copied result ≡ Some stop.mid }
 {
@@ -213,7 +213,7 @@ fn rest_before<'a>(place: Place, input: &'a [u8]) -> Option<&'a [u8]>
 }
 
 // How many bytes are left at the start of the component of this name, in a text whose places all match. `None` if no
-// place has the name, or if its text is empty.
+// place has the name, or if that place's text is empty.
 fn mark_of_place(input: &[u8], name: &str) -> Option<usize>
     ensures { (rest : List ℕ) (n : Numbers) → HasForm true input.now rest n
         → MarksPlaces (PlaceSyntax true) spec.expected_from fault name.now places nothing_read input.now result }

@@ -23,7 +23,7 @@ use time_record::Parsed;
 // How many bytes the places from the year to the second have.
 const TO_SECOND: usize = 19;
 
-// All places of a text, in order.
+// All fifteen places (parts) of an RFC 3339 text, in order.
 const PLACES: [Place; 15] = [
     Place::Year,
     Place::YearDash,
@@ -135,7 +135,7 @@ fn past<'a>(place: Place, input: &'a [u8], is_utc: &mut bool) -> Option<&'a [u8]
 }
 
 // How many bytes are left at the start of the place of this name, in a text whose places all match. `None` if no place
-// has the name, or if its text is empty.
+// has the name, or if that place's text is empty.
 fn mark_of_place(input: &[u8], name: &str) -> Option<usize>
     ensures { (rest : List ℕ) (n : Numbers) → HasForm true input.now rest n
         → MarksPlaces (PlaceSyntax true) at_once fault name.now places nothing_read input.now result }

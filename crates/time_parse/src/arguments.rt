@@ -23,7 +23,7 @@ pub struct Question<'a> {
     pub target: &'a str,
 }
 
-/// What the command line requests.
+/// What the command line requests: the help, the version, answers to lines, or the usage for unknown words.
 #[derive(Clone, Copy)]
 pub enum Command<'a> {
     /// The usage and the page of help.
@@ -97,7 +97,7 @@ pub fn command_of(words: &[String]) -> Command<'_>
     }
 }
 
-/// The fault of the arguments: of the format or of the target.
+/// The fault of the arguments: an unknown format, a malformed or too long description, or an unknown target.
 #[derive(Clone, Copy, Debug)]
 pub enum Fault<'a> {
     /// The format isn't the name of one, and is no description, as it contains neither `[` nor `%`.
@@ -177,9 +177,9 @@ fn caret_lines(alloc: Global, bytes: &[u8], index: usize) -> Result<Vec<u8>, All
     Ok(lines)
 }
 
-/// The report of a fault: a line with `error: ` and its message, and unless the fault is that a description has too
-/// many steps, two lines with the argument, as by [`printable`], and a caret below the index of the fault. Each line
-/// ends with LF. `Err` if memory runs out.
+/// The report of a fault: a line with `error: ` and its message. Then, unless the fault is that a description has too
+/// many steps, a line with the argument, each byte as by [`printable`], and a line with a caret below the index of the
+/// fault. Each line ends with LF. `Err` if memory runs out.
 pub fn report(alloc: Global, fault: Fault<'_>) -> Result<Vec<u8>, AllocError>
     ensures { IfOk result (λ lines. IsReport (reason_of fault.entry) lines.items) }
 {

@@ -26,7 +26,7 @@ use time_values::{Date, OffsetDateTime, PlainDateTime, Time, Timestamp, UtcDateT
 // The most steps of a description. A description in brackets of at most this many bytes never has more.
 pub(crate) const MOST_STEPS: usize = 1024;
 
-/// The version of a description in brackets.
+/// The version of a description with components in brackets: 1, where `[[` is a literal `[`, or 2, where `\[` is.
 #[derive(Clone, Copy, Debug, PartialEq, Eq)]
 pub enum Version {
     /// Version 1: `[[` is a literal `[`.
@@ -35,7 +35,7 @@ pub enum Version {
     Two,
 }
 
-/// What the argument for a format is: a name, or a description in one of two syntaxes.
+/// What the argument for a format is: a name, a description in brackets, one in strftime's syntax, or none of these.
 #[derive(Clone, Copy, Debug)]
 pub enum Writing {
     /// The name of a format.
@@ -48,7 +48,7 @@ pub enum Writing {
     Unknown,
 }
 
-/// The format that parses the texts.
+/// The format that parses the texts: a named one, or a description that was prepared.
 #[derive(Drop)]
 pub enum Chosen {
     /// A named format, with the prepared descriptions of those named formats that need one.
@@ -57,7 +57,7 @@ pub enum Chosen {
     Described(Prepared<MOST_STEPS>),
 }
 
-/// A format, and the target of its texts.
+/// A format, and the target: the type of value that texts are parsed for.
 #[derive(Drop)]
 pub struct Request {
     /// The format.
@@ -135,7 +135,7 @@ fn choose(version: Version, format: &[u8]) -> Result<Chosen, Fault<'_>>
 }
 
 impl Request {
-    /// Looks up a format by its name or parses its description, and looks up the target by its name.
+    /// Finds the format by name or parses its description, of `version` if in brackets, and finds the target by name.
     ///
     /// # Errors
     ///

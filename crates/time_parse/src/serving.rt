@@ -17,7 +17,7 @@ use byte_streams::{BufferedSink, Sink, Source};
 use programs_answers::Stop;
 use std::alloc::Global;
 
-/// Why the program exits early.
+/// Why the program exits early: a fault of the arguments, or a failed read, write or allocation, or an endless input.
 #[derive(Clone, Copy)]
 pub enum Failure<'a> {
     /// The format is unknown, or is a description with a fault, or the target is unknown. Nothing was read or written.

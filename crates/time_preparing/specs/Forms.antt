@@ -130,11 +130,11 @@ parts (joined.Seconds b p) = second_parts b p
 abbrev pub BeginsWith : List Step → List Step → Type 0
 BeginsWith front steps = (after : List Step) × (steps ≡ front ++ after) × (further after ≡ [])
 
--- The steps begin with the joined ones, unless nothing is joined or there are fewer steps than joined ones.
+-- The steps begin with the joined ones, as in `BeginsWith`, unless none is joined or there are too few steps for them.
 abbrev pub BeginsWithParts : Joined → List Step → Type 0
 BeginsWithParts j steps = 0 < length (parts j) → length (parts j) ≤ length steps → BeginsWith (parts j) steps
 
--- at each index that both lists have, the steps from there on begin with the joined ones, as in `BeginsWithParts`
+-- at each index that both lists have, the steps from there on begin with those joined there, as in `BeginsWithParts`
 abbrev pub Fits : List Joined → List Step → Type 0
 Fits [] steps = Unit {0}
 Fits (j ∷ js) [] = Unit {0}

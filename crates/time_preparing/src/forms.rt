@@ -8,7 +8,7 @@ use std::num::NonZero;
 use time_components::{Component, Padding, Period, Step, SubsecondDigits, modifier};
 use time_values::Month;
 
-/// A form of a date: its parts, with the given byte between them. A day and a month's number have two digits.
+/// A form of a date: its parts in order, with this byte between them. A day and a month's number have two digits.
 #[derive(Clone, Copy, Debug, PartialEq, Eq)]
 pub enum Dated {
     /// A year, a month's number and a day, as `2021-03-04`. The year has four digits, or a sign and four to six. Only a

@@ -11,7 +11,7 @@ use arrayvec::ArrayVec;
 use std::fmt;
 use time_components::{BorrowedFormatItem, Component, Group, Step};
 
-/// Why items can't be prepared.
+/// Why `Prepared::from_items` can't prepare the items of a description that was built by hand.
 #[derive(Clone, Copy, Debug, PartialEq, Eq)]
 pub enum Unprepared {
     /// A literal is empty. Each step of a literal is one of its bytes, so it would have no step.
@@ -50,7 +50,7 @@ fn put<const N: usize>(steps: &mut ArrayVec<Step, N>, step: Step) -> Result<(), 
 }
 
 // Appends a `Step::More` for each further byte of a literal. Fails with `TooLong` if there is no room; some steps may
-// then be appended.
+// have been appended by then.
 fn put_further<const N: usize>(
     bytes: &[u8],
     steps: &mut ArrayVec<Step, N>,
@@ -66,7 +66,7 @@ fn put_further<const N: usize>(
 }
 
 // Appends a step for the first and for each further byte of a literal. Fails with `TooLong` if there is no room; some
-// steps may then be appended.
+// steps may have been appended by then.
 #[tactic(auto, using(crate::proofs::Placing::puts_bytes))]
 fn put_bytes<const N: usize>(
     first: u8,
@@ -81,7 +81,7 @@ fn put_bytes<const N: usize>(
 }
 
 // Appends a step for each byte of a literal. Fails with `EmptyLiteral` if it has none, or with `TooLong` if there is no
-// room; some steps may then be appended.
+// room; some steps may have been appended by then.
 fn put_literal<const N: usize>(
     bytes: &[u8],
     steps: &mut ArrayVec<Step, N>,
@@ -107,7 +107,7 @@ fn put_component<const N: usize>(
     put(steps, Step::Component(component))
 }
 
-// Appends the steps of an item. Fails with the first reason in the order of its parts; some steps may then be appended.
+// Appends an item's steps. Fails with the first error in the order of its parts, perhaps after appending some steps.
 #[cycle(items)]
 fn put_item<const N: usize>(
     item: &BorrowedFormatItem<'_>,
@@ -127,7 +127,7 @@ fn put_item<const N: usize>(
 }
 
 // Appends the steps of an `Optional` of this item. Fails with `OptionalNotCompound` if the item is no `Compound`, or
-// with the first reason in the order of its parts; some steps may then be appended.
+// else with the first error in the order of its parts, perhaps after appending some steps.
 #[cycle(items)]
 fn put_optional<const N: usize>(
     item: &BorrowedFormatItem<'_>,
@@ -152,8 +152,8 @@ fn close_group<const N: usize>(steps: &mut ArrayVec<Step, N>, group: Group, inde
     steps[index] = Step::Group(group, len);
 }
 
-// Appends a group step and the steps of these items in it. Fails with the first reason in the order of the items; some
-// steps may then be appended.
+// Appends a group step and the steps of these items in it. Fails with the first error in the order of the items,
+// perhaps after appending some steps.
 #[cycle(items)]
 fn put_group<const N: usize>(
     group: Group,
@@ -170,8 +170,8 @@ fn put_group<const N: usize>(
     Ok(())
 }
 
-/// Appends the steps of items in turn. Fails with the first reason in the order of the items; some steps may then be
-/// appended.
+/// Appends the steps of items in turn. Fails with the first error in the order of the items, perhaps after appending
+/// some steps.
 #[cycle(items)]
 pub(crate) fn put_items<const N: usize>(
     items: &[BorrowedFormatItem<'_>],

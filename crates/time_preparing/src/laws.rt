@@ -7,8 +7,8 @@ ghost use Rattle.time_parsing.specs.TreeLaws.{HaveEqualResults};
 use crate::Prepared;
 use time_descriptions::Description;
 
-/// If a prepared description and a description have equal trees, then parsing a prefix of any input over any record
-/// gives equal rests or equal errors, and equal new records.
+/// If a prepared description and a description have equal trees, then parsing a prefix of any input into any record
+/// with either gives equal unread rests or equal errors, and equal new records.
 pub fn law_prepared<const N: usize, const M: usize>(
     prepared: &Prepared<N>,
     description: &Description<M>,

@@ -38,7 +38,7 @@ fn over_record<const N: usize, V: TryFrom<Parsed, Error = TryFromParsed> + Drop>
         ⊎ ((r : Record) × Reads greatest_year (steps_shape format.now) input.now (begun defaults.now) [] r
         × ((f : TryFromParsed_) × V.try_from_gives r (Err f) × (e ≡ refusal_of_parsed f)))) }
 {
-    // `begin` would copy the defaults before it inspects them.
+    // Not `begin(*defaults)`, which would copy the defaults before it inspects them.
     let mut parsed = Parsed::new();
     if let Some(known) = defaults {
         parsed = *known;

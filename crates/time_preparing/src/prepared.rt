@@ -21,8 +21,8 @@ use time_values::error::ParseFromDescription;
 
 /// A description of at most `N` steps that is prepared once and then parses many texts.
 ///
-/// It has the steps of the description, in their order. It stores for each step which steps from that one on are parsed
-/// together. If the steps have a known form, it also stores the form, and parses the commonest whole texts directly.
+/// It has the steps of the description, in their order, and stores for each which steps from it on are parsed together.
+/// If the steps have a known form, it also stores the form, and parses the commonest whole texts directly as values.
 #[derive(Drop)]
 pub struct Prepared<const N: usize> {
     steps: ArrayVec<Step, N>,

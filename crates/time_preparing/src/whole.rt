@@ -6,7 +6,7 @@ pub mod fast;
 pub use crate::forms::{Dated, InHalf, InMoment, InYear};
 use time_components::Step;
 
-/// A form of whole texts, which are parsed directly as values if it is known. A `u8` is the byte between two parts.
+/// A known form of whole texts, which are parsed directly as values, or `Nothing`. A `u8` is a byte between two parts.
 #[derive(Clone, Copy, Debug, PartialEq, Eq)]
 pub enum Whole {
     /// None of the known forms.

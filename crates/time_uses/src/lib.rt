@@ -26,7 +26,7 @@ pub fn log_line(line: &[u8]) -> Result<(OffsetDateTime, &[u8]), Parse>
     Rfc3339.parse_front(line, None)
 }
 
-/// The date, time and offset that the whole value of a mail's `Date` header is in RFC 2822. An error if it isn't valid.
+/// The date, time and offset of a mail's `Date` header, whose whole value is in RFC 2822. An error if it isn't valid.
 pub fn mail_date(header: &str) -> Result<OffsetDateTime, Parse>
     ensures { IsMomentOutcome greatest_year (direct (RefusesRfc2822 greatest_year)) (rfc2822.Reads greatest_year)
         (rfc2822.Refuses greatest_year) header.now None (seen result) }
@@ -34,7 +34,7 @@ pub fn mail_date(header: &str) -> Result<OffsetDateTime, Parse>
     OffsetDateTime::parse(header, &Rfc2822)
 }
 
-/// Why a text of a configuration wasn't parsed as a date.
+/// Why a text of a configuration wasn't parsed as a date: because of its description, or of the text itself.
 #[derive(Debug, Drop)]
 pub enum NoDate<'a> {
     /// The description can't be parsed, or has more than 64 steps.
@@ -43,8 +43,8 @@ pub enum NoDate<'a> {
     Text(Parse),
 }
 
-/// The date of a whole text by a description of version 2, in brackets. Both are texts of a configuration. An error is
-/// that of the description, which may have up to 64 steps, or else that of the text.
+/// The date of a whole text, parsed by a description of version 2, as `[year]-[month]-[day]`. Both are texts of a
+/// configuration. An error is that of the description, which may have up to 64 steps, or else that of the text.
 pub fn configured_date<'a>(description: &'a str, text: &str) -> Result<Date, NoDate<'a>>
     ensures { IsConfigured description.now text.now result }
 {
@@ -76,8 +76,8 @@ pub fn time_of_day(text: &str) -> Result<Time, Parse>
     Time::parse(text, &Iso8601)
 }
 
-/// The date of a whole text by the format. `year`, if from -999999 to 999999, is the default of a text without a full
-/// year, even with a century and two digits. An error if the text doesn't match, or gives no valid date.
+/// The date of a whole text by the format. `year` (ignored unless from -999999 to 999999) is the year of a text without
+/// a full year, even with a century and two digits. An error if the text doesn't match, or gives no valid date.
 pub fn date_in<F: Parsable>(year: i32, text: &[u8], format: &F) -> Result<Date, Parse>
     ensures { IsOutcome (IsDated greatest_year) (F.reads format.now) (F.refuses format.now) text.now
         (begun (put greatest_year (year_is year) empty)) (seen result) }

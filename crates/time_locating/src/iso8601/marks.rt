@@ -68,7 +68,7 @@ fn leaves(left: usize, row: &[Piece], input: &[u8]) -> bool
     }
 }
 
-// The `row_mark` of the first row that leaves exactly `left` bytes, or `None` if no row does.
+// How many bytes are left where this name begins in the first row that matches and leaves `left` bytes, or `None`.
 fn rows_mark(rows: &[&[Piece]], left: usize, input: &[u8], name: &str) -> Option<usize>
     ensures { result ≡ spec.rows_mark name.now left (map (λ row. row.now) rows.now) input.now }
 {

@@ -16,7 +16,7 @@ use time_record::Parsed;
 use time_values::{Date, OffsetDateTime, PlainDateTime, Time};
 
 /// The date of a whole text. `None`: the description's form isn't `Whole::Date`, or the text isn't such a date of the
-/// calendar with a year of four digits.
+/// calendar with a year of four digits and no sign.
 #[inline(always)]
 pub(super) fn date<const N: usize>(format: &Prepared<N>, input: &[u8]) -> Option<Date>
     ensures { IfSome result (λ v. IsOutcome (IsDated greatest_year) (Reads greatest_year (steps_shape format.now))
@@ -37,8 +37,8 @@ pub(super) fn time<const N: usize>(format: &Prepared<N>, input: &[u8]) -> Option
 
 /// The date and time of a whole text. The description's form must be `Whole::Plain` without defaults, and
 /// `Whole::InYear` with defaults. The year of the defaults is then the date's year. `None`: another form, a text that
-/// isn't such a valid date and time, a text of `Whole::Plain` whose year isn't four digits, a second of 60, or defaults
-/// without a year, or with an ordinal or a fraction of a second.
+/// isn't such a valid date and time, a text of `Whole::Plain` whose year isn't four digits without a sign, a second of
+/// 60, or defaults without a year, or with an ordinal or a fraction of a second.
 #[inline(always)]
 pub(super) fn date_time<const N: usize>(
     format: &Prepared<N>,
@@ -56,7 +56,7 @@ pub(super) fn date_time<const N: usize>(
 }
 
 /// The date, time and offset of a whole text. `None`: the description's form isn't `Whole::Moment`, the text isn't such
-/// a valid date, time and offset with a year of four digits, or its second is 60.
+/// a valid date, time and offset with a year of four digits and no sign, or its second is 60.
 #[inline(always)]
 pub(super) fn moment<const N: usize>(format: &Prepared<N>, input: &[u8]) -> Option<OffsetDateTime>
     ensures { IfSome result (λ v. IsOutcome (IsMoment greatest_year) (Reads greatest_year (steps_shape format.now))

@@ -66,7 +66,7 @@ pub(super) fn year<'a>(
     Some(found.0)
 }
 
-// Reads a year as `year` does, for a component that accepts no year of more than four digits.
+// Reads a year of four digits and no sign, as `year` does, for a component that accepts no more than four digits.
 #[inline(always)]
 fn standard_year<'a>(
     parsed: &mut Parsed,

@@ -228,7 +228,7 @@ fn signed(is_negative: bool, minute: i8) -> i8
     if is_negative { -minute } else { minute }
 }
 
-// An offset at the front of the input, as `fast::offset` reads it, and the rest. `None` if there is none.
+// An offset at the front, as `fast::offset` reads it (sign, hour, `between`, if any, minute), and the rest, or `None`.
 #[inline(always)]
 fn offset_of(between: Option<u8>, input: &[u8]) -> Option<(UtcOffset, &[u8])>
     ensures { IfSome result (λ f. (numbers : OffsetNumbers) × IsOf numbers f.0
@@ -243,7 +243,7 @@ fn offset_of(between: Option<u8>, input: &[u8]) -> Option<(UtcOffset, &[u8])>
 }
 
 /// The date of a whole text. `None` if the form isn't `Whole::Date`, or the text isn't such a date of the calendar with
-/// a year of four digits.
+/// a year of four digits and no sign.
 #[inline(always)]
 pub(crate) fn date(whole: &Whole, input: &[u8]) -> Option<Date>
     ensures { IfSome result (λ v. ReadsWhole whole.now input.now (λ r. IsDated greatest_year r (Ok v))) }
@@ -281,7 +281,7 @@ pub(crate) fn time(whole: &Whole, input: &[u8]) -> Option<Time>
 }
 
 /// The date and time of a whole text. `None` if the form isn't `Whole::Plain`, the text isn't such a valid date and
-/// time with a year of four digits, or its second is 60.
+/// time with a year of four digits and no sign, or its second is 60.
 #[inline(always)]
 pub(crate) fn date_time(whole: &Whole, input: &[u8]) -> Option<PlainDateTime>
     ensures { IfSome result (λ v. ReadsWhole whole.now input.now (λ r. IsPlain greatest_year r (Ok v))) }
@@ -301,7 +301,7 @@ pub(crate) fn date_time(whole: &Whole, input: &[u8]) -> Option<PlainDateTime>
 }
 
 /// The date, time and offset of a whole text. `None` if the form isn't `Whole::Moment`, the text isn't such a valid
-/// date, time and offset with a year of four digits, or its second is 60.
+/// date, time and offset with a year of four digits and no sign, or its second is 60.
 #[inline(always)]
 pub(crate) fn moment(whole: &Whole, input: &[u8]) -> Option<OffsetDateTime>
     ensures { IfSome result (λ v. ReadsWhole whole.now input.now (λ r. IsMoment greatest_year r (Ok v))) }
@@ -312,7 +312,7 @@ pub(crate) fn moment(whole: &Whole, input: &[u8]) -> Option<OffsetDateTime>
     if input.len() < DATE_LEN + 1 + TIME_LEN + OFFSET_LEN {
         return None;
     }
-    // The minute of the offset is parsed last, so its digits are checked first.
+    // The minute of the offset is parsed last, so its digits are checked first: without them, `None` is returned early.
     let [.., b'0'..=b'5', b'0'..=b'9'] = input else {
         return None;
     };

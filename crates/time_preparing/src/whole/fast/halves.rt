@@ -128,7 +128,7 @@ fn time_of(numbers: &HalfNumbers) -> Option<Time>
     }
 }
 
-// The time of a whole text of the form, or `None` as in `time`. It isn't inlined, so that other times don't pay for it.
+// The time of a whole text of the form, or `None` as in `time` below. Not inlined, so other times don't pay for it.
 #[inline(never)]
 fn whole(form: &InHalf, input: &[u8]) -> Option<Time>
     ensures { IfSome result (λ v. ReadsWhole (whole_.Half form.now) input.now (λ r. IsTimed r (Ok v))) }

@@ -115,7 +115,7 @@ fn date_of(year: i32, between: u8, input: &[u8]) -> Option<(Date, &[u8])>
     }
 }
 
-// The date and time of a whole text of the form, in the year of the record, or `None` as in `date_time`. It isn't
+// The date and time of a whole text of the form, in the record's year, or `None` as in `date_time` below. It isn't
 // inlined, so that other forms don't pay for it.
 #[inline(never)]
 fn whole(form: &InYear, input: &[u8], known: &Parsed) -> Option<PlainDateTime>

@@ -15,7 +15,7 @@ use super::Whole;
 use time_values::{Date, OffsetDateTime, PlainDateTime, Time};
 
 /// The date that the form's steps parse from the whole input. `None` if the form isn't [`Whole::Date`], or the input
-/// isn't such a date of the calendar with a year of four digits. The steps may still parse it.
+/// isn't such a date of the calendar with a year of four digits and no sign. The steps may still parse that input.
 #[inline(always)]
 pub fn date(whole: &Whole, input: &[u8]) -> Option<Date>
     ensures { IfSome result (λ v. IsOutcome (IsDated greatest_year) (Reads greatest_year (steps_shape (whole_parts whole.now)))
@@ -26,7 +26,7 @@ pub fn date(whole: &Whole, input: &[u8]) -> Option<Date>
 
 /// The time that the form's steps parse from the whole input. `None` if the form isn't [`Whole::Time`] or
 /// [`Whole::Half`], the input isn't such a time, its second is 60, or its fraction has more than nine digits. The steps
-/// may still parse it.
+/// may still parse that input.
 #[inline(always)]
 pub fn time(whole: &Whole, input: &[u8]) -> Option<Time>
     ensures { IfSome result (λ v. IsOutcome IsTimed (Reads greatest_year (steps_shape (whole_parts whole.now)))
@@ -36,8 +36,8 @@ pub fn time(whole: &Whole, input: &[u8]) -> Option<Time>
 }
 
 /// The date and time that the form's steps parse from the whole input. `None` if the form isn't [`Whole::Plain`], the
-/// input isn't such a valid date and time with a year of four digits, or its second is 60. The steps may still parse
-/// it.
+/// input isn't such a valid date and time with a year of four digits and no sign, or its second is 60. The steps may
+/// still parse that input.
 #[inline(always)]
 pub fn date_time(whole: &Whole, input: &[u8]) -> Option<PlainDateTime>
     ensures { IfSome result (λ v. IsOutcome (IsPlain greatest_year) (Reads greatest_year (steps_shape (whole_parts whole.now)))
@@ -47,8 +47,8 @@ pub fn date_time(whole: &Whole, input: &[u8]) -> Option<PlainDateTime>
 }
 
 /// The date, time and offset that the form's steps parse from the whole input. `None` if the form isn't
-/// [`Whole::Moment`], the input isn't such a valid date, time and offset with a year of four digits, or its second is
-/// 60. The steps may still parse it.
+/// [`Whole::Moment`], the input isn't such a valid date, time and offset with a year of four digits and no sign, or its
+/// second is 60. The steps may still parse that input.
 #[inline(always)]
 pub fn moment(whole: &Whole, input: &[u8]) -> Option<OffsetDateTime>
     ensures { IfSome result (λ v. IsOutcome (IsMoment greatest_year) (Reads greatest_year (steps_shape (whole_parts whole.now)))

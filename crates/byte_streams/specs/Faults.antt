@@ -5,7 +5,7 @@ use Rattle.std.specs.Prelude.{◌≡◌, ◌⊎◌, ℕ, ◌+◌, ◌-◌, ◌^�
 abbrev pub Rises : ℕ → ℕ → Type 0
 Rises before now = (before ≤ now) × (min (before + 1) (2 ^ 64 - 1) ≤ now)
 
--- After `Ok` the count of failed calls is unchanged, and after an error it rose.
+-- After `Ok` the count of failed calls is unchanged, and after an error it rose (`Rises`).
 abbrev pub HasCause : {V E : Type 0} → Result V E → ℕ → ℕ → Type 0
 HasCause result before now = MatchResult result (λ _. now ≡ before) (λ _. Rises before now)
 
@@ -21,6 +21,6 @@ HasGiven result before now = MatchResult result (λ n. now ≡ count_more before
 abbrev pub IsCutOff : ℕ → ℕ → ℕ → Type 0
 IsCutOff before now given = Rises before now ⊎ (2 ^ 64 - 1 ≤ given)
 
--- A call failed; or none failed, and at least one byte was read or the count of bytes is 2^64 - 1 or more.
+-- The count of failed calls rose (`Rises`); or it is unchanged, and bytes were read or their count is 2^64 - 1 or more.
 abbrev pub HasProgressed : ℕ → ℕ → ℕ → ℕ → Type 0
 HasProgressed faults faults' given given' = ((faults' ≡ faults) × (count_more given 1 ≤ given')) ⊎ Rises faults faults'

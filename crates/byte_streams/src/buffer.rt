@@ -138,9 +138,9 @@ impl<const N: usize> ArrayBuf<N> {
         }
     }
 
-    /// Reads once, and appends the bytes. Returns `false` at the end of the input, and otherwise `true`, also for an
-    /// interrupted read, which appends nothing. Another failed read is an error, and leaves the buffered bytes
-    /// unchanged. The buffer must contain fewer than `N` bytes.
+    /// Reads from `input` once, and appends the bytes read. Returns `false` at the end of the input, and otherwise
+    /// `true`, also for an interrupted read, which appends nothing. Returns the error of any other failed read, and
+    /// leaves the buffered bytes unchanged. The buffer must contain fewer than `N` bytes.
     pub fn fill<R: Source>(&mut self, input: &mut R) -> io::Result<bool>
         requires { length self.old.items < N }
         ensures read { MatchResult result

@@ -16,9 +16,9 @@ const CAPACITY: usize = 65536;
 // How many bytes the array holds into which `write_fmt` first prints a value: more than most printed values have.
 const LONGEST: usize = 128;
 
-/// A sink with a buffer of up to 65536 bytes that aren't written yet. [`flush_buffer`](BufferedSink::flush_buffer)
-/// writes them, and a later write does if its bytes don't fit in the buffer, but neither `flush` nor dropping writes
-/// them. It allocates nothing.
+/// A sink that buffers up to 65536 bytes in an array. [`flush_buffer`](BufferedSink::flush_buffer) writes them to the
+/// wrapped sink. So does a write of bytes that don't fit in the buffer, and a `write_fmt` of a text of more than 128
+/// bytes. `flush` doesn't write them, and dropping this value discards them. It allocates nothing.
 #[derive(Drop)]
 pub struct BufferedSink<W> {
     /// The sink that the buffered bytes are written to.
@@ -27,7 +27,7 @@ pub struct BufferedSink<W> {
 }
 
 impl<W> BufferedSink<W> {
-    /// The sink with an empty buffer.
+    /// Wraps a sink, with an empty buffer.
     pub fn new(sink: W) -> BufferedSink<W>
         ensures sink { result.sink ≡ sink }
         ensures none { result.buffer.items ≡ [] }
@@ -38,7 +38,7 @@ impl<W> BufferedSink<W> {
         }
     }
 
-    /// The sink. The buffered bytes are dropped, and not written.
+    /// The wrapped sink. The buffered bytes are dropped without being written.
     pub fn into_sink(self) -> W
         ensures { result ≡ self.sink }
     {
@@ -75,7 +75,7 @@ impl<W: Sink> BufferedSink<W> {
         Ok(())
     }
 
-    // Writes the buffered bytes, and then bytes that don't fit in the buffer.
+    // Writes the buffered bytes to the sink, and then these bytes, which don't fit in the buffer.
     #[cold]
     #[inline(never)]
     fn write_past(&mut self, bytes: &[u8]) -> Result<(), Unwritten>
@@ -88,7 +88,7 @@ impl<W: Sink> BufferedSink<W> {
         self.sink.write_all(bytes)
     }
 
-    // Writes the buffered bytes, and then what `Display` prints of a value.
+    // Writes the buffered bytes to the sink, and then what `Display` prints of a value.
     #[cold]
     #[inline(never)]
     fn print_past<D: Display + Drop>(&mut self, text: D) -> Result<(), Unwritten>
@@ -154,7 +154,7 @@ impl<W: Sink> Sink for BufferedSink<W> {
     ghost through = { λ buffered. W.through buffered.sink };
 
     // Writes the buffered bytes first if the new ones don't fit. Bytes longer than the whole buffer aren't buffered.
-    // Only one call appends bytes, so that the compiler builds a constant or an array in the buffer itself.
+    // `append` is called at one place only, so that the compiler builds a constant or an array in the buffer itself.
     #[inline(always)]
     fn write_all(&mut self, bytes: &[u8]) -> Result<(), Unwritten> {
         if !self.buffer.has_room(bytes) {
@@ -180,7 +180,7 @@ impl<W: Sink> Sink for BufferedSink<W> {
         }
     }
 
-    // Flushes only the sink: a flush keeps the contents, and a failed write of the buffered bytes leaves them unknown.
+    // Flushes only the sink: a flush must keep the contents, and a failed write of buffered bytes could change them.
     fn flush(&mut self) -> Result<(), Unwritten> {
         self.sink.flush()
     }

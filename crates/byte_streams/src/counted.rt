@@ -8,8 +8,8 @@ use std::fmt::Display;
 use std::io;
 use std::io::{Read, Write};
 
-/// A reader or a writer of std. It counts the failed calls and the bytes that reads returned, both up to
-/// 18446744073709551615, and keeps the last error of a write or a flush.
+/// Wraps a reader or a writer of std. It counts the failed calls and the bytes that reads returned, each up to
+/// 18446744073709551615, and keeps the error of the last failed write or flush.
 ///
 /// A write to a `Vec` fails if no memory can be allocated.
 #[derive(Drop)]
@@ -43,7 +43,7 @@ impl<T> Counted<T> {
         &self.inner
     }
 
-    /// The wrapped reader or writer, and the last error of a write or a flush. The error is `None` if none failed.
+    /// The wrapped reader or writer, and the error of the last failed write or flush, or `None` if none failed.
     pub fn into_parts(self) -> (T, Option<io::Error>)
         ensures inner { result.0 ≡ self.inner }
         ensures error { result.1 ≡ self.error }
@@ -57,15 +57,15 @@ impl<T> Counted<T> {
         (inner, error)
     }
 
-    // Whether a call has failed, or reads have returned 18446744073709551615 bytes.
+    // Whether a call has failed, or reads have returned 18446744073709551615 bytes or more.
     fn is_cut_off(&self) -> bool
         ensures { IsTrue result ↔ IsCutOff 0 self.now.faults self.now.given }
     {
         self.faults > 0 || self.given == u64::MAX
     }
 
-    /// `count`, a number of readers that were cut off, plus one if this one was cut off: a call of it failed, or its
-    /// reads have returned 18446744073709551615 bytes or more. The result is at most 18446744073709551615.
+    /// `count` (of readers that were cut off), plus 1 if this reader was: if a call to it failed, or if its reads have
+    /// returned 18446744073709551615 bytes or more. The result is at most 18446744073709551615.
     pub fn count_cut_off(&self, count: u64) -> u64
         ensures cut_off { IsCutOff 0 self.now.faults self.now.given → Rises count result }
         ensures whole { ¬ IsCutOff 0 self.now.faults self.now.given → result ≡ count }
@@ -159,7 +159,7 @@ mod tests {
     use std::io;
     use std::io::{ErrorKind, Read, Write};
 
-    // Writes a number between brackets.
+    // Writes a number between brackets, and flushes the sink.
     fn write_number<S: Sink>(n: u64, out: &mut S) -> Result<(), Unwritten> {
         out.write_all(b"[")?;
         write!(out, "{n}")?;

@@ -7,8 +7,8 @@ use std::fmt::Display;
 use std::io;
 use std::io::{ErrorKind, Write};
 
-/// A borrowed writer of std. Like [`Counted`](crate::Counted) it counts the failed calls, and keeps the last error. The
-/// bytes go directly to that writer, which still contains them when the borrow has ended.
+/// Wraps a borrowed writer of std. It counts the failed calls, up to 18446744073709551615, and keeps the last error.
+/// The bytes go directly to that writer, which still contains them when the borrow has ended.
 #[derive(Drop)]
 pub struct Lent<'a, W> {
     inner: &'a mut W,
@@ -31,7 +31,7 @@ impl<'a, W> Lent<'a, W> {
         }
     }
 
-    /// The last error of a write or a flush, or one of the kind `Other` if none failed.
+    /// The error of the last failed write or flush, or an error of the kind `Other` if none failed.
     pub fn into_error(self) -> io::Error
         ensures { IfSome self.entry.error (λ error. result ≡ error) }
     {

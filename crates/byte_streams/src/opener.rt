@@ -15,7 +15,7 @@ pub struct Opener<'a, R> {
 }
 
 impl<'a, R> Opener<'a, R> {
-    /// An opener of the files of this system, with a count of 0.
+    /// Makes an opener that opens files through the runtime `rt`, with a count of 0 failures.
     pub fn new(rt: &'a R) -> Opener<'a, R>
         ensures { result.faults ≡ 0 }
     {
@@ -31,8 +31,8 @@ impl<'a, R> Opener<'a, R> {
 }
 
 impl<R: Files> Opener<'_, R> {
-    /// Opens a file by name, for reading. The counts of the returned file are 0. Returns an error, and counts a
-    /// failure, if the file can't be opened, or if the name isn't UTF-8 (`InvalidInput`).
+    /// Opens a file for reading, by its name in UTF-8. The counts of the returned file are 0. Returns an error, and
+    /// counts a failure, if the file can't be opened, or if the name isn't UTF-8 (`InvalidInput`).
     pub fn open(&mut self, name: &[u8]) -> io::Result<Counted<R::File>>
         ensures begun { IfOk result (λ file. file.faults ≡ 0) }
         ensures cause { HasCause result self.old.faults self.new.faults }

@@ -5,19 +5,19 @@ ghost use Rattle.byte_streams.specs.Faults.{HasCause};
 
 use std::fmt::Display;
 
-/// The error of a write or a flush. The type has no fields, so that the result for each line is small.
+/// The error of a failed write or flush. The type has no fields, so that a `Result` that contains it is small.
 #[derive(Clone, Copy, Debug, PartialEq, Eq)]
 pub struct Unwritten;
 
 /// A writer. A method returns an error if and only if a call that it made to the underlying writer failed.
 pub trait Sink {
-    // The bytes that it contains, if they are known.
+    // The bytes that the sink contains, including buffered ones, if they are known.
     ghost contents: { Self → Option (List ℕ) };
 
     // How many calls to the underlying writer have failed. The count may stop at 18446744073709551615.
     ghost faults: { Self → ℕ };
 
-    // Identifies the reference that it writes through, if there is one.
+    // Identifies the mutable reference through which the sink writes, if it writes through one. 0 by default.
     ghost through: { Self → ℕ } = { λ _. 0 };
 
     /// Writes all of the bytes. After an error, some of them may have been written.

@@ -147,9 +147,9 @@ pub extern "C" fn pelzaune_described_nanoseconds(
     count(description, text, out)
 }
 
-/// Parses a text once, by a stored description, into its date, its time and its offset. Returns 0 if the whole text is
-/// parsed: then `out` has a status for each part, and a part whose status isn't 0 is unchanged. A second of 60 rejects
-/// the time, and a Unix timestamp is dropped. Otherwise returns the error's status and leaves all of `out` unchanged.
+/// Parses a text once, by a stored description, into its date, time and offset. A second of 60 rejects the time, and a
+/// Unix timestamp is dropped. If the whole text matches, returns 0 and stores the parts and a status for each: 0, or an
+/// error's, and then that part is unchanged. Otherwise returns the error's status, and `out` is unchanged.
 #[unsafe(no_mangle)]
 pub extern "C" fn pelzaune_described_parts(
     description: &StoredDescription,
@@ -162,7 +162,7 @@ pub extern "C" fn pelzaune_described_parts(
 }
 
 /// As `pelzaune_column`, by a stored description: stores each line's nanoseconds since 1970-01-01T00:00:00Z in its
-/// entry, or `i64::MIN` for a rejected line, which `refused` counts. Returns the number of lines.
+/// entry, or `i64::MIN` if it is rejected, and in `refused` how many are. Returns how many lines the whole text has.
 #[unsafe(no_mangle)]
 pub extern "C" fn pelzaune_described_column(
     description: &StoredDescription,
@@ -177,10 +177,10 @@ pub extern "C" fn pelzaune_described_column(
     column_stored(description, text, entries, refused)
 }
 
-/// Writes to `out` where a text fails to match the format with this number. Returns the status of what was expected
-/// there: 1 for a literal, 2 plus 256 times its number for a component, or 3 for the end of the text. If the whole text
-/// matches, returns 0 and leaves `out` unchanged, also for a date that doesn't exist, such as 30 February. An unknown
-/// format has the status 8, and leaves `out` unchanged.
+/// Stores in `out` the byte index at which a text fails to match the format with this number, and the literal byte
+/// expected there or 0. Returns the status of what was expected: 1 for a literal, 2 plus 256 times its number for a
+/// component, or 3 for the end of the text. If the whole text matches, even with a date that doesn't exist, such as 30
+/// February, returns 0. For an unknown format returns 8. In both cases `out` is unchanged.
 #[unsafe(no_mangle)]
 pub extern "C" fn pelzaune_locate(format: u32, text: &[u8], out: &mut Place) -> u32
     ensures { StoresPlace (Formats.format_of format) text.now result out.old out.new }
@@ -188,8 +188,8 @@ pub extern "C" fn pelzaune_locate(format: u32, text: &[u8], out: &mut Place) -> 
     locate_by(format, text, out)
 }
 
-/// As `pelzaune_locate`, by a description in the syntax with this number: stores where a text fails, and returns what
-/// was expected; `out` is unchanged for a match (0), a malformed description (9 to 16) or an unknown syntax (17).
+/// As `pelzaune_locate`, by a description in this syntax: stores where a text fails, and returns the status of what was
+/// expected. `out` is unchanged for a match (0), a malformed description (9 to 16) or an unknown syntax (17).
 #[unsafe(no_mangle)]
 pub extern "C" fn pelzaune_read_locate(
     syntax: u32,
@@ -226,8 +226,8 @@ pub extern "C" fn pelzaune_column(
     column_by(format, text, entries, refused)
 }
 
-/// As `pelzaune_column`, by a description in this syntax: stores each line's nanoseconds since 1970, and returns the
-/// number of lines. A malformed description or an unknown syntax rejects each line, which then stores `i64::MIN`.
+/// As `pelzaune_column`, by a description in this syntax: stores each line's nanoseconds since 1970, or `i64::MIN` for
+/// a rejected line, and returns the number of lines. A malformed description or an unknown syntax rejects each line.
 #[unsafe(no_mangle)]
 pub extern "C" fn pelzaune_read_column(
     syntax: u32,

@@ -11,8 +11,8 @@ use pelzaune_ffi::writing::format_moment;
 /// Writes the text of a moment, in the format with this number, over the start of the buffer, truncated to the buffer's
 /// length. The rest of the buffer is unchanged. Stores the length of the whole text in `count`.
 ///
-/// Returns 0, or the status of the error and leaves `buffer` and `count` unchanged: that of a part that is out of range
-/// or that the format can't write, or 8 for an unknown format.
+/// Returns 0, or the status of the error and leaves `buffer` and `count` unchanged: 5 or 6 for a part out of range, 18
+/// for one that the format can't write, each plus 256 times the component's number, or 8 for an unknown format.
 #[unsafe(no_mangle)]
 pub extern "C" fn pelzaune_format_moment(
     format: u32,
@@ -29,9 +29,9 @@ pub extern "C" fn pelzaune_format_moment(
 /// truncated to the buffer's length. The rest of the buffer is unchanged. Stores the length of the whole text in
 /// `count`. The text has all optional items, and the first item of each choice.
 ///
-/// Returns 0, or the status of the error and leaves `buffer` and `count` unchanged: that of the description, 17 for an
-/// unknown syntax, that of a part that is out of range or of a component that can't be written, or 19 for a text of
-/// more than 1024 bytes.
+/// Returns 0, or the status of the error and leaves `buffer` and `count` unchanged: 9 to 16 for a malformed
+/// description, 17 for an unknown syntax, 19 for a text of more than 1024 bytes; or, plus 256 times the component's
+/// number, 5 or 6 for a part out of range or 18 for a component that can't be written.
 #[unsafe(no_mangle)]
 pub extern "C" fn pelzaune_read_format_moment(
     syntax: u32,
@@ -46,7 +46,7 @@ pub extern "C" fn pelzaune_read_format_moment(
     format_read(syntax, description, moment, buffer, count)
 }
 
-/// As `pelzaune_read_format_moment`, by a stored description: writes the text over `buffer`, and its length to `count`.
+/// As `pelzaune_read_format_moment`, by a stored description: stores text and length; returns 0 or an error's status.
 #[unsafe(no_mangle)]
 pub extern "C" fn pelzaune_described_format_moment(
     description: &StoredDescription,

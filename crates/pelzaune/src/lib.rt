@@ -91,8 +91,8 @@ pub extern "C" fn pelzaune_parse_local(format: u32, text: &[u8], out: &mut Local
 }
 
 /// Parses a whole text by the format with this number, and stores the date and time of its moment in UTC in `out`. A
-/// text without an offset is in UTC. A leap second is valid only at the end of a month in UTC, and becomes the last
-/// nanosecond before it. Returns 0; or the error's status, 8 for an unknown format, and leaves `out` unchanged.
+/// text without an offset is in UTC. A leap second is valid only at the end of a month in UTC, and is replaced by the
+/// last nanosecond before it. Returns 0; or the error's status, 8 for an unknown format, and leaves `out` unchanged.
 #[unsafe(no_mangle)]
 pub extern "C" fn pelzaune_parse_utc(format: u32, text: &[u8], out: &mut LocalParts) -> u32
     ensures { StoresValue HasUtc (over_empty (IsUtcMoment greatest_year)) (format_of format) text.now
@@ -102,8 +102,8 @@ pub extern "C" fn pelzaune_parse_utc(format: u32, text: &[u8], out: &mut LocalPa
 }
 
 /// Parses a whole text by the format with this number, and stores its date, time and offset in `out`. A text without an
-/// offset is rejected. A leap second is valid only at the end of a month in UTC, and becomes the last nanosecond before
-/// it. Returns 0; or the error's status, 8 for an unknown format, and leaves `out` unchanged.
+/// offset is rejected. A leap second is valid only at the end of a month in UTC, and is replaced by the last nanosecond
+/// before it. Returns 0; or the error's status, 8 for an unknown format, and leaves `out` unchanged.
 #[unsafe(no_mangle)]
 pub extern "C" fn pelzaune_parse_moment(format: u32, text: &[u8], out: &mut MomentParts) -> u32
     ensures { StoresValue HasMoment of_moment (format_of format) text.now result out.old out.new }
@@ -113,7 +113,7 @@ pub extern "C" fn pelzaune_parse_moment(format: u32, text: &[u8], out: &mut Mome
 
 /// Parses a whole text by the format with this number, and stores the instant of its date, time and offset in `out`, as
 /// the time since 1970-01-01T00:00:00Z. A text without an offset is rejected. A leap second is valid only at the end of
-/// a month in UTC, and becomes the last nanosecond before it. Returns 0; or the error's status, 8 for an unknown
+/// a month in UTC, and is replaced by the last nanosecond before it. Returns 0; or the error's status, 8 for an unknown
 /// format, and leaves `out` unchanged.
 #[unsafe(no_mangle)]
 pub extern "C" fn pelzaune_parse_instant(format: u32, text: &[u8], out: &mut Instant) -> u32
@@ -124,8 +124,8 @@ pub extern "C" fn pelzaune_parse_instant(format: u32, text: &[u8], out: &mut Ins
 
 /// Parses a whole text by the format with this number, and stores the nanoseconds from 1970-01-01T00:00:00Z to its
 /// moment in `out`. A text without an offset is rejected. A leap second is valid only at the end of a month in UTC, and
-/// becomes the last nanosecond before it. Returns 0; or the error's status, 7 if the nanoseconds don't fit 64 bits, 8
-/// for an unknown format, and leaves `out` unchanged.
+/// is replaced by the last nanosecond before it. Returns 0; or the error's status, 7 if the nanoseconds don't fit 64
+/// bits, 8 for an unknown format, and leaves `out` unchanged.
 #[unsafe(no_mangle)]
 pub extern "C" fn pelzaune_parse_nanoseconds(format: u32, text: &[u8], out: &mut Nanoseconds) -> u32
     ensures { StoresCount (format_of format) text.now result out.old out.new }
@@ -133,9 +133,9 @@ pub extern "C" fn pelzaune_parse_nanoseconds(format: u32, text: &[u8], out: &mut
     count_by(format, text, out)
 }
 
-/// Parses a text once, by the format with this number, into its date, its time and its offset. Returns 0 if the whole
-/// text is parsed: then `out` has a status for each part, and a part whose status isn't 0 is unchanged. A second of 60
-/// rejects the time. Otherwise returns the error's status, 8 for an unknown format, and leaves all of `out` unchanged.
+/// Parses a text once, by the format with this number, into its date, its time and its offset. A second of 60 rejects
+/// the time. If the whole text matches, returns 0 and stores the parts and a status for each: 0, or an error's, and
+/// then that part is unchanged. Otherwise returns the error's status, 8 for an unknown format, and `out` is unchanged.
 #[unsafe(no_mangle)]
 pub extern "C" fn pelzaune_parse_parts(format: u32, text: &[u8], out: &mut Parts) -> u32
     ensures { StoresParts (format_of format) text.now result out.old out.new }
@@ -290,10 +290,10 @@ pub extern "C" fn pelzaune_read_nanoseconds(
     count_read(syntax, description, text, out)
 }
 
-/// Parses a text once, by a description in the syntax with this number, into its date, its time and its offset. Returns
-/// 0 if the whole text is parsed: then `out` has a status for each part, and a part whose status isn't 0 is unchanged.
-/// A second of 60 rejects the time, and a Unix timestamp is dropped. Otherwise returns the status of the text's or the
-/// description's error, 17 for an unknown syntax, and leaves all of `out` unchanged.
+/// Parses a text once, by a description in the syntax with this number, into its date, its time and its offset. A
+/// second of 60 rejects the time, and a Unix timestamp is dropped. If the whole text matches, returns 0 and stores the
+/// parts and a status for each: 0, or an error's, and then that part is unchanged. Otherwise returns the status of the
+/// text's or the description's error, 17 for an unknown syntax, and leaves `out` unchanged.
 #[unsafe(no_mangle)]
 pub extern "C" fn pelzaune_read_parts(
     syntax: u32,

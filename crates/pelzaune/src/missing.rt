@@ -7,10 +7,10 @@ ghost use Rattle.pelzaune_ffi.specs.Results.{format_of, of_record, StoresBy};
 use pelzaune_ffi::missing::{missing_by, missing_read, missing_stored};
 use pelzaune_ffi::stored::StoredDescription;
 
-/// Returns the status of what a text is missing, by the format with this number, for some values: 4 plus 256 times the
-/// component's number, or 0 if nothing is. `needs` selects the values: it is the sum of 1 for a date, 2 for a
-/// time and 4 for an offset. If all three are selected, and only then, a Unix timestamp gives them. Of several missing
-/// components the date's is reported first, then the time's, then the offset's.
+/// Returns the status of the component that a text, parsed by the format with this number, is missing for the values
+/// that `needs` selects: 4 plus 256 times the component's number, or 0 if none is. `needs` is the sum of 1 for a date,
+/// 2 for a time and 4 for an offset. If all three are selected, and only then, a Unix timestamp gives them. Of several
+/// missing components the date's is reported first, then the time's, then the offset's.
 ///
 /// If the whole text isn't parsed, returns the error's status, or 8 for an unknown format.
 #[unsafe(no_mangle)]
@@ -35,7 +35,7 @@ pub extern "C" fn pelzaune_read_missing(
     missing_read(needs, syntax, description, text)
 }
 
-/// As `pelzaune_missing`, by a stored description: 4 plus 256 * the missing component, 0 for none, or the text's error.
+/// As `pelzaune_missing`, by a stored description: 4 + 256 * a component's number, 0 for none, or an error's status.
 #[unsafe(no_mangle)]
 pub extern "C" fn pelzaune_described_missing(
     needs: u32,

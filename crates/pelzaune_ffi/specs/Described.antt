@@ -14,9 +14,9 @@ use Rattle.time_components.specs.declared.inspect.Group.TheVariants as group
 use Rattle.time_components.specs.declared.inspect.Step.{Step}
 use Rattle.time_components.specs.declared.inspect.Step.TheVariants as step
 use Rattle.time_descriptions.specs.Description.{IsRefused}
-use Rattle.time_descriptions.specs.Grammar.{Describes}
+use Rattle.time_descriptions.specs.Grammar.{StartsAtMost, Describes}
 use Rattle.time_descriptions.specs.Refusal.{Refusal, unclosed, component_name, modifier, missing_name, missing_modifier, expected_here, not_supported, too_long, index_of}
-use Rattle.time_descriptions.specs.Strftime.{DescribesStrftime, IsRefusedStrftime}
+use Rattle.time_descriptions.specs.Strftime.{Fits, DescribesStrftime, IsRefusedStrftime}
 use Rattle.time_descriptions.specs.declared.leaf.Version.TheVariants as version
 use Rattle.time_descriptions.specs.Values.{ignored}
 use Rattle.time_record.specs.Reading.{Reads, Refuses}
@@ -36,14 +36,14 @@ syntax_of number =
     if nat_eq number 2 then Some syntax.Two else
     if nat_eq number 3 then Some syntax.Strftime else None
 
--- The tree that a text describes in a syntax, with any number of steps; or the error of a rejected text, with room for
--- `MOST_STEPS` steps.
+-- The tree that a text of at most `MOST_STEPS` steps describes in a syntax; or the error of a rejected text, with room
+-- for that many steps.
 abbrev pub IsDescribed : Syntax → List ℕ → Result Tree Refusal → Type 0
-IsDescribed syntax.One text (Ok tree) = Describes version.One text tree
+IsDescribed syntax.One text (Ok tree) = Describes version.One text tree × StartsAtMost MOST_STEPS version.One text
 IsDescribed syntax.One text (Err e) = IsRefused MOST_STEPS version.One text e
-IsDescribed syntax.Two text (Ok tree) = Describes version.Two text tree
+IsDescribed syntax.Two text (Ok tree) = Describes version.Two text tree × StartsAtMost MOST_STEPS version.Two text
 IsDescribed syntax.Two text (Err e) = IsRefused MOST_STEPS version.Two text e
-IsDescribed syntax.Strftime text (Ok tree) = DescribesStrftime text tree
+IsDescribed syntax.Strftime text (Ok tree) = DescribesStrftime text tree × Fits MOST_STEPS text
 IsDescribed syntax.Strftime text (Err e) = IsRefusedStrftime MOST_STEPS text e
 
 -- The status of a malformed description, by the kind of its error.

@@ -1,27 +1,9 @@
 -- What a text is missing for a value.
 use Rattle.std.specs.Prelude.{◌≡◌, ℕ, ◌+◌, ◌*◌, ◌/◌, ◌%◌, nat_eq, List, Bool, not, ◌&&◌, ◌||◌, is_some, if◌then◌else◌, Ok, Err, codes}
 use Rattle.time_record.specs.Record.{Record}
+use Rattle.time_locating.specs.Completeness.{has_day, has_iso_day, has_full_date, has_hour}
 use Rattle.pelzaune_ffi.specs.Results.{Storing}
 use Rattle.pelzaune_ffi.specs.Status.{component_number, status_of}
-
--- The record has a year, or its century and its last two digits.
-abbrev pub has_year : Record → Bool
-has_year r = is_some r.year || (is_some r.year_century && is_some r.year_last_two)
-
--- The record has an ISO 8601 week year, or its century and its last two digits.
-abbrev pub has_iso_year : Record → Bool
-has_iso_year r = is_some r.iso_year || (is_some r.iso_year_century && is_some r.iso_year_last_two)
-
--- The record has a day of a year: its number in the year, a month and a day, or a weekday and the number of a week that
--- starts on Sunday or Monday.
-abbrev pub has_day : Record → Bool
-has_day r =
-    is_some r.ordinal || (is_some r.month && is_some r.day)
-    || (is_some r.weekday && (is_some r.sunday_week_number || is_some r.monday_week_number))
-
--- The record has a day of an ISO 8601 week year: a week number and a weekday.
-abbrev pub has_iso_day : Record → Bool
-has_iso_day r = is_some r.iso_week_number && is_some r.weekday
 
 -- The status of a missing component: 4 plus 256 times its number.
 abbrev pub missing : List ℕ → ℕ
@@ -31,11 +13,11 @@ missing name = 4 + 256 * component_number name
 abbrev pub first_status : ℕ → ℕ → ℕ
 first_status status other = if nat_eq status 0 then other else status
 
--- The status of what is missing for a date: the year if a record has a day of a year, the month if it has only the day
--- of a month, otherwise the day. 0 if it has a day and its year, of the calendar year or of the ISO 8601 week year.
+-- The status of what is missing for a date: the year if a record has a day of a year, else the month if it has the day
+-- of a month, else the day. 0 if it has a day and its year, of the calendar year or of the ISO 8601 week year.
 abbrev pub missing_for_date : Record → ℕ
 missing_for_date r =
-    if (has_year r && has_day r) || (has_iso_year r && has_iso_day r) then 0 else
+    if has_full_date r then 0 else
     if has_day r || has_iso_day r then missing (codes "year") else
     if is_some r.day then missing (codes "month") else missing (codes "day")
 
@@ -43,11 +25,11 @@ missing_for_date r =
 -- otherwise the hour. 0 if it has an hour from 0 to 23, or an hour from 1 to 12 and the half of the day.
 abbrev pub missing_for_hour : Record → ℕ
 missing_for_hour r =
-    if is_some r.hour_24 || (is_some r.hour_12 && is_some r.hour_12_is_pm) then 0 else
+    if has_hour r then 0 else
     if is_some r.hour_12 then missing (codes "period") else missing (codes "hour")
 
--- The status of what is missing between a record's hour and its smallest part: a minute before a second, a second
--- before a fraction. 0 if there is no such gap.
+-- The status of what is missing between a record's hour and its smallest part: a minute before a second or a fraction,
+-- or a second before a fraction. 0 if there is no such gap.
 abbrev pub missing_below_hour : Record → ℕ
 missing_below_hour r =
     if not (is_some r.minute) && (is_some r.second || is_some r.subsecond) then missing (codes "minute") else

@@ -124,8 +124,8 @@ abbrev pub IsResultStored : {V S : Type 0} → Storing V S → (Result V Refusal
 IsResultStored {V} storing IsAnswer status old new =
     (answer : Result V Refusal) × IsAnswer answer × storing answer status old new
 
--- The struct has the date, the time and the offset to which a record resolves, each with a status of its own. One with
--- an error is unchanged.
+-- The struct has the date, the time and the offset to which a record resolves, each with a status of its own. A part
+-- with an error is unchanged.
 pub record HasParts (r : Record) (old new : Parts) : Type 0 where
   pub date : IsResultStored (IsStored HasDate) (IsDated greatest_year r) new.date_status old.date new.date
   pub time : IsResultStored (IsStored HasTime) (IsTimed r) new.time_status old.time new.time
@@ -136,8 +136,8 @@ abbrev pub ArePartsStored : Storing Record Parts
 ArePartsStored (Ok r) status old new = (status ≡ 0) × HasParts r old new
 ArePartsStored (Err e) status old new = (status ≡ status_of e) × (new ≡ old)
 
--- A relation of a format, by its path for moments, what it parses and what it rejects, a text, and the result of the
--- text: a value of a type or the error.
+-- A relation of a format (its path for moments, what it parses and what it rejects), a text, and the text's result: a
+-- value of the type V or the error.
 abbrev pub Outcomes : Type 0 → Type 1
 Outcomes V = Path → Reading → Refusing → List ℕ → Result V Refusal → Type 0
 

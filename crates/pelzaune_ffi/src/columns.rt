@@ -155,8 +155,8 @@ fn described_column(
     }
 }
 
-/// As [`column_by`], by a description in the syntax with this number: stores each line's nanoseconds since 1970, and
-/// returns the number of lines. A malformed description or an unknown syntax rejects each line, storing `i64::MIN`.
+/// As [`column_by`], by a description in this syntax: stores each line's nanoseconds since 1970, or `i64::MIN` for a
+/// rejected line, and returns the number of lines. A malformed description or an unknown syntax rejects each line.
 #[inline(always)]
 pub fn column_read(
     syntax: u32,
@@ -175,7 +175,7 @@ pub fn column_read(
     }
 }
 
-/// As [`column_by`], by a stored description: stores nanoseconds since 1970 by line, and returns the number of lines.
+/// As [`column_by`], by a stored description: stores nanoseconds or `i64::MIN` by line, and returns the line count.
 #[inline(always)]
 pub fn column_stored(
     description: &StoredDescription,

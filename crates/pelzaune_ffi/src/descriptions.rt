@@ -12,7 +12,7 @@ use time_descriptions::{Description, InvalidFormatDescription, parse_borrowed, p
 /// is a step. A description in brackets of at most this many bytes fits.
 pub const MOST_STEPS: usize = 64;
 
-/// The syntax of a description.
+/// A syntax of descriptions: in brackets, version 1 or 2, or that of strftime.
 #[derive(Clone, Copy)]
 pub enum Syntax {
     /// In brackets, version 1, in which `[[` is a literal bracket.

@@ -49,7 +49,7 @@ fn format_value(steps: &[Step], value: OffsetDateTime, buffer: &mut [u8], count:
 }
 
 // Formats the moment with these parts by the steps into `buffer`, truncated to its length, stores the whole length in
-// `count` and returns 0. Or returns the status of the first part out of range or of the error; then both are unchanged.
+// `count` and returns 0. Or returns the status of a part out of range or an unwritable text; then both are unchanged.
 fn format_parts(steps: &[Step], parts: &MomentParts, buffer: &mut [u8], count: &mut usize) -> u32
     ensures { spec.FormatsParts (moment_refusal parts.now) parts.now (steps_shape steps.now) result
         buffer.old buffer.new count.old count.new }
@@ -64,9 +64,9 @@ fn format_parts(steps: &[Step], parts: &MomentParts, buffer: &mut [u8], count: &
 /// truncated to the buffer's length. The rest of the buffer is unchanged. Stores the length of the whole text in
 /// `count`. The text has all optional items, and the first item of each choice.
 ///
-/// Returns 0, or the status of the error and leaves `buffer` and `count` unchanged: that of the description, that of a
-/// part that is out of range or of a component that can't be written, [`TEXT_TOO_LONG`] for a text of more than
-/// [`MOST_BYTES`] bytes, or [`UNKNOWN_SYNTAX`].
+/// Returns 0, or the status of the error and leaves `buffer` and `count` unchanged: 9 to 16 for a malformed
+/// description, [`UNKNOWN_SYNTAX`], [`TEXT_TOO_LONG`] for a text of more than [`MOST_BYTES`] bytes; or, plus 256 times
+/// the component's number, 5 or 6 for a part out of range or 18 for a component that can't be written.
 pub fn format_read(
     syntax: u32,
     description: &[u8],
@@ -80,7 +80,7 @@ pub fn format_read(
     by_description!(syntax, description, found => format_parts(found.steps(), moment, buffer, count))
 }
 
-/// As [`format_read`], by a stored description: writes the text over the start of `buffer`, and its length to `count`.
+/// As [`format_read`], by a stored description: stores the text and its length, and returns 0 or an error's status.
 pub fn format_stored(
     description: &StoredDescription,
     moment: &MomentParts,

@@ -3,9 +3,9 @@
 //! The crate `pelzaune` exports these functions. A caller in Rattle gets from them what C gets.
 #![tactic(auto)]
 
-// Evaluates `$made`, in which `$description` is the description that `$text` has in the syntax with the number
-// `$syntax`. For a malformed description the value is its fault's status instead; for an unknown syntax,
-// `UNKNOWN_SYNTAX`.
+// Parses `$text` as a description in the syntax with the number `$syntax`, and evaluates `$made`, where `$description`
+// is the parsed description. For a malformed description, the value is its fault's status instead, and for an unknown
+// syntax `UNKNOWN_SYNTAX`.
 macro_rules! by_description {
     ($syntax:ident, $text:ident, $description:ident => $made:expr) => {
         match syntax_of($syntax) {

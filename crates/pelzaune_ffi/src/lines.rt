@@ -43,7 +43,7 @@ fn line_end(text: &[u8]) -> Option<usize>
     memchr(b'\n', text)
 }
 
-/// The first line of a non-empty text, without its LF, and the bytes after that LF: none if the text has no LF.
+/// The first line of a non-empty text, without its LF, and the bytes after that LF: no bytes if the text has no LF.
 #[inline]
 pub fn first_line(bytes: &[u8]) -> (&[u8], &[u8])
     requires { 0 < length bytes.now }

@@ -10,7 +10,7 @@ use time_locating::{Expected, Locate, Located};
 use time_parsing::{Iso8601, Rfc2822, Rfc3339, Rfc3339Strict};
 use time_values::error::ParseFromDescription;
 
-/// Where a text fails, in the layout of C.
+/// Where a text fails to match a format, in the layout of C.
 #[repr(C)]
 #[derive(Clone, Copy)]
 pub struct Place {
@@ -59,10 +59,10 @@ fn locate<F: Locate>(format: &F, text: &[u8], out: &mut Place) -> u32
     store_place(format.locate(text, None), out)
 }
 
-/// Writes to `out` where a text fails to match the format with this number. Returns the status of what was expected
-/// there: 1 for a literal, 2 plus 256 times its number for a component, or 3 for the end of the text. If the whole text
-/// matches, returns 0 and leaves `out` unchanged, also for a date that doesn't exist, such as 30 February. An unknown
-/// format has the status 8, and leaves `out` unchanged.
+/// Stores in `out` the byte index at which a text fails to match the format with this number, and the literal byte
+/// expected there or 0. Returns the status of what was expected: 1 for a literal, 2 plus 256 times its number for a
+/// component, or 3 for the end of the text. If the whole text matches, even with a date that doesn't exist, such as 30
+/// February, returns 0. For an unknown format returns 8. In both cases `out` is unchanged.
 #[inline(always)]
 pub fn locate_by(format: u32, text: &[u8], out: &mut Place) -> u32
     ensures { StoresPlace (Formats.format_of format) text.now result out.old out.new }
@@ -76,8 +76,8 @@ pub fn locate_by(format: u32, text: &[u8], out: &mut Place) -> u32
     }
 }
 
-/// As [`locate_by`], by a description in the syntax with this number: stores where a text fails, and returns what was
-/// expected; `out` is unchanged for a match (0), a malformed description (9 to 16) or an unknown syntax (17).
+/// As [`locate_by`], by a description in this syntax: stores where a text fails, and returns the status of what was
+/// expected. `out` is unchanged for a match (0), a malformed description (9 to 16) or an unknown syntax (17).
 #[inline(always)]
 pub fn locate_read(syntax: u32, description: &[u8], text: &[u8], out: &mut Place) -> u32
     ensures { StoresPlaceByDescription (Described.syntax_of syntax) description.now text.now result out.old out.new }

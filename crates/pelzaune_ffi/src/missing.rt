@@ -9,50 +9,17 @@ ghost use Rattle.pelzaune_ffi.specs.Results.{IsResultStored, StoresBy, of_record
 use crate::descriptions::{fault_status, read_description, syntax_of};
 use crate::status::{Format, UNKNOWN_FORMAT, UNKNOWN_SYNTAX, format_of, status_of};
 use crate::stored::StoredDescription;
+use time_locating::{has_day, has_full_date, has_hour, has_iso_day};
 use time_parsing::{Iso8601, Parsable, Rfc2822, Rfc3339, Rfc3339Strict};
 use time_record::Parsed;
 
-// Whether the record has a year, or its century and its last two digits.
-fn has_year(parsed: &Parsed) -> bool
-    ensures { result ≡ spec.has_year parsed.now }
-{
-    parsed.year().is_some() || (parsed.year_century().is_some() && parsed.year_last_two().is_some())
-}
-
-// Whether the record has an ISO 8601 week year, or its century and its last two digits.
-fn has_iso_year(parsed: &Parsed) -> bool
-    ensures { result ≡ spec.has_iso_year parsed.now }
-{
-    parsed.iso_year().is_some()
-        || (parsed.iso_year_century().is_some() && parsed.iso_year_last_two().is_some())
-}
-
-// Whether the record has a day of a year: its number in the year, a month and a day, or a weekday and the number of a
-// week that starts on Sunday or Monday.
-fn has_day(parsed: &Parsed) -> bool
-    ensures { result ≡ spec.has_day parsed.now }
-{
-    parsed.ordinal().is_some()
-        || (parsed.month().is_some() && parsed.day().is_some())
-        || (parsed.weekday().is_some()
-            && (parsed.sunday_week_number().is_some() || parsed.monday_week_number().is_some()))
-}
-
-// Whether the record has a day of an ISO 8601 week year: a week number and a weekday.
-fn has_iso_day(parsed: &Parsed) -> bool
-    ensures { result ≡ spec.has_iso_day parsed.now }
-{
-    parsed.iso_week_number().is_some() && parsed.weekday().is_some()
-}
-
-// The status of what a record is missing for a date: the year, the month of a day, or the day; 0 if nothing is.
+// The status of what a record is missing for a date: only the year, the month of a day, or the day; 0 if nothing is.
 fn missing_for_date(parsed: &Parsed) -> u32
     ensures { result ≡ spec.missing_for_date parsed.now }
 {
-    let (day, iso_day) = (has_day(parsed), has_iso_day(parsed));
-    if (has_year(parsed) && day) || (has_iso_year(parsed) && iso_day) {
+    if has_full_date(parsed) {
         0
-    } else if day || iso_day {
+    } else if has_day(parsed) || has_iso_day(parsed) {
         4 + 256
     } else if parsed.day().is_some() {
         4 + 256 * 2
@@ -65,17 +32,16 @@ fn missing_for_date(parsed: &Parsed) -> u32
 fn missing_for_hour(parsed: &Parsed) -> u32
     ensures { result ≡ spec.missing_for_hour parsed.now }
 {
-    if parsed.hour_24().is_some() {
-        return 0;
-    }
-    match (parsed.hour_12(), parsed.hour_12_is_pm()) {
-        (Some(_), Some(_)) => 0,
-        (Some(_), None) => 4 + 256 * 13,
-        (None, _) => 4 + 256 * 8,
+    if has_hour(parsed) {
+        0
+    } else if parsed.hour_12().is_some() {
+        4 + 256 * 13
+    } else {
+        4 + 256 * 8
     }
 }
 
-// The status of what is missing between a record's hour and its smallest part, a minute or a second; 0 for no such gap.
+// The status of a missing minute before a second or fraction, or a missing second before a fraction; 0 for neither.
 fn missing_below_hour(parsed: &Parsed) -> u32
     ensures { result ≡ spec.missing_below_hour parsed.now }
 {
@@ -143,10 +109,10 @@ fn missing<F: Parsable>(format: &F, needs: u32, text: &[u8]) -> u32
     }
 }
 
-/// The status of what is missing, by the format with this number, for some values: 4 plus 256 times the component's
-/// number, or 0 if nothing is. `needs` selects the values: it is the sum of 1 for a date, 2 for a time and 4 for
-/// an offset. If all three are selected, and only then, a Unix timestamp gives them. Of several missing components the
-/// date's is reported first, then the time's, then the offset's.
+/// The status of the component that a text, parsed by the format with this number, is missing for the values that
+/// `needs` selects: 4 plus 256 times the component's number, or 0 if none is. `needs` is the sum of 1 for a date, 2 for
+/// a time and 4 for an offset. If all three are selected, and only then, a Unix timestamp gives them. Of several
+/// missing components the date's is reported first, then the time's, then the offset's.
 ///
 /// If the whole text isn't parsed, returns the error's status, or [`UNKNOWN_FORMAT`] for an unknown number.
 #[inline(never)]
@@ -172,7 +138,7 @@ pub fn missing_read(needs: u32, syntax: u32, description: &[u8], text: &[u8]) ->
     by_description!(syntax, description, found => missing(&found, needs, text))
 }
 
-/// As [`missing_by`], by a stored description: 4 plus 256 * the missing component, 0 for none, or the text's error.
+/// As [`missing_by`], by a stored description: 4 + 256 * a component's number, 0 for none, or an error's status.
 #[inline(never)]
 pub fn missing_stored(needs: u32, description: &StoredDescription, text: &[u8]) -> u32
     ensures { StoresBySteps (spec.IsMissing needs) of_record description.now text.now result tt tt }

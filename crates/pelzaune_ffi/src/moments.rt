@@ -73,7 +73,7 @@ fn parsed<V: Target, P: From<V> + Copy, F: Parsable>(format: &F, text: &[u8], ou
 
 /// Parses a whole text by the format with this number and stores its moment in `out`, as a `P`. Returns 0; or the
 /// error's status, [`UNKNOWN_FORMAT`] for an unknown number, and leaves `out` unchanged. A text without an offset is
-/// rejected. A leap second is valid only at the end of a month in UTC, and becomes the last nanosecond before it.
+/// rejected. A leap second is valid only at a month's end in UTC, and is replaced by the last nanosecond before it.
 #[inline(always)]
 pub fn moment_by<P: From<OffsetDateTime> + Copy>(format: u32, text: &[u8], out: &mut P) -> u32
     ensures { StoresValue P.from_gives of_moment (Formats.format_of format) text.now result out.old out.new }

@@ -6,7 +6,7 @@ ghost use Rattle.pelzaune_ffi.specs.Results as Results;
 
 use time_values::{Date, OffsetDateTime, PlainDateTime, Time, UtcDateTime, UtcOffset};
 
-/// The parts of a date.
+/// The year, month and day of a date, in the layout of C.
 #[repr(C)]
 #[derive(Clone, Copy)]
 pub struct DateParts {
@@ -18,7 +18,7 @@ pub struct DateParts {
     pub day: u8,
 }
 
-/// The parts of a time of day.
+/// The hour, minute, second and nanosecond of a time of day, in the layout of C.
 #[repr(C)]
 #[derive(Clone, Copy)]
 pub struct TimeParts {
@@ -32,7 +32,7 @@ pub struct TimeParts {
     pub second: u8,
 }
 
-/// An offset from UTC as one number.
+/// An offset from UTC in seconds, positive ahead of UTC, in the layout of C.
 #[repr(C)]
 #[derive(Clone, Copy)]
 pub struct OffsetParts {
@@ -40,7 +40,7 @@ pub struct OffsetParts {
     pub seconds: i32,
 }
 
-/// The parts of a date and a time, without an offset.
+/// The parts of a date and a time without an offset, down to the nanosecond, in the layout of C.
 #[repr(C)]
 #[derive(Clone, Copy)]
 pub struct LocalParts {
@@ -60,7 +60,7 @@ pub struct LocalParts {
     pub second: u8,
 }
 
-/// The parts of a date, a time and an offset.
+/// The parts of a local date and time, and their offset in seconds ahead of UTC, in the layout of C.
 #[repr(C)]
 #[derive(Clone, Copy)]
 pub struct MomentParts {
@@ -82,7 +82,7 @@ pub struct MomentParts {
     pub second: u8,
 }
 
-/// An instant, as the time since 1970-01-01T00:00:00Z.
+/// An instant, as the seconds and nanoseconds since 1970-01-01T00:00:00Z, in the layout of C.
 #[repr(C)]
 #[derive(Clone, Copy)]
 pub struct Instant {
@@ -92,7 +92,7 @@ pub struct Instant {
     pub nanoseconds: u32,
 }
 
-/// An instant, as the nanoseconds since 1970-01-01T00:00:00Z.
+/// An instant, as the nanoseconds since 1970-01-01T00:00:00Z in 64 bits, in the layout of C.
 #[repr(C)]
 #[derive(Clone, Copy)]
 pub struct Nanoseconds {
@@ -212,7 +212,7 @@ impl From<OffsetDateTime> for MomentParts {
 impl From<OffsetDateTime> for Instant {
     ghost from_gives = { Results.HasInstant };
 
-    // An offset has whole seconds, so the local time's nanosecond is the one after the rounded-down seconds.
+    // An offset is a whole number of seconds, so the nanosecond of the local time is also that of the instant.
     #[inline]
     fn from(value: OffsetDateTime) -> Instant {
         Instant {

@@ -17,8 +17,8 @@ use time_record::Parsed;
 use time_values::error::TryFromParsed;
 use time_values::{Date, OffsetDateTime, Time, UtcOffset};
 
-/// Parses a whole text by the format and stores its value in `out`, as a `P`. Returns 0, or the error's status and
-/// leaves `out` unchanged.
+/// Parses a whole text as a `V`, by `format`, and stores it in `out`, converted to a `P`. Returns 0, or the error's
+/// status and leaves `out` unchanged.
 #[inline(always)]
 pub fn store_value<V: Target, P: From<V> + Copy, F: Parsable>(
     format: &F,
@@ -37,8 +37,8 @@ pub fn store_value<V: Target, P: From<V> + Copy, F: Parsable>(
     }
 }
 
-/// Parses a whole text by the format with this number, and stores its value in `out`, as a `P`. Returns 0; or the
-/// error's status, [`UNKNOWN_FORMAT`] for an unknown number, and leaves `out` unchanged.
+/// Parses a whole text as a `V`, by the format with this number, and stores it in `out`, converted to a `P`. Returns 0;
+/// or the error's status, [`UNKNOWN_FORMAT`] for an unknown number, and leaves `out` unchanged.
 #[inline(always)]
 pub fn store_value_by<V: Target, P: From<V> + Copy>(format: u32, text: &[u8], out: &mut P) -> u32
     ensures { StoresValue P.from_gives V.outcome (Formats.format_of format) text.now result out.old out.new }
@@ -56,8 +56,8 @@ pub fn store_value_by<V: Target, P: From<V> + Copy>(format: u32, text: &[u8], ou
     }
 }
 
-/// Stores the nanoseconds from 1970-01-01T00:00:00Z to a moment's instant. Returns 0; or [`TOO_WIDE`] if they don't fit
-/// 64 bits, and leaves `out` unchanged.
+/// Stores the nanoseconds from 1970-01-01T00:00:00Z to a moment's instant in `out`. Returns 0; or [`TOO_WIDE`] if they
+/// don't fit 64 bits, and leaves `out` unchanged.
 #[inline(always)]
 pub fn store_count(value: OffsetDateTime, out: &mut Nanoseconds) -> u32
     ensures { IsCountStored (Ok value) result out.old out.new }
@@ -104,9 +104,9 @@ fn resolve<V: TryFrom<Parsed, Error = TryFromParsed> + Drop, P: From<V> + Copy>(
     }
 }
 
-/// Parses a text once, and stores its date, time and offset, each with a status of its own; a part with another status
-/// than 0 is unchanged. A second of 60 rejects the time. Returns 0; or if the text isn't parsed whole, the error's
-/// status, and leaves `out` unchanged.
+/// Parses a text once by `format`, into its date, its time and its offset. A second of 60 rejects the time. If the
+/// whole text matches, returns 0 and stores the parts and a status for each in `out`: 0, or an error's, and then that
+/// part is unchanged. Otherwise returns the error's status and leaves `out` unchanged.
 #[inline(always)]
 pub fn parts<F: Parsable>(format: &F, text: &[u8], out: &mut Parts) -> u32
     ensures { IsResultStored ArePartsStored
@@ -123,8 +123,8 @@ pub fn parts<F: Parsable>(format: &F, text: &[u8], out: &mut Parts) -> u32
     }
 }
 
-/// Stores a text's date, time and offset, each with a status, as [`parts`], by the format with this number. Returns 0;
-/// or the error's status, [`UNKNOWN_FORMAT`] for an unknown number, and leaves `out` unchanged.
+/// As [`parts`], by the format with this number: stores a text's date, time and offset in `out`, each with a status.
+/// Returns 0; or the error's status, [`UNKNOWN_FORMAT`] for an unknown number, and leaves `out` unchanged.
 #[inline(always)]
 pub fn parts_by(format: u32, text: &[u8], out: &mut Parts) -> u32
     ensures { StoresParts (Formats.format_of format) text.now result out.old out.new }
@@ -138,7 +138,7 @@ pub fn parts_by(format: u32, text: &[u8], out: &mut Parts) -> u32
     }
 }
 
-/// Parses a whole text by a description in the syntax with this number, and stores its value in `out` as a `P`. Returns
+/// Parses a whole text as a `V`, by a description in this syntax, and stores it in `out`, converted to a `P`. Returns
 /// 0; or the status of the text's or the description's error, 17 for an unknown syntax, and leaves `out` unchanged.
 pub fn store_value_read<V: Target, P: From<V> + Copy>(
     syntax: u32,
@@ -154,7 +154,7 @@ pub fn store_value_read<V: Target, P: From<V> + Copy>(
     })
 }
 
-/// Stores a text's nanoseconds since 1970, as [`count`], by a description in the syntax with this number. Returns 0; or
+/// As [`count`], by a description in the syntax with this number: stores nanoseconds since 1970 in UTC. Returns 0; or
 /// the status of the text's or the description's error, 17 for an unknown syntax, and leaves `out` unchanged.
 pub fn count_read(syntax: u32, description: &[u8], text: &[u8], out: &mut Nanoseconds) -> u32
     ensures { StoresByDescription IsCountStored of_moment (Described.syntax_of syntax) description.now
@@ -163,8 +163,8 @@ pub fn count_read(syntax: u32, description: &[u8], text: &[u8], out: &mut Nanose
     by_description!(syntax, description, found => count(&found, text, out))
 }
 
-/// Stores a text's date, time and offset, each with a status, as [`parts`], by a description in this syntax. Returns 0;
-/// or the status of the text's or the description's error, 17 for an unknown syntax, and leaves `out` unchanged.
+/// As [`parts`], by a description in the syntax with this number: stores the parts, each with a status. Returns 0; or
+/// the status of the text's or the description's error, 17 for an unknown syntax, and leaves `out` unchanged.
 pub fn parts_read(syntax: u32, description: &[u8], text: &[u8], out: &mut Parts) -> u32
     ensures { StoresByDescription ArePartsStored of_record (Described.syntax_of syntax) description.now
         text.now result out.old out.new }

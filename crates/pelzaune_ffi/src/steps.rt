@@ -127,8 +127,8 @@ fn chosen(kind: u8, choice: u8, flag: bool) -> StoredStep
     }
 }
 
-// Each of the next seven macros is for the components with certain modifiers: `step` makes a component from the numbers
-// of a stored step, and `stored` makes the stored step of a component.
+// Each of the next seven macros is for the components with certain modifiers: its rule `step` makes a component from
+// the numbers of a stored step, and its rule `stored` makes the stored step of a component.
 
 // Makes the step (`step`) or the stored step (`stored`) of a component with only a padding.
 macro_rules! padded {

@@ -26,7 +26,7 @@ use time_record::Parsed;
 use time_values::error::{Parse, ParseFromDescription, TryFromParsed};
 use time_values::{Date, OffsetDateTime, PlainDateTime, Time};
 
-/// A description, in the layout of C.
+/// A parsed description of up to [`MOST_STEPS`] steps, in the layout of C.
 #[repr(C)]
 #[derive(Clone, Copy)]
 pub struct StoredDescription {
@@ -96,7 +96,7 @@ pub(crate) fn steps_in_use(stored: &StoredDescription) -> &[StoredStep]
     &stored.steps[..stored.count.min(MOST_STEPS)]
 }
 
-/// The description that is stored, prepared for parsing many texts.
+/// Prepares a stored description for parsing many texts.
 pub fn prepare(stored: &StoredDescription) -> Prepared<MOST_STEPS>
     ensures { result ≡ Described.steps_of stored.now }
 {

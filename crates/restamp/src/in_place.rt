@@ -28,7 +28,7 @@ fn target_of<'a>(name: &'a str, backup: Option<&'a str>, shown: &'a [u8]) -> Tar
 }
 
 // Replaces the file of the path `shown`; a path that isn't UTF-8 is an error. Returns the log, the counts of the file's
-// lines, and what was done, or why the file wasn't replaced.
+// lines by their actions, and whether the file was replaced, or the error.
 fn try_to_replace<'a, L: Sink + Drop>(
     rt: &'a HostRuntime,
     request: &Request<'_>,

@@ -124,8 +124,8 @@ fn has_terminal(rt: &HostRuntime) -> bool {
     rt.stderr().is_terminal() && !is_dumb
 }
 
-// Whether standard error is a terminal that isn't dumb, and `NO_COLOR` isn't set to a UTF-8 text, not even the empty
-// one.
+// Whether standard error is a terminal that isn't dumb, and `NO_COLOR` isn't set, not even to the empty text. A value
+// of `NO_COLOR` that isn't UTF-8 has no effect.
 fn shows_colors(rt: &HostRuntime) -> bool {
     has_terminal(rt) && env::var(rt, "NO_COLOR").is_err()
 }
@@ -177,7 +177,7 @@ fn follow_lines(rt: &HostRuntime, matches: &ArgMatches<'_>) -> io::Result<u8> {
 }
 
 // Does what the options request, and returns the exit status. Processing and replacing files are functions with their
-// own frames, since a frame has the bytes that are read.
+// own frames, since each frame has a buffer for the bytes that are read.
 fn follow(rt: &HostRuntime, matches: &ArgMatches<'_>) -> io::Result<u8> {
     if let Some(shell) = matches.get_str("completions") {
         return complete(rt, shell);

@@ -30,7 +30,7 @@ pub(crate) enum Reporter {
     OneLine,
 }
 
-// A text of at most 40 bytes; of a longer one, the longest end of at most 40 bytes that starts with a whole character.
+// All of a text of at most 40 bytes; of a longer one, the longest end of at most 40 that starts with a whole character.
 fn end_of(text: &str) -> &str
     ensures end { spec.IsEnd text.now result.now }
     ensures bound { length result.now ≤ 40 }
@@ -70,7 +70,7 @@ pub(crate) struct Meter {
     size: Option<u64>,
     // How many bytes were read.
     read: u64,
-    // How many of them the last report had; 0 before the first report.
+    // How many bytes had been read at the last report; 0 before the first report.
     reported: u64,
     // When the last report was made, or before the first report, when the meter was made.
     since: Instant,
@@ -86,14 +86,14 @@ impl Meter {
         self.read = self.read.saturating_add(n as u64);
     }
 
-    // Whether at least 1 MiB was read since the last report.
+    // Whether at least 1 MiB was read since the last report, or in all before the first report.
     fn has_more(&self) -> bool
         ensures { IsTrue result ↔ 2 ^ 20 ≤ self.now.read - self.now.reported }
     {
         MEBIBYTE <= self.read.saturating_sub(self.reported)
     }
 
-    // Whether at least half a second has passed from the last report to `now`.
+    // Whether at least half a second has passed from the last report, or without one from the meter's start, to `now`.
     fn is_old(&self, now: Instant) -> bool
         ensures { IsTrue result ↔ 500000000 ≤ instant_nanos now - instant_nanos self.now.since }
     {
@@ -182,7 +182,7 @@ impl<'a, R: Clock + Eprint> Progress<'a, R> {
         }
     }
 
-    // Writes a report: nothing, a line, or over the progress line of the terminal. A failed write is ignored.
+    // Writes a report by `reporter`: not at all, as a new line, or over the progress line. A failed write is ignored.
     fn write(&self, meter: &Meter) {
         let _ = match self.reporter {
             Reporter::Nothing => Ok(()),

@@ -10,7 +10,7 @@ use std::env::{Env, FillError};
 use std::io::{ErrorKind, Write};
 use std::{env, io};
 
-// The buffer's sizes in bytes for a word: the second is tried if the first is too small. Linux allows no longer word.
+// The buffer sizes in bytes for an argument: the second is tried if the first is too small. Linux allows none longer.
 static ROOM: [usize; 2] = [4096, 131072];
 
 // The bytes of the word of that number, from 0; `None` after the last word, if memory is short, or for a word that
@@ -31,7 +31,7 @@ fn bytes_of(rt: &HostRuntime, number: usize) -> Option<Vec<u8>> {
     None
 }
 
-// Writes the line that the word of that number isn't UTF-8, with the word escaped by `write_escaped`.
+// Writes a line that reports that the word of that number isn't UTF-8, with the word escaped by `write_escaped`.
 fn write_unread<L: Sink>(number: usize, word: &[u8], log: &mut L) -> Result<(), Unwritten>
     ensures written { OnOk result (Appends (L.contents log.old) (L.contents log.new) (unread_text number word.now)) }
     ensures cause { HasCause result (L.faults log.old) (L.faults log.new) }

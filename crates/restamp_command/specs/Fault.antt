@@ -11,7 +11,7 @@ use Rattle.restamp_command.specs.declared.fault.Fault.TheVariants as fault
 use Rattle.restamp_command.specs.declared.fault.TimeArgError as declared_none
 use Rattle.restamp_command.specs.declared.fault.TimeArgError.TheVariants as none
 
--- why a text is no moment: a reason; a word's moment without a date in UTC; or a word with the clock out of range
+-- why a text is no moment: a reason; its word's moment has no date in UTC; or it is a word, and the clock isn't known
 pub data TimeArgError : Type 0 where
   unread : Reason → TimeArgError
   out_of_range : TimeArgError

@@ -6,7 +6,7 @@ use Rattle.clap.specs.Matches.{first_value, matched_of, one_text, raw_values}
 use Rattle.clap.specs.declared.parser.matches.Found.{Found}
 use Rattle.restamp_command.specs.declared.options.Options.{Options}
 
--- A flag is true if the command line has it, otherwise false.
+-- A flag is true if its matched text is `true`, and false if that is `false` or if there is none.
 abbrev pub IsFlag : Found → List ℕ → Bool → Type 0
 IsFlag f id flag =
     (one_text f id ≡ Some (codes "true") → flag ≡ true) × (one_text f id ≡ Some (codes "false") → flag ≡ false)

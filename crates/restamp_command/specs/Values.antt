@@ -221,7 +221,7 @@ IsYear text result =
     × (result ≡ option_and_then (λ n. if nat_le (unsigned_abs n) greatest_year then Some n else None) number)
 
 -- The moment of a text as a word by the clock; an error with that reason if the text is no word, `no_clock` if the
--- clock is out of range (`None`), or one of `IsMomentFrom`.
+-- clock's time isn't known (`None`), or one of `IsMomentFrom`.
 abbrev pub IsNamedMoment : Option UtcDateTime → Defaults → List ℕ → Reason
     → Result OffsetDateTime TimeArgError → Type 0
 IsNamedMoment now defaults text reason result =

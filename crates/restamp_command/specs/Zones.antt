@@ -94,7 +94,7 @@ IsOfLocal (local.Zone named name fold) d = (d.offset ≡ None) × AreClocksIn na
 abbrev pub AreDefaultsOf : OwnedDefaults → Defaults → Type 0
 AreDefaultsOf given d = (d.year ≡ given.year) × IsOfLocal given.local d × (d.latest ≡ given.latest)
 
--- the name of the zone of local times in reports; `its zone` for an offset
+-- the name that reports give the default zone: `its zone` if the default is an offset
 abbrev pub zone_name : Local → List ℕ
 zone_name (local.Offset offset) = codes "its zone"
 zone_name (local.Zone named name fold) = name.now

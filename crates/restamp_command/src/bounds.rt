@@ -55,8 +55,8 @@ fn find_unit(letter: u8) -> Option<Unit>
     }
 }
 
-// Parses `+` or `-` and a decimal number that fit `i64` as a number of units to add to the clock's moment; `None` for
-// any other text.
+// Parses `+` or `-` and decimal digits, which together fit `i64`, as that number of units to add to the clock's moment;
+// `None` for any other text.
 fn find_units(number: &str, unit: Unit) -> Option<Word>
     ensures { words.AreUnits number.now unit result }
 {
@@ -113,7 +113,7 @@ fn since_1970(moment: UtcDateTime) -> i128
     moment.unix_timestamp_nanos()
 }
 
-// The nanoseconds `now` since 1970 plus a number of seconds, in nanoseconds since 1970.
+// Adds a number of seconds to `now`. Both `now` and the result are in nanoseconds since 1970-01-01T00:00:00Z.
 fn later(now: i128, seconds: i128) -> i128
     requires now { IsNear now }
     requires seconds { IsBetween (neg_ℤ (pos 6_000_000_000_000_000_000_000_000)) (pos 6_000_000_000_000_000_000_000_000) seconds }
@@ -131,7 +131,7 @@ fn ahead_of(offset: UtcOffset) -> i128
     offset.whole_seconds() as i128 * NANOS_PER_SECOND
 }
 
-// The day, from 1970-01-01 (day 0, negative before), of a local time in nanoseconds since 1970-01-01T00:00:00.
+// The number of the day (0 for 1970-01-01, negative before) of a local time in nanoseconds since 1970-01-01T00:00:00.
 fn day_of(shown: i128) -> i128
     requires { IsBetween (neg_ℤ (pos 33_000_000_000_000_000_000_000)) (pos 33_000_000_000_000_000_000_000) shown }
     ensures value { result ≡ int_div_euclid shown (pos nanos_per_day) }
@@ -140,7 +140,7 @@ fn day_of(shown: i128) -> i128
     shown.div_euclid(NANOS_PER_DAY)
 }
 
-// The local time of midnight, `back` days before a day, in nanoseconds since 1970-01-01T00:00:00.
+// The local time at the start of the day `back` days before `day`, in nanoseconds since 1970-01-01T00:00:00.
 fn midnight(day: i128, back: u8) -> i128
     requires { IsBetween (neg_ℤ (pos 500_000_000)) (pos 500_000_000) day }
     ensures value { result ≡ (day -ℤ pos back) *ℤ pos nanos_per_day }
@@ -149,7 +149,7 @@ fn midnight(day: i128, back: u8) -> i128
     (day - back as i128) * NANOS_PER_DAY
 }
 
-// The local time of midnight, `back` days before the clock's day at that offset, in nanoseconds since
+// The local time at the start of the day `back` days before the clock's day at that offset, in nanoseconds since
 // 1970-01-01T00:00:00.
 fn midnight_at(now: UtcDateTime, offset: UtcOffset, back: u8) -> i128
     ensures value { result ≡ (words.local_day (utc_instant greatest_year now) offset -ℤ pos back) *ℤ pos nanos_per_day }
@@ -158,7 +158,7 @@ fn midnight_at(now: UtcDateTime, offset: UtcOffset, back: u8) -> i128
     midnight(day_of(since_1970(now) + ahead_of(offset)), back)
 }
 
-// The nanoseconds since 1970 of a word's moment, by the clock and the offset at which days start.
+// The moment of a word, by the clock at `now` and the offset at which days start, in nanoseconds since 1970.
 fn nanos_of(word: Word, now: UtcDateTime, offset: UtcOffset) -> i128
     ensures value { result ≡ words.nanos_of (utc_instant greatest_year now) offset word }
     ensures fits { FitsSigned w128 result }
@@ -179,8 +179,8 @@ fn moment_at(nanos: i128) -> Result<OffsetDateTime, TimeArgError>
     }
 }
 
-// The start of the day in the zone, `back` days before the clock's day there: the earliest moment whose local time is
-// midnight. An error if there is none, or if the clock or that midnight is out of range.
+// The start of the day that is `back` days before the clock's day in the zone: the earliest moment whose local time is
+// its midnight. An error if there is none, or if the clock or that midnight is out of range.
 fn start_of_day_in(
     clocks: &Clocks<'_>,
     now: UtcDateTime,
@@ -251,9 +251,9 @@ fn find_named(
     moment_from(word, now.ok_or(TimeArgError::NoClock)?, defaults)
 }
 
-/// Parses a whole text as a moment by RFC 3339, then by `first` and each of `others`, then as a word relative to the
-/// clock, which is at `now`. If none of them matches, the error is that of RFC 3339. A word is an error if `now` is
-/// `None`, or if the word's moment is out of range or doesn't exist in the default zone.
+/// Returns the moment of a whole text by the first of these that yields one: RFC 3339, `first`, each of `others`, or a
+/// word such as `today` or `now-90m`, by the clock's time `now`. If none matches, returns the error of RFC 3339. A word
+/// is an error if `now` is `None`, its moment is out of range, or its day has no start in the default zone.
 pub fn find_moment(
     now: Option<UtcDateTime>,
     first: &Reading,

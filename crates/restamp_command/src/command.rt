@@ -79,8 +79,8 @@ fn add_sections(alloc: Global, mut command: Command<'_>) -> Result<Command<'_>, 
     Ok(command)
 }
 
-/// The command line of `restamp`. It rejects unknown options, options that exclude each other, and options without
-/// those that they require. The error is that memory is short.
+/// The definition of the command line of `restamp`. Its parser rejects unknown options, options that exclude each
+/// other, and options without others that they require. The error is that memory is short.
 pub fn make_command<'a>(alloc: Global) -> Result<Command<'a>, AllocError> {
     let command = Command::new(alloc, "restamp")
         .bin_name("restamp")?

@@ -7,7 +7,7 @@ use restamp_formats::{FormatFault, MissingField, Reason};
 use std::fmt;
 use time_zones::ZoneFault;
 
-/// Why a text is no moment.
+/// Why the text of a time option is no moment: it doesn't parse, its word has no valid moment, or the clock is unknown.
 #[derive(Clone, Copy, Debug)]
 pub enum TimeArgError {
     /// It is no word and no format matches it: the error of RFC 3339. Or it is a word for a day that has no start in
@@ -31,8 +31,8 @@ impl fmt::Display for TimeArgError {
     }
 }
 
-/// Why the options are no request: an option rejects its value, or memory is short. Each variant but `Memory` has that
-/// value, and some have the cause after it.
+/// Why the options are no request: one rejects its value or can't load its zones, a default has no use, or memory is
+/// short. Each variant but `Memory` has the option's value, and some have the cause after it.
 #[derive(Drop)]
 pub enum Fault<'a> {
     /// Out of memory.

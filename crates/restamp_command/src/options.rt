@@ -7,7 +7,7 @@ ghost use Rattle.restamp_command.specs.Options as spec;
 use clap::ArgMatches;
 
 /// The values of the command line before they are interpreted: whether each flag is given, and the texts of the other
-/// options. `None`: the option isn't given, and has no default value.
+/// options. A field is `None` if its option isn't given and has no default value.
 #[derive(Clone, Copy)]
 pub struct Options<'m, 'a> {
     /// `--front`.
@@ -99,7 +99,7 @@ fn first_format<'a>(matches: &ArgMatches<'a>) -> &'a str
 }
 
 impl<'m, 'a> Options<'m, 'a> {
-    /// The values of the options in the matches of the command of [`make_command`](crate::make_command).
+    /// The values of the options that the command of [`make_command`](crate::make_command) has parsed.
     pub fn of(matches: &'m ArgMatches<'a>) -> Options<'m, 'a>
         ensures { spec.AreGiven (found_of matches.now) result }
     {

@@ -12,7 +12,7 @@ use byte_streams::{Sink, Unwritten};
 use std::ascii::EscapeDefault;
 use time_locating::Expected;
 
-// Writes the remaining bytes of an escaped byte, at most 4.
+// Writes the bytes that are left of a byte's escaped form, such as `\x1b`: at most 4.
 fn write_left<L: Sink>(mut left: EscapeDefault, log: &mut L) -> Result<(), Unwritten>
     requires { escape_byte_end left ≤ 4 }
     ensures written { OnOk result (Appends (L.contents log.old) (L.contents log.new) (escape_byte_rest left)) }
@@ -54,7 +54,7 @@ fn write_expectation<L: Sink>(expected: Expected<'_>, log: &mut L) -> Result<(),
     }
 }
 
-/// Writes `: expected ` and what was expected at an error; nothing for `None`.
+/// Writes `: expected ` and a literal in single quotes, the name of a component, or `the end`; nothing for `None`.
 pub fn write_expected<L: Sink>(expected: Option<Expected<'_>>, log: &mut L) -> Result<(), Unwritten>
     ensures written { OnOk result (Appends (L.contents log.old) (L.contents log.new)
         (spec.expected_text (option_map wants expected.entry))) }
@@ -115,8 +115,8 @@ fn bytes_around(line: &[u8], column: usize) -> &[u8]
     &rest[..PRINTED.min(rest.len())]
 }
 
-/// Writes an LF, at most 60 bytes of a line, at most 40 of them before a column (counted from 1), another LF, and a red
-/// caret under that column. Bytes that aren't printable ASCII are written as dots. No LF follows the caret.
+/// Writes an LF, up to 60 bytes of a line from 40 bytes before a column (counted from 1) or from its start, an LF, and
+/// a red caret under the column. Any byte but printable ASCII or a space is written as a dot. No LF follows the caret.
 pub fn write_pointer<L: Sink>(line: &[u8], column: usize, log: &mut L) -> Result<(), Unwritten>
     ensures written { OnOk result (Appends (L.contents log.old) (L.contents log.new) (spec.pointer line.now column)) }
     ensures cause { HasCause result (L.faults log.old) (L.faults log.new) }

@@ -368,7 +368,7 @@ impl<'a> Request<'a> {
         }
     }
 
-    /// The job, which decides what is done with each line. It requires a timestamp if `self.strict` is true.
+    /// The job, which decides the action of each line. If `self.strict` is true, it rejects lines without a timestamp.
     pub fn job(&self) -> Job<'_>
         ensures { spec.IsJobOf self.now result }
     {

@@ -136,7 +136,7 @@ pub fn serve<W: Sink, L: Sink, O: Opening>(
 }
 
 /// Replaces a file by its processed lines, unless none of its timestamps is rewritten. Returns the log, the counts of
-/// the file's lines by their actions, and whether the file was replaced, or why not, such as a stop at a rejected line.
+/// its lines by their actions, and whether it was replaced, or an error, such as a stop at a rejected line.
 ///
 /// A crash at any moment leaves the whole new file under the file's name, or what a crash before the call might have
 /// left there.

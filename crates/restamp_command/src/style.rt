@@ -15,7 +15,7 @@ use std::rt::{Env, Files};
 use time_formatting::FractionDigits;
 use time_zones::write_suffix;
 
-/// How a moment is written.
+/// How a moment is written: the format, the digits of a fraction, the zone, and the suffix after the timestamp.
 #[derive(Drop)]
 pub struct Style {
     /// The format.

@@ -51,7 +51,7 @@ pub(crate) struct Row {
     pub(crate) excludes: &'static [&'static str],
 }
 
-// The values that rows omit: a flag without a letter, which requires and excludes no option.
+// The default for the fields of a row: a flag without a letter, which requires and excludes no option.
 const FLAG: Row = Row {
     name: "",
     letter: None,

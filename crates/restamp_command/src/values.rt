@@ -47,8 +47,8 @@ pub fn find_delimiter(text: &str) -> Option<u8>
     }
 }
 
-/// How many digits of a fraction are written: `Auto` for `auto`, or exactly 0 to 9 for one ASCII digit. `None` for any
-/// other text.
+/// How many digits of a fraction are written: for `auto` those up to the last that isn't 0 (`Auto`), or exactly 0 to 9
+/// for one ASCII digit. `None` for any other text.
 pub fn find_digits(text: &str) -> Option<FractionDigits>
     ensures { result ≡ spec.digits_of text.now }
 {

@@ -9,7 +9,7 @@ use std::rt::{Env, Files};
 use time_values::{OffsetDateTime, UtcOffset};
 use time_zones::{NamedZone, ZoneFault, ZoneText, find_zone};
 
-/// The zone that moments are converted to.
+/// The zone that moments are converted to before they are written, or `Keep` for each moment's own offset.
 #[derive(Drop)]
 pub enum Zone {
     /// Each moment keeps its offset.
@@ -33,7 +33,7 @@ impl Zone {
         }
     }
 
-    /// The clock of `restamp_formats` that converts moments to this zone.
+    /// The [`Clock`] that converts moments to this zone. For `Keep` it leaves each moment at its own offset.
     pub fn clock(&self) -> Clock<'_>
         ensures { spec.IsClockOf self.now result }
     {
@@ -45,7 +45,7 @@ impl Zone {
     }
 }
 
-/// The default for an omitted offset.
+/// The default for the offset that a timestamp omits: an offset, or a zone that decides the offset by the local time.
 #[derive(Drop)]
 pub enum Local<'a> {
     /// An offset.
@@ -54,7 +54,7 @@ pub enum Local<'a> {
     Zone(NamedZone, &'a str, Fold),
 }
 
-/// Defaults for what a timestamp omits.
+/// Defaults for the year and the offset that a timestamp omits. They own the zone.
 #[derive(Drop)]
 pub struct OwnedDefaults<'a> {
     /// The year, if the timestamp has no part of one.
@@ -66,7 +66,7 @@ pub struct OwnedDefaults<'a> {
 }
 
 impl Local<'_> {
-    /// The name of the zone of local times in reports; `its zone` for an offset.
+    /// The name that reports give the default zone: `its zone` if the default is an offset.
     pub fn zone_name(&self) -> &str
         ensures { result.now ≡ spec.zone_name self.now }
     {
@@ -78,7 +78,7 @@ impl Local<'_> {
 }
 
 impl OwnedDefaults<'_> {
-    /// These defaults as a value that borrows the zone: either `offset` or `clocks` is set, the other is `None`.
+    /// These defaults, borrowed: a default offset in `offset`, or a default zone in `clocks`. The other one is `None`.
     pub fn defaults(&self) -> Defaults<'_>
         ensures { spec.AreDefaultsOf self.now result }
     {

@@ -47,8 +47,8 @@ whole_text v [] = []
 whole_text v (verbatim text ∷ ps) = text ++ whole_text v ps
 whole_text v (part c ∷ ps) = or_nothing (component_text greatest_year v c) ++ whole_text v ps
 
--- Each component's text is followed by bytes, or by the end of the text, that may follow it, so that all of it is
--- parsed.
+-- Each component's text is followed by bytes, or by the end of the text, at which the component's parse stops, so that
+-- exactly this text is parsed.
 abbrev pub AllStop : OffsetDateTime → List Piece → Type 0
 AllStop v [] = Unit {0}
 AllStop v (verbatim text ∷ ps) = AllStop v ps

@@ -135,9 +135,9 @@ has_full_date has_year t =
     (has_day t && (has_whole_year t || (has_year && not (always Part.Year t))))
     || (has_iso_day t && has_whole_iso_year t)
 
--- The first of a day, its year, an hour and its half that all texts of a tree omit, so that none is a moment:
--- `WholeYear` if no default can give the year, else `Year`. `None` if there is none, or with a count from 1970. The
--- `Bool` is true if there is a default year. Offsets, minutes and seconds aren't checked.
+-- The first of a day, its year, an hour and its half for which the tree's components, even optional ones, don't
+-- suffice, so that no text is a moment: `WholeYear` if no default can give the year, else `Year`. `None` if there is
+-- none, or with a count from 1970. The `Bool`: there is a default year. Offsets, minutes and seconds aren't checked.
 abbrev pub missing_field_of : Bool → Tree → Option MissingField
 missing_field_of has_year t =
     if has_kind Kind.Count t then None else
@@ -147,8 +147,8 @@ missing_field_of has_year t =
     if not (has_kind Kind.Hour t || has_kind Kind.HourOfHalf t) then Some MissingField.Hour else
     if not (has_kind Kind.Hour t || has_kind Kind.Half t) then Some MissingField.Half else None
 
--- The part that all texts of a format omit, by `missing_field_of`; `None` for RFC 3339, RFC 9557, RFC 2822 and ISO
--- 8601. The `Bool` is true if there is a default year or a latest moment; it counts even for `Complete`.
+-- The part, by `missing_field_of`, that no text of a format has; `None` for RFC 3339, RFC 9557, RFC 2822 and ISO 8601.
+-- The `Bool` is true if there is a default year or a latest moment; it counts even for `Complete`.
 abbrev pub format_missing_field : Bool → Reading → Option MissingField
 format_missing_field has_year (Reading.Described d) = missing_field_of has_year (steps_shape d)
 format_missing_field has_year (Reading.Complete d) = missing_field_of has_year (steps_shape d)

@@ -35,7 +35,7 @@ front_of text (Ok x) = Ok (said x.0 (length text - length x.1))
 front_of text (Err e) = Err e
 
 -- the match of a text by a format with these relations, without defaults, or its error: of a prefix if the `Bool` is
--- true, otherwise of the whole text, on that path
+-- true, otherwise of the whole text, parsed on the given path: over a record, or directly
 abbrev pub IsReadBy : Bool → Path → Outcome.Reading → Refusing → List ℕ → Result Match Refusal → Type 0
 IsReadBy true path reads refuses text result =
     (outcome : Result (OffsetDateTime × List ℕ) Refusal)
@@ -102,7 +102,7 @@ bare_match v text = record {
 abbrev pub bare : List ℕ → Match → Match
 bare text s = bare_match s.moment (take s.length text)
 
--- a result whose match excludes the ASCII white space at both ends if the `Bool` is true; otherwise the same result
+-- a result, its match without the ASCII white space at both ends if the `Bool` is true; otherwise unchanged
 abbrev pub bare_where : Bool → List ℕ → Result Match Refusal → Result Match Refusal
 bare_where true text (Ok s) = Ok (bare text s)
 bare_where true text (Err e) = Err e
@@ -171,7 +171,7 @@ abbrev pub guarded : Reading → List ℕ → Match → Result Match Reason
 guarded format text s =
     if is_counted format && is_negative_fraction (take s.length text) then Err negative_fraction else Ok s
 
--- the match, or an error if `Counted` has a `-` first and a `.`; for RFC 9557, with the suffix after it, or an error
+-- the match; for `Counted` an error if it has a `-` first and a `.`; for RFC 9557 extended by the suffix, or an error
 abbrev pub IsGuarded : Reading → Bool → List ℕ → Match → Result Match Reason → Type 0
 IsGuarded format is_prefix text s result =
     MatchOption (zones_of format) (result ≡ guarded format text s) (λ zones. IsSuffixed zones is_prefix text s result)

@@ -4,10 +4,10 @@ ghost use Rattle.restamp_formats.specs.Reason.{Reason as Reason_, is_local_time_
 
 use crate::reason::Reason;
 
-/// What a caller keeps of the reason for a rejected timestamp: the whole [`Reason`], or a [`Brief`].
+/// A type that holds what a caller keeps of the [`Reason`] for a rejected timestamp: all of it, or a [`Brief`].
 ///
-/// The functions that parse a text are generic over this trait. A stream of lines uses [`Brief`], since a whole reason
-/// beside each match costs a line as much as the match does.
+/// [`parse`](crate::parse), [`parse_dated`](crate::parse_dated), [`parse_in_turn`](crate::parse_in_turn) and
+/// [`write_to`](crate::write_to) have such an error. A stream of lines uses [`Brief`], so their results are smaller.
 pub trait FromReason: Copy {
     ghost use Rattle.restamp_formats.specs.Reason.{Reason as Reason_, is_local_time_error};
 
@@ -46,7 +46,7 @@ impl FromReason for Reason {
     }
 }
 
-/// The part of a reason that the choice of a year needs: whether it is `Nonexistent` or `Ambiguous`.
+/// The part of a [`Reason`] that the choice of a default year needs: whether it is `Nonexistent` or `Ambiguous`.
 #[derive(Clone, Copy, Debug, PartialEq, Eq)]
 pub struct Brief {
     /// Whether the reason is `Nonexistent` or `Ambiguous`.

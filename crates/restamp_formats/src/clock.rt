@@ -11,7 +11,7 @@ use time_values::error::{Parse, ParseFromDescription};
 use time_values::{OffsetDateTime, UtcOffset};
 use time_zones::{TimeZone, Zones, check_suffix, checked_to_zone, read_suffix};
 
-/// The offset that a moment is converted to before it is written.
+/// The offset that a moment is converted to before it is written: its own, a fixed one, or that of a time zone.
 #[derive(Clone, Copy)]
 pub enum Clock<'a> {
     /// The moment's own offset: the moment is unchanged.
@@ -43,8 +43,8 @@ fn converted_in(moment: OffsetDateTime, zone: &TimeZone<'_>) -> Option<OffsetDat
 }
 
 impl Clock<'_> {
-    /// Converts the moment to this clock. `None` if its year at a fixed offset is outside -999999 to 999999; or, for a
-    /// zone, if it is before -9999-01-02T01:59:59Z or after 9999-12-30T22:00:00.999999999Z.
+    /// The moment at this clock's offset; unchanged for `Own`. `None` for `Fixed` if its year there is outside -999999
+    /// to 999999; for `Zone` if it is before -9999-01-02T01:59:59Z or after 9999-12-30T22:00:00.999999999Z.
     #[inline(always)]
     pub fn show(&self, moment: OffsetDateTime) -> Option<OffsetDateTime>
         ensures { spec.IsConverted self.now moment result }

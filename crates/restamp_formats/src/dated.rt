@@ -40,7 +40,7 @@ struct Undated<'a, 'z> {
 }
 
 impl<'z> Undated<'_, 'z> {
-    // The defaults with that year, without a latest moment.
+    // The defaults with that year, and the offset and the zone of `self`; without a latest moment.
     fn in_year(&self, year: i32) -> Defaults<'z>
         ensures { result ≡ spec.in_year year self.now.offset self.now.clocks }
     {
@@ -116,8 +116,8 @@ impl<'z> Undated<'_, 'z> {
 }
 
 // Parses a text that the format rejects for that reason: as a local time in the zone of the defaults, then, if they
-// have a latest moment, with ten default years, from the one after that moment's year down. The error is that of the
-// last attempt that fails. Not inlined, so that it needs no stack beside texts that the format accepts.
+// have a latest moment, with ten default years, from the one after its year down, for a moment that isn't after it. The
+// error is that of the last attempt that fails. Not inlined, so that it needs no stack beside accepted texts.
 #[inline(never)]
 fn parse_by_defaults<E: FromReason>(
     reading: &Reading,
@@ -150,11 +150,11 @@ fn parse_by_defaults<E: FromReason>(
     }
 }
 
-/// Parses a text by the format; if that rejects it, as a local time in the zone of the defaults; and if that fails and
-/// the defaults have a `latest` moment, with ten default years, from the one after the year of `latest` down, for a
-/// moment that isn't after `latest`. Up to seven years in a row have no 29 February, so ten suffice. A nonexistent or
-/// ambiguous local time ends the search if it isn't after `latest` at the offset of `latest`. The error, as an `E`, is
-/// that of the last attempt that fails. Not inlined, so that other texts need no stack for it.
+/// Parses a text (a prefix of it if `is_prefix` is true) by the format or, if that fails, as a local time in the zone
+/// of the defaults, if any. If both fail and the defaults have a `latest`, tries both with ten default years, from the
+/// one after the year of `latest` down, for a moment that isn't after it. Ten suffice: up to seven years in a row have
+/// no 29 February. A nonexistent or ambiguous local time ends the search if it isn't after `latest` at the offset of
+/// `latest`. The error, as an `E`, is that of the last failed attempt. Not inlined: other texts need no stack for it.
 #[tactic(auto, using(crate::proofs::ParseLemmas::dated_at_once))]
 #[inline(never)]
 pub fn parse_dated<E: FromReason>(
@@ -197,8 +197,8 @@ fn read_others<E: FromReason>(
     Err(reason)
 }
 
-/// Parses a text by the first of the formats that matches, each as [`parse_dated`] does. If none does, the error is the
-/// first format's, as an `E`.
+/// Parses a text (a prefix of it if `is_prefix` is true) by `first` or, if that fails, by the first of `others` that
+/// matches, each as [`parse_dated`] does. If none matches, the error is that of `first`, as an `E`.
 #[tactic(auto, using(crate::proofs::ParseLemmas::in_turn_at_once))]
 pub fn parse_in_turn<E: FromReason>(
     first: &Reading,
@@ -219,7 +219,7 @@ pub fn parse_in_turn<E: FromReason>(
     }
 }
 
-/// Parses a text by the first format that matches, as [`parse_in_turn`]. The error is the first format's [`Reason`].
+/// Parses a text as [`parse_in_turn`] does. If no format matches, the error is the whole [`Reason`] of `first`.
 pub fn read_in_turn(
     first: &Reading,
     others: &[Reading],

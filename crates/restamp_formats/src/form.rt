@@ -32,7 +32,7 @@ pub enum Unit {
     Nanoseconds,
 }
 
-/// An output format that has a name.
+/// An output format that has a name: RFC 3339, RFC 2822, ISO 8601, or a count from 1970-01-01T00:00:00Z.
 #[derive(Clone, Copy, Debug, PartialEq, Eq)]
 pub enum Named {
     /// RFC 3339, with the fraction that [`Form::digits`] selects.
@@ -46,7 +46,7 @@ pub enum Named {
     Count(Unit),
 }
 
-/// The format that a moment is written in.
+/// The format that a moment is written in: a format with a name, or a description.
 #[derive(Drop)]
 pub enum Writing {
     /// A format with a name.
@@ -55,7 +55,7 @@ pub enum Writing {
     Described(Description<MOST_STEPS>),
 }
 
-/// All that determines how a moment is written.
+/// How a moment is written: the format, the digits of its fraction, and the offset or zone it is converted to.
 #[derive(Clone, Copy)]
 pub struct Form<'a> {
     /// The format.
@@ -267,9 +267,9 @@ fn write_described<E: FromReason>(
     }
 }
 
-/// Converts the moment to the form's clock, and replaces `text` by its text. The error, as an `E`, is `OutOfRange` or
-/// `OutsideZoneRange` if it can't be converted; otherwise [`Reason::OutOfRange`] for a count of a moment whose year in
-/// UTC is outside -999999 to 999999, [`Reason::Unformattable`] for a description, or else [`Reason::Unwritable`].
+/// Converts the moment to the form's offset or zone, and replaces `text` by its text. The error, as an `E`: if it can't
+/// be converted, `OutOfRange` (offset) or `OutsideZoneRange` (zone); or else `OutOfRange` for a count if its year in
+/// UTC is outside -999999 to 999999, [`Reason::Unformattable`] for a description, otherwise [`Reason::Unwritable`].
 #[inline(always)]
 pub fn write_to<E: FromReason>(
     moment: OffsetDateTime,

@@ -3,27 +3,27 @@ ghost use Rattle.restamp_formats.specs.Common.{greatest_year};
 ghost use Rattle.restamp_formats.specs.Laws.{AutoHasAll, ReadsRewrittenBack, ReadsSuffixedBack, ReadsZonedBack, WritesZonedSame, KeepsMoment, AllValuesDetermine, SignsDetermine, OneTree, CommonReadsBack};
 ghost use Rattle.restamp_formats.specs.MissingField.{ClocksHaveNoUse, HasNoUse, ParsesNoMoment};
 
-/// A text written by RFC 3339, RFC 2822 or ISO 8601 parses by that format as its moment, at the offset that this was
-/// converted to, provided that each nonzero digit of the fraction was written; and the match has all bytes of the text.
+/// A text written by RFC 3339, RFC 2822 or ISO 8601 parses by that format as the moment that was written, at the offset
+/// of the text, if each nonzero digit of its fraction was written; and the match has all bytes of the text.
 /// [`Auto`](time_formatting::FractionDigits::Auto) omits no such digit.
 ///
-/// A text written by a description parses likewise by a description with an equal tree, provided that the values of its
-/// components, with the defaults that the format uses, make a record of that moment, that each component's text is
-/// parsed whole, and that no fraction follows the minus of a number of seconds.
+/// A text written by a description parses likewise by a description with an equal tree, if each component's text is
+/// parsed whole, if the values of the components, completed by the defaults that the format uses, resolve to that
+/// moment, and if, for a number of seconds, no fraction follows a minus.
 pub fn law_rewritten_read_back()
     ensures text { ReadsRewrittenBack }
     ensures auto { AutoHasAll }
 {}
 
-/// If RFC 3339 matches a whole text, and the suffix after it agrees with its moment, RFC 9557 matches the text and the
-/// suffix together as the same moment.
+/// If RFC 3339 matches a whole text, and the suffix after it has no critical tag and, if it has a zone, a known one
+/// with the offset of the text (any, for `Z`, `z` or `-00:00`), RFC 9557 matches both together as the same moment.
 pub fn law_suffixed_read_back()
     ensures { ReadsSuffixedBack }
 {}
 
-/// If a text by RFC 3339 has each nonzero digit of the fraction, and the zone or the fixed offset that its moment was
-/// converted to follows in brackets, RFC 9557 parses both together as the converted moment. A named zone must be in the
-/// format's table by that name. Written again in that form, this moment has the text before the brackets.
+/// If a moment is written by RFC 3339 with each nonzero digit of its fraction, and the zone or the fixed offset that it
+/// was converted to follows in brackets, RFC 9557 parses both together as that moment, converted. A named zone must be
+/// in the format's table by that name. Written again likewise, the parsed moment has the text before the brackets.
 pub fn law_zoned_read_back()
     ensures text { ReadsZonedBack }
     ensures again { WritesZonedSame }
@@ -60,8 +60,8 @@ pub fn law_common_read_back()
 {}
 
 /// [`parse_dated`](crate::parse_dated) parses no text, and no prefix of one, as a moment by a format for which
-/// [`Reading::missing_field`](crate::Reading::missing_field) returns a part. `has_year` is true if the defaults have a
-/// `year` or a `latest`.
+/// [`Reading::missing_field`](crate::Reading::missing_field) returns a part. Its argument `has_year` must be true if
+/// the defaults have a `year` or a `latest`, otherwise false.
 pub fn law_no_moment()
     ensures { ParsesNoMoment }
 {}
@@ -74,8 +74,8 @@ pub fn law_no_use()
     ensures { HasNoUse }
 {}
 
-/// The zone for local times doesn't change the match or the error of a text by a format for which
-/// [`Reading::can_default`](crate::Reading::can_default) returns false for the offset.
+/// The default zone for local times doesn't change the match or the error of a text by a format for which
+/// [`Reading::can_default`](crate::Reading::can_default) returns false for the offset. `latest` isn't covered.
 #[tactic(auto, using(crate::proofs::MissingFieldUses::clocks_have_no_use))]
 pub fn law_no_clocks()
     ensures { ClocksHaveNoUse }

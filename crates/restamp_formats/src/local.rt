@@ -11,7 +11,7 @@ use crate::reason::{OffsetParts, Reason, TwoOffsets};
 use time_values::{OffsetDateTime, PlainDateTime, UtcOffset};
 use time_zones::{NotOne, TimeZone, assume_zone};
 
-/// Which moment an ambiguous local time means: the clocks of the zone moved back, and show it a second time.
+/// Which of its two moments an ambiguous local time means (the clocks moved back): neither, the earlier or the later.
 #[derive(Clone, Copy, Debug, PartialEq, Eq)]
 pub enum Fold {
     /// Neither of the two: the local time is rejected as [`Reason::Ambiguous`].
@@ -22,7 +22,7 @@ pub enum Fold {
     Later,
 }
 
-/// A zone for local times, and the choice for ambiguous ones.
+/// A time zone for local times, and the choice between the two moments of an ambiguous local time.
 #[derive(Clone, Copy)]
 pub struct Clocks<'a> {
     /// The zone.
@@ -39,7 +39,7 @@ pub(crate) fn clock_of(moment: OffsetDateTime) -> PlainDateTime
 }
 
 impl Fold {
-    // The moment that an ambiguous local time means; for `Refuse` the reason `Ambiguous`.
+    // Which of the two moments an ambiguous local time means; for `Refuse` the reason `Ambiguous` with their offsets.
     fn of_two(
         self,
         earlier: OffsetDateTime,
@@ -59,8 +59,8 @@ impl Fold {
 }
 
 impl Clocks<'_> {
-    /// The moment with the local date and time of `shown`, but in the zone; chosen by `fold` if that local time is
-    /// ambiguous there. The error is `Nonexistent`, `Ambiguous` or `OutsideZoneRange`.
+    /// The moment with the local date and time of `shown`, whose offset is ignored, in the zone; `fold` chooses one of
+    /// two. The error is `Nonexistent` (none), `Ambiguous` (two; `fold` is `Refuse`) or `OutsideZoneRange`.
     pub fn moment_when(&self, shown: OffsetDateTime) -> Result<OffsetDateTime, Reason>
         ensures { spec.IsMomentWhen self.now shown (erased result) }
     {
@@ -73,8 +73,8 @@ impl Clocks<'_> {
     }
 
     // Parses a text with UTC as the default offset, and again with the offset that the zone has at the local date and
-    // time of the first parse. The error is that of either parse, or the reason why the zone has no such offset. Not
-    // inlined, so that lines that need no zone need no stack for it.
+    // time of the first match. The error is that of either parse, or that of `moment_when` for the zone. Not inlined,
+    // so that lines that need no zone need no stack for it.
     #[inline(never)]
     fn read<E: FromReason>(
         &self,

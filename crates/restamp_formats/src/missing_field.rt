@@ -9,7 +9,7 @@ use crate::reading::Reading;
 use std::fmt;
 use time_components::{Component, Group, Step, steps_after};
 
-/// A part of a moment that a text, or each text of a format, omits, so that it is no moment.
+/// A part of a moment that a text, or each text of a format, omits, so that the text can't be parsed as a moment.
 #[derive(Clone, Copy, Debug, PartialEq, Eq)]
 pub enum MissingField {
     /// The day: neither the day of the year, nor month and day, nor weekday and number of the week is complete.
@@ -77,7 +77,7 @@ enum Kind {
     Other,
 }
 
-/// A part of a moment that a default can supply.
+/// A part of a moment that a default can supply: the year or the offset.
 #[derive(Clone, Copy, Debug, PartialEq, Eq)]
 pub enum Part {
     /// The year. A text with any part of a year has this part.
@@ -112,7 +112,7 @@ impl Kind {
     }
 }
 
-// The part of a moment that the component's text has; `Other` if `missing_field` doesn't need it.
+// The part of a moment that the component's text has; `Other` if neither `missing_field` nor `can_default` needs it.
 fn kind_of(component: Component) -> Kind
     ensures { result ≡ spec.kind_of component }
 {
@@ -258,8 +258,8 @@ fn has_full_date(steps: &[Step], has_year: bool) -> bool
         || (has_iso_day(steps) && has_whole_iso_year(steps))
 }
 
-// The first of a day, its year, an hour and its half of the day that all texts of the steps omit; `None` if there is
-// none, or if the steps have a count from 1970. `has_year` is true if there is a default year. Offsets aren't checked.
+// The first of a day, its year, an hour and its half of the day for which the steps' components, even optional ones,
+// don't suffice. `None` if there is none, or if they have a count from 1970. `has_year`: there is a default year.
 fn missing_field_of(steps: &[Step], has_year: bool) -> Option<MissingField>
     ensures { result ≡ spec.missing_field_of has_year (steps_shape steps.now) }
 {
@@ -281,10 +281,10 @@ fn missing_field_of(steps: &[Step], has_year: bool) -> Option<MissingField>
 }
 
 impl Reading {
-    /// The first of a day, its year, an hour and its half of the day that all texts of the format omit, so that none of
-    /// them is a moment. `None` if there is none, and for RFC 3339, RFC 9557, RFC 2822, ISO 8601 and descriptions with
-    /// a count from 1970. `has_year` is true if the defaults have a `year` or a `latest`. Either counts for texts
-    /// without any part of a year, even for `Complete`, which uses no defaults.
+    /// The first of a day, its year, an hour and its half of the day for which the format's components, even optional
+    /// ones, don't suffice, so that no text is a moment. `None` if there is none, and for RFC 3339, RFC 9557, RFC 2822,
+    /// ISO 8601 and descriptions with a count from 1970. `has_year` is true if the defaults have a `year` or a
+    /// `latest`: a year for texts without any part of one; it counts even for `Complete`, which uses no defaults.
     pub fn missing_field(&self, has_year: bool) -> Option<MissingField>
         ensures { result ≡ spec.format_missing_field has_year self.now }
     {

@@ -9,7 +9,7 @@ use std::fmt;
 use time_descriptions::{Description, InvalidFormatDescription, parse_borrowed, parse_strftime};
 use time_preparing::Prepared;
 
-/// Why a text names no format.
+/// Why a text names no format: it is neither a name nor a description, or its description is invalid or too long.
 #[derive(Clone, Copy, Debug)]
 pub enum FormatFault<'a> {
     /// The text is none of the names, and has neither a `[` nor a `%`.
@@ -113,8 +113,8 @@ fn lettered(text: &[u8]) -> Result<Description<MOST_STEPS>, FormatFault<'_>>
 }
 
 /// The input format of that name: `rfc3339`, `rfc2822`, `iso8601`, `common`, `syslog`, `unix`, `unix-ms`, `unix-us` or
-/// `unix-ns`; or the one that the text describes: in brackets (version 2) if it has a `[`, otherwise as in strftime if
-/// it has a `%`. An error if it is none of these, or the description is invalid or has over [`MOST_STEPS`] steps.
+/// `unix-ns`; or that of a description: in brackets (version 2) if it has a `[`, otherwise as in strftime if it has a
+/// `%`. The error is `Description` if that is invalid or has over 256 steps, `Unknown` for any other text.
 pub fn find_reading(name: &[u8]) -> Result<Reading, FormatFault<'_>>
     ensures { MatchResult result
         (λ reading. spec.Means (spec.format_name_of name.now) (spec.meaning_of reading))
@@ -132,7 +132,7 @@ pub fn find_reading(name: &[u8]) -> Result<Reading, FormatFault<'_>>
     }
 }
 
-// The output format of that name; `None` if the text isn't one of the seven names in the code.
+// The output format `rfc3339`, `rfc2822`, `iso8601`, `unix`, `unix-ms`, `unix-us` or `unix-ns`; `None` for other names.
 fn find_named(name: &[u8]) -> Option<Named>
     ensures { result ≡ spec.writing_named name.now }
 {
@@ -162,9 +162,9 @@ fn find_description(text: &[u8]) -> Result<Description<MOST_STEPS>, FormatFault<
     }
 }
 
-/// The output format of that name: `rfc3339`, `rfc2822`, `iso8601`, `unix`, `unix-ms`, `unix-us` or `unix-ns`; or the
-/// one that the text describes: in brackets (version 2) if it has a `[`, otherwise as in strftime if it has a `%`. An
-/// error if it is none of these, or the description is invalid or has more than [`MOST_STEPS`] steps.
+/// The output format of that name: `rfc3339`, `rfc2822`, `iso8601`, `unix`, `unix-ms`, `unix-us` or `unix-ns`; or that
+/// of a description: in brackets (version 2) if it has a `[`, otherwise as in strftime if it has a `%`. The error is
+/// `Description` if that is invalid or has over 256 steps, `Unknown` for any other text.
 pub fn find_writing(name: &[u8]) -> Result<Writing, FormatFault<'_>>
     ensures { MatchResult result (λ writing. spec.MeansWriting name.now writing)
         (λ fault. spec.IsWritingFault name.now (spec.fault_of fault)) }

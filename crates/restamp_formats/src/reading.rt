@@ -25,7 +25,7 @@ use time_zones::Zones;
 /// description in brackets of at most this many bytes never has more.
 pub const MOST_STEPS: usize = 256;
 
-/// A format that timestamps are parsed by.
+/// A format that timestamps are parsed by: RFC 3339, RFC 9557, RFC 2822, ISO 8601 or a description.
 #[derive(Drop)]
 pub enum Reading {
     /// RFC 3339, section 5.6, with `T`, `t` or a space between the date and the time.
@@ -235,8 +235,8 @@ fn read_mail(is_prefix: bool, text: &[u8]) -> Result<Match, Parse>
     Ok(said)
 }
 
-/// Parses a prefix of the text by RFC 3339, with `T`, `t` or a space between the date and the time, and without a
-/// record where possible. Bytes after the prefix are no error. Not inlined, so that whole texts need no stack for it.
+/// Parses a prefix of the text by RFC 3339, with `T`, `t` or a space between the date and the time, and without filling
+/// a record where possible. Bytes after the prefix are no error. Not inlined, so that whole texts need no stack for it.
 #[inline(never)]
 pub fn read_front_3339(text: &[u8]) -> Result<Match, Parse>
     ensures said { spec.IsReadInFront text.now (spec.erased_match result) }
@@ -351,7 +351,7 @@ pub(crate) fn parse_outlined<E: FromReason>(
     parse(reading, is_prefix, text, defaults)
 }
 
-/// Parses a text by the format, as [`parse`] does, with a whole [`Reason`] as error. It ignores `clocks` and `latest`.
+/// Parses a text by the format as [`parse`] does, which ignores `clocks` and `latest`; the error is a whole [`Reason`].
 pub fn read(
     reading: &Reading,
     is_prefix: bool,

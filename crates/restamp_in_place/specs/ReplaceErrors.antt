@@ -20,7 +20,7 @@ step_text Rename = codes "the new file did not take its place"
 step_text Remove = codes "the new file was not removed"
 step_text Sync = codes "the new file took its place, but its folder was not synced"
 
--- The text of the reason. After the step that failed, the error may have any text.
+-- The text of why a file wasn't replaced. After the step that failed, the text of its error may be any.
 abbrev pub IsWhy : Unreplaced Stop → List ℕ → Type 0
 IsWhy (Stopped stop) text = text ≡ codes "its lines were not rewritten"
 IsWhy Changed text = text ≡ codes "another program changed it meanwhile"

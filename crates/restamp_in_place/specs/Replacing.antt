@@ -105,7 +105,7 @@ abbrev pub IsBackedUp : List Event → List Event → List ℕ → List ℕ → 
 IsBackedUp before after name second =
     (file : Option ℕ) → MayLead after second file → (file ≡ leads before name) × HasSameBytes before after file
 
--- The file has exactly the new bytes on the disk. If a backup is requested, the old file has that name.
+-- The file has exactly the new bytes on the disk. If a backup is requested, its name points to the old file.
 pub record IsNew (before after : List Event) (name : List ℕ) (backup new : Option (List ℕ))
     (file : Option ℕ) : Type 0 where
   pub number : ℕ

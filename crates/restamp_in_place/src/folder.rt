@@ -8,7 +8,7 @@ use byte_streams::{Counted, Sink, Source};
 use std::io;
 use std::io::ErrorKind;
 
-/// The state of a file when it was opened.
+/// The state of a file when it was opened: which file it is, its length, time of the last write, mode, owner and group.
 #[derive(Clone, Copy, Debug, PartialEq, Eq)]
 pub struct Original {
     /// The file's number in its file system (its inode number).
@@ -48,8 +48,8 @@ impl<W: Drop> Failing for Counted<W> {
 
 /// A folder. Each call but `open` and `is_at` makes one change in it. A failed call has made its whole change, or none.
 ///
-/// `events` lists what was done in the folder, the last event first; it is `None` for files on a disk, where the
-/// contracts state what is assumed of them.
+/// `events` lists what was done in the folder, the last event first. For files on a disk it is `None`, so that nothing
+/// is proved about them: the contracts then state only what is assumed.
 pub trait Folder {
     /// A file that is read.
     type Old: Source + Drop;

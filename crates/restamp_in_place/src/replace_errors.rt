@@ -103,7 +103,7 @@ impl fmt::Display for Step {
     }
 }
 
-/// Why a file wasn't replaced. If `Rename` failed, it may be; if `Sync` failed, it is, but a crash may undo that.
+/// Why replacing a file failed. If `Rename` did, it may be replaced; if `Sync` did, it is, but a crash may undo that.
 #[derive(Debug, Drop)]
 pub enum Unreplaced<S: Drop> {
     /// No new bytes could be made, for this reason.

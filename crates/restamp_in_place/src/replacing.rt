@@ -119,7 +119,7 @@ fn rename_backed<F: Folder, S: Drop>(
     }
 }
 
-// Renames the new file to the old one's name, after the old one got its backup if one is requested.
+// Stores the new file, checks the old one for changes, backs it up if requested, and renames the new one to its name.
 fn install<F: Folder, S: Drop>(
     folder: &mut F,
     plan: &Plan<'_>,
@@ -155,7 +155,7 @@ fn install_or_remove<F: Folder, S: Drop>(
     }
 }
 
-// Installs the new file for `Changed`, else removes it. A failed maker's error is that of a failed write, or its own.
+// Installs the new file for `Changed`, else removes it. If `made` is an error, that of a failed write takes precedence.
 fn finish<F: Folder, S: Drop>(
     folder: &mut F,
     plan: &Plan<'_>,

@@ -27,7 +27,7 @@ pub struct Target<'a> {
 /// the file's lines by their actions, and whether the file was replaced, or the error.
 ///
 /// The file isn't replaced if the work stops early, as at a rejected line, if another program changed it, or if a step
-/// fails. But it is if a rename fails after it was made, or if only the last write of the folder to the disk fails.
+/// fails. Yet it is, despite the error, if a rename fails after it was made, or only the last sync of its folder fails.
 pub fn replace_file<T: Rewriting, F: Folder, L: Sink + Drop>(
     rewriting: &T,
     settings: Settings<'_>,

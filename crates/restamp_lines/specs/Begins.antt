@@ -34,7 +34,7 @@ all = record { signs = true; mail = false; others = true }
 abbrev pub is_gap : ℕ → Bool
 is_gap x = x == 32 || x == 9 || x == 13 || x == 40
 
--- the first byte is the ASCII letter of the second in lower or upper case; the second is given in lower case
+-- the byte is that ASCII letter in lower or upper case; `letter` is given in lower case
 abbrev pub is_letter : ℕ → ℕ → Bool
 is_letter x letter = x == letter || x == letter - 32
 
@@ -93,7 +93,7 @@ IsNotIn x format = is_in (format_firsts format) x ≡ false
 abbrev pub IsInNone : ℕ → List Reading → Type 0
 IsInNone x = All (IsNotIn x)
 
--- a text may start at index k of a line: its byte is in the set, and doesn't continue a word or a number
+-- a timestamp may start at index k of a line: its byte is in the set, and doesn't continue a word or a number
 abbrev pub may_begin : Firsts → List ℕ → ℕ → Bool
 may_begin f line k = not (is_inside line k) && is_in f (slice_index line k)
 

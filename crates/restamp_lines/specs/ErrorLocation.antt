@@ -1,6 +1,6 @@
 -- The location of the error in a rejected timestamp, and what was expected there.
 use Rattle.time_values.specs.Calendar.{greatest_year}
-use Rattle.std.specs.Prelude.{◌≡◌, ℕ, ◌+◌, ◌⊎◌, Bool, true, false, List, [], drop, Option, None, Some, MatchBool, MatchOption, Result, MatchResult, not, ◌&&◌, ◌||◌, if◌then◌else◌, is_some, unwrap_or}
+use Rattle.std.specs.Prelude.{◌≡◌, ℕ, ◌+◌, ◌⊎◌, Bool, true, false, List, [], drop, Option, None, Some, MatchBool, MatchOption, Result, MatchResult, not, ◌&&◌, if◌then◌else◌, is_some, unwrap_or}
 use Rattle.std.specs.Option.{option_map}
 use Rattle.time_values.specs.Refusal.{Refusal, trailing, insufficient}
 use Rattle.time_values.specs.Dates as Dates
@@ -14,6 +14,7 @@ use Rattle.time_parsing.specs.Outcome as Outcome
 use Rattle.time_parsing.specs.Rfc2822 as Rfc2822
 use Rattle.time_parsing.specs.Rfc3339Strict as Rfc3339
 use Rattle.time_parsing.specs.Outcome.{Refusing}
+use Rattle.time_locating.specs.Completeness.{has_day, has_iso_day, has_full_date, has_hour}
 use Rattle.time_locating.specs.Iso8601 as located_iso
 use Rattle.time_locating.specs.IsoMarks as iso_marks
 use Rattle.time_locating.specs.Located.{IsLocated, IsValueAt, Locating, Marking, range_name, wants}
@@ -151,33 +152,6 @@ OneErrorLocation =
     → IsErrorLocation job line column reason w → IsErrorLocation job line column reason other → w ≡ other
 
 -- ---- The part that is missing from a rejected timestamp.
-
--- a record has a year, or its century and its last two digits
-abbrev pub has_whole_year : Record → Bool
-has_whole_year r = is_some r.year || (is_some r.year_century && is_some r.year_last_two)
-
--- a record has an ISO 8601 week year, or its century and its last two digits
-abbrev pub has_whole_iso_year : Record → Bool
-has_whole_iso_year r = is_some r.iso_year || (is_some r.iso_year_century && is_some r.iso_year_last_two)
-
--- a record has a day of a year: its number in the year, a month and a day, or a weekday and the number of a week that
--- starts on Sunday or Monday
-abbrev pub has_day : Record → Bool
-has_day r =
-    is_some r.ordinal || (is_some r.month && is_some r.day)
-    || (is_some r.weekday && (is_some r.sunday_week_number || is_some r.monday_week_number))
-
--- a record has a day of an ISO 8601 week year: a week number and a weekday
-abbrev pub has_iso_day : Record → Bool
-has_iso_day r = is_some r.iso_week_number && is_some r.weekday
-
--- a record has a day with its whole year, both of the calendar year or both of the ISO 8601 week year
-abbrev pub has_full_date : Record → Bool
-has_full_date r = (has_whole_year r && has_day r) || (has_whole_iso_year r && has_iso_day r)
-
--- a record has an hour of the day: from 0 to 23, or from 1 to 12 with AM or PM
-abbrev pub has_hour : Record → Bool
-has_hour r = is_some r.hour_24 || (is_some r.hour_12 && is_some r.hour_12_is_pm)
 
 -- the missing part of a record without a date: `Day` if it has no day, otherwise `WholeYear` if it has a part of a
 -- year, else `Year`

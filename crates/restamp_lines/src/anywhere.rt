@@ -122,7 +122,7 @@ impl Job<'_> {
         None
     }
 
-    // The verdict on a line whose timestamp may be anywhere but in a CR at its end; a new time is stored in `text`.
+    // The verdict on a line whose timestamp may be anywhere but in a CR at its end. A new time is stored in `text`.
     #[inline(never)]
     pub(crate) fn judge_anywhere<E: FromReason>(
         &self,

@@ -161,9 +161,9 @@ fn find_suffix<'a>(part: Part<'_>, otherwise: ErrorLocation<'a>) -> ErrorLocatio
 
 impl<'a> Job<'a> {
     /// Locates the error in the timestamp of a line that was rejected at `column` for `reason`. For [`Reason::Unread`],
-    /// the location is the byte at which the first format fails to match, or the start of the component whose value it
-    /// rejects, or if there is none, the start of the timestamp's part. For [`Reason::Suffix`], it is the start of the
-    /// suffix. For any other reason, or if the job has no place or the line no part there, it is `column`.
+    /// the location is the byte at which the first format fails to match; if it matches, the start of the component
+    /// whose value is rejected, or without one, the start of the timestamp's part. For [`Reason::Suffix`], it is the
+    /// start of the suffix. For other reasons, or if the job has no place or the line no part there, it is `column`.
     ///
     /// Defaults have no effect: they only supply what a timestamp omits.
     #[inline(never)]
@@ -185,7 +185,7 @@ impl<'a> Job<'a> {
     }
 }
 
-/// The error in a rejected line has at most one location, which includes what was expected there or `None`.
+/// The error in a rejected line has at most one location: a column, and what was expected there or `None`.
 #[tactic(auto, using(crate::proofs::OneErrorLocation::one_error_location))]
 pub fn law_one_error_location()
     ensures { spec.OneErrorLocation }

@@ -46,7 +46,7 @@ pub struct Job<'a> {
     pub requires_timestamp: bool,
 }
 
-/// Why a line is rejected, and where.
+/// Why a line is rejected, and at which of its bytes.
 #[derive(Clone, Copy, Debug)]
 pub struct Refusal<E> {
     /// The number of a byte in the line, from 1: the timestamp's first byte, or if it doesn't parse, the first byte of
@@ -175,19 +175,19 @@ impl Job<'_> {
     }
 
     /// The verdict on a line without its LF. The line is rejected if no format matches its timestamp, if this ends
-    /// after the first [`LIMIT`] bytes, if its moment lies within the bounds but has no text in the job's form, or if
-    /// there is no timestamp and one is required. Otherwise it is `Without` if there is no timestamp, dropped if the
-    /// moment lies outside the bounds, and else rewritten. Of a line with more than `LIMIT` + [`REACH`] bytes, the
-    /// caller may pass only the first `LIMIT` + `REACH`, so that the parser sees what follows the timestamp.
+    /// after the first [`LIMIT`] bytes, if its moment is within the bounds `since` and `until` but has no text in the
+    /// job's form, or if there is no timestamp and one is required. Otherwise it is `Without` if there is no timestamp,
+    /// dropped if the moment is outside the bounds, and else rewritten. Of a line with more than `LIMIT` + [`REACH`]
+    /// bytes, the caller may pass only the first `LIMIT` + `REACH`. The verdict is then the one on these bytes.
     ///
     /// Without a place, the timestamp starts at the first byte from which on a format matches, and has at most
-    /// [`REACH`] bytes. It is made of whole words and numbers: if its first byte is an ASCII letter or digit, the byte
-    /// before it is none, and if its last byte is one, the byte after it is none. A line without such a text has no
-    /// timestamp. With a place, it has none if the line has no part at the place. White space around a mail date stays
-    /// if the format decides where the timestamp ends, and is replaced if the place does. Its comments are replaced.
+    /// [`REACH`] bytes. It neither starts nor ends inside a word or a number: between two bytes that are both ASCII
+    /// letters or digits. A line without such a text has no timestamp. With a place, a line has no timestamp if it has
+    /// no part at the place. White space around a mail date stays if the format decides where the timestamp ends, and
+    /// is replaced if the place does. Comments around a mail date are replaced.
     ///
-    /// If the line is rewritten, `text` is overwritten with the new time. The type `E` decides how much of the reason
-    /// is returned for a rejected line: [`Reason`] is all of it.
+    /// If the line is rewritten, the new time is stored in `text`; otherwise the content of `text` is unspecified. For
+    /// a rejected line, the type `E` decides how much of the reason is returned: [`Reason`] is all of it.
     #[inline(always)]
     pub fn judge<E: FromReason>(&self, line: &[u8], text: &mut Text) -> LineAction<Refusal<E>>
         ensures verdict { spec.SatisfiesWithText E.is_of (spec.IsJudged self.now line.now) result text.new }

@@ -6,57 +6,10 @@ ghost use Rattle.restamp_formats.specs.Reason.{seen};
 use crate::job::Job;
 use restamp_formats::{Defaults, MissingField, Reading, Reason, ReasonDisplay, complete, has_year};
 use std::fmt;
+use time_locating::{has_day, has_full_date, has_hour, has_iso_day};
 use time_parsing::{Iso8601, Parsable};
 use time_record::Parsed;
 use time_values::error::{Parse, TryFromParsed};
-
-// Whether the record has a year, or its century and its last two digits.
-fn has_whole_year(parsed: &Parsed) -> bool
-    ensures { result ≡ spec.has_whole_year parsed.now }
-{
-    parsed.year().is_some() || (parsed.year_century().is_some() && parsed.year_last_two().is_some())
-}
-
-// Whether the record has an ISO 8601 week year, or its century and its last two digits.
-fn has_whole_iso_year(parsed: &Parsed) -> bool
-    ensures { result ≡ spec.has_whole_iso_year parsed.now }
-{
-    parsed.iso_year().is_some()
-        || (parsed.iso_year_century().is_some() && parsed.iso_year_last_two().is_some())
-}
-
-// Whether the record has a day of a year: its number in the year, a month and a day, or a weekday and the number of a
-// week that starts on Sunday or Monday.
-fn has_day(parsed: &Parsed) -> bool
-    ensures { result ≡ spec.has_day parsed.now }
-{
-    parsed.ordinal().is_some()
-        || (parsed.month().is_some() && parsed.day().is_some())
-        || (parsed.weekday().is_some()
-            && (parsed.sunday_week_number().is_some() || parsed.monday_week_number().is_some()))
-}
-
-// Whether the record has a day of an ISO 8601 week year: a week number and a weekday.
-fn has_iso_day(parsed: &Parsed) -> bool
-    ensures { result ≡ spec.has_iso_day parsed.now }
-{
-    parsed.iso_week_number().is_some() && parsed.weekday().is_some()
-}
-
-// Whether the record has a day with its whole year, both of the calendar year or both of the ISO 8601 week year.
-fn has_full_date(parsed: &Parsed) -> bool
-    ensures { result ≡ spec.has_full_date parsed.now }
-{
-    (has_whole_year(parsed) && has_day(parsed))
-        || (has_whole_iso_year(parsed) && has_iso_day(parsed))
-}
-
-// Whether the record has an hour of the day: from 0 to 23, or from 1 to 12 with AM or PM.
-fn has_hour(parsed: &Parsed) -> bool
-    ensures { result ≡ spec.has_hour parsed.now }
-{
-    parsed.hour_24().is_some() || (parsed.hour_12().is_some() && parsed.hour_12_is_pm().is_some())
-}
 
 // The missing part of a record without a date: `Day` if it has no day by `has_day` or `has_iso_day`, otherwise
 // `WholeYear` if it has a part of a year or a whole year of the other kind than its day, else `Year`.
@@ -168,10 +121,10 @@ fn missing_field_in_text(
 
 impl Job<'_> {
     /// The missing part of a line's timestamp that was rejected for `reason`: the first of a day, its year, an hour, AM
-    /// or PM of an hour from 1 to 12, a minute, a second and an offset that neither the text by the first format has,
-    /// nor the defaults, in which the year of `latest` replaces `year`. `None` if `reason` isn't insufficient
-    /// information, if the job has no place or the line no part there, if the first format matches no prefix of that
-    /// part, or if this format is RFC 3339, RFC 9557, RFC 2822 or `Complete`.
+    /// or PM of an hour from 1 to 12, a minute, a second and an offset that neither the text, parsed by the first
+    /// format, nor a default supplies; the year of `latest`, if any, replaces the default `year`. `None` if `reason`
+    /// isn't `InsufficientInformation`, if the job has no place or the line no part there, if the first format matches
+    /// no prefix of that part, or if that format is RFC 3339, RFC 9557, RFC 2822 or `Complete`.
     #[inline(never)]
     pub fn find_missing_field(&self, line: &[u8], reason: Reason) -> Option<MissingField>
         ensures { spec.IsMissingField self.now line.now (seen reason) result }
@@ -184,7 +137,7 @@ impl Job<'_> {
     }
 }
 
-/// Why a timestamp isn't rewritten. Displays the missing part if there is one, otherwise the reason.
+/// Why a timestamp isn't rewritten. Displays only the missing part if there is one, otherwise the reason.
 #[derive(Clone, Copy)]
 pub struct Why<'a> {
     /// The reason.
@@ -212,7 +165,7 @@ impl fmt::Display for Why<'_> {
     }
 }
 
-/// For a rejected line and its reason, `IsMissingField` has at most one result, even if several parts are missing.
+/// The contract of [`Job::find_missing_field`] allows at most one result, even if several parts are missing.
 #[tactic(auto, using(crate::proofs::OneErrorLocation::one_missing_field))]
 pub fn law_one_missing_field()
     ensures { spec.OneMissingField }

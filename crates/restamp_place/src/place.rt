@@ -53,7 +53,7 @@ pub fn body_of(line: &[u8]) -> &[u8]
     &line[..body_length(line)]
 }
 
-// The part from after the first `begin` up to the next `close`; `None` if there is no `begin`, or no `close` after it.
+// The part of the line from after the first `begin` up to the next `close`; `None` if one of them isn't found.
 fn find_between(begin: &[u8], close: &[u8], line: &[u8]) -> Option<Span>
     ensures value { result ≡ span_of (Place.Between begin.entry close.entry) line.now }
     ensures within { IfSome result (IsPart (length line.now)) }
@@ -66,7 +66,7 @@ fn find_between(begin: &[u8], close: &[u8], line: &[u8]) -> Option<Span>
     })
 }
 
-// The part from after the first `key` to the end; `None` if it doesn't occur.
+// The part of the line from after the first `key` to the end; `None` if `key` doesn't occur.
 fn find_after(key: &[u8], line: &[u8]) -> Option<Span>
     ensures value { result ≡ after_of key.now line.now }
     ensures within { IfSome result (IsPart (length line.now)) }

@@ -61,7 +61,7 @@ FailedBy Refused fact = ⊥
 abbrev pub ContinuesLine : Option (List ℕ) → Option (List ℕ) → TailAction → List ℕ → Type 0
 ContinuesLine out out' rest bytes = HasNoLf bytes × Appends out out' (passed rest bytes)
 
--- Bytes through the first LF were written (`Dropping`: dropped). `after` is the rest; for `Absent`, `after` is all.
+-- Bytes through the first LF were written (`Dropping`: dropped; `Absent`: there are none), and `after` is the rest.
 abbrev pub EndsLine : Option (List ℕ) → Option (List ℕ) → TailAction → List ℕ → List ℕ → Type 0
 EndsLine out out' Absent bytes after = (after ≡ bytes) × Keeps out out'
 EndsLine out out' rest bytes after =

@@ -81,7 +81,7 @@ front_text RewrittenLines suffix front (Rewritten begin end text) = changed suff
 front_text Times suffix front (Rewritten begin end text) = text.items ++ (suffix ++ 10 ∷ [])
 front_text _ suffix front _ = []
 
--- the bytes after a front: `Passing` if the output has lines with that action, otherwise (`Times`: always) `Dropping`
+-- the action of bytes after a front: `Passing` if lines with that action are written, else (`Times`: always) `Dropping`
 abbrev pub tail_action_of : Output → Action → TailAction
 tail_action_of AllLines Dropped = Dropping
 tail_action_of AllLines _ = Passing
@@ -167,7 +167,7 @@ abbrev pub report_of : List ℕ → ℕ → ℕ → List ℕ → List ℕ
 report_of name line column reason =
     displayed_name name ++ (codes ":" ++ (decimal line ++ (codes ":" ++ (reason_text column reason ++ 10 ∷ []))))
 
--- the line in the log that n more lines of the file were rejected; empty if n is 0
+-- the line of the log that reports that n more lines of the file were rejected; empty if n is 0
 abbrev pub more_text : List ℕ → ℕ → List ℕ
 more_text name n =
     if n == 0 then [] else

@@ -96,7 +96,7 @@ pub record Closes (name : List ℕ) (reports : Reports) (before after : State) :
   pub reported : Appends before.log after.log (more_text name (unnamed reports before.tally))
   pub same_tally : after.tally ≡ before.tally
 
--- Between the two states all lines of an input were processed, and the rejected ones were reported.
+-- Between the two states all lines of an input were processed, and rejected ones were reported as the settings request.
 pub record ProcessedAll (job : Job) (before after : State) (bytes : List ℕ) : Type 0 where
   pub actions : List Action
   pub between : State
@@ -201,7 +201,7 @@ ProcessedCutOff job bytes faults faults' before after =
     Rises faults faults'
     × (((left : Option (List ℕ)) × ProcessedSome job bytes left before after) ⊎ Fails job.name before after)
 
--- All lines of the file with those bytes were processed, or it was cut off (`ProcessedCutOff`). For `None` it is true.
+-- All lines of the file with those bytes were processed, or it was cut off (`ProcessedCutOff`). True for unknown bytes.
 abbrev pub ProcessedFile : Job → Option (List ℕ) → ℕ → ℕ → State → State → Type 0
 ProcessedFile job bytes faults faults' before after =
     IfSome bytes (ProcessedAll job before after) ⊎ ProcessedCutOff job bytes faults faults' before after
@@ -245,14 +245,14 @@ AreProcessed is_action is_reason settings bytes_of before after (name ∷ names)
 
 -- ---- Laws of the processing of an input
 
--- After a given tally, lines have one output, one action each, and one text of reports.
+-- After a given tally, lines have at most one output, one list of actions, and one text of reports.
 abbrev pub OneAnswer : Job → Type 0
 OneAnswer job =
     (t : Tally) (lines : List Line) (actions others : List Action) (text other reports more : List ℕ)
     → AreAnswered job t lines actions text reports → AreAnswered job t lines others other more
     → (actions ≡ others) × (text ≡ other) × (reports ≡ more)
 
--- From given contents of the writer and the log and a given tally, an input has one output, one log and one tally.
+-- After given contents of the writer and the log and a given tally, an input has at most one output, log and tally.
 abbrev pub OneResult : Job → Type 0
 OneResult job =
     (bytes out log : List ℕ) (tally : Tally) (after other : State)

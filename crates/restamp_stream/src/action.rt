@@ -5,7 +5,7 @@ ghost use Rattle.restamp_stream.specs.Reports.{action_of, tail_action_of, HasFro
 
 use crate::settings::Output;
 
-/// The action of a line: none if it has no place for a time; or it is rewritten, dropped or rejected.
+/// The action of a line: none (`Without`) if it has no place for a time, or it is rewritten, dropped or rejected.
 #[derive(Drop)]
 pub enum LineAction<R> {
     /// It has no place for a time. Only `Output::AllLines` writes it, unchanged.
@@ -18,7 +18,7 @@ pub enum LineAction<R> {
     Refused(R),
 }
 
-/// What the next bytes are: the start of a line, or bytes after a line's processed front, to be copied or dropped.
+/// What the next bytes are: a line's start, or bytes after its front (first `LIMIT` bytes), to be copied or dropped.
 #[derive(Clone, Copy)]
 pub enum TailAction {
     /// The last processed line has ended, or there was none: the next bytes start a line.

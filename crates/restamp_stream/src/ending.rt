@@ -5,8 +5,8 @@ ghost use Rattle.restamp_stream.specs.Causes.{HasFailed};
 use crate::tally::Tally;
 use byte_streams::Unwritten;
 
-/// The exit status of a program: 2 if the work stopped, `tally.unread` isn't 0, or a line was rejected and `strict` is
-/// set. Otherwise 0 if a time was rewritten, and 1 if none was.
+/// The exit status of a program: 2 if `stop` isn't `None`, `tally.unread` isn't 0, or a line was rejected and `strict`
+/// is set. Otherwise 0 if a time was rewritten, and 1 if none was.
 pub fn status(tally: &Tally, stop: Option<Stop>, strict: bool) -> u8
     ensures failed { HasFailed tally.now stop strict → result ≡ 2 }
     ensures some { ¬ HasFailed tally.now stop strict → 0 < tally.now.rewritten → result ≡ 0 }
@@ -18,7 +18,7 @@ pub fn status(tally: &Tally, stop: Option<Stop>, strict: bool) -> u8
     if tally.rewritten > 0 { 0 } else { 1 }
 }
 
-/// Why the work stopped before it was done.
+/// Why the work stopped early: a read or write failed, the input didn't end, or a line was rejected with `strict` set.
 #[derive(Clone, Copy, Debug, PartialEq, Eq)]
 pub enum Stop {
     /// A read failed, or the input didn't end within 18446744073709551615 reads.

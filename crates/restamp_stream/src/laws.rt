@@ -12,7 +12,7 @@ use crate::settings::Settings;
 use crate::stream::Stream;
 use byte_streams::Sink;
 
-/// From given output, log and counts on, an input has at most one output, log, tally and list of its lines' actions.
+/// Given output, log and tally before it, an input has at most one output, log, tally and list of its lines' actions.
 pub fn law_one_result<T: Rewriting>(rewriting: &T, name: &[u8], settings: Settings<'_>)
     ensures lines { OneAnswer (job_of (T.is_action rewriting.now) (T.is_reason rewriting.now) name.now settings.entry) }
     ensures input { OneResult (job_of (T.is_action rewriting.now) (T.is_reason rewriting.now) name.now settings.entry) }
@@ -25,8 +25,8 @@ pub fn law_kept<T: Rewriting>(rewriting: &T, name: &[u8], settings: Settings<'_>
     ensures input { KeptBytes (job_of (T.is_action rewriting.now) (T.is_reason rewriting.now) name.now settings.entry) }
 {}
 
-/// Processes files as [`Stream::serve_files`] does. The work stops early only after a failed write, or at a rejected
-/// line. If it doesn't, and no file fails to open or is cut off, all lines are processed, and their output is written.
+/// Processes files as [`Stream::serve_files`] does, which stops early only after a failed write or at a rejected line.
+/// After `Ok`, if no file failed to open or was cut off, all lines are processed, and their output is written.
 pub fn law_done<T: Rewriting, O: Opening, W: Sink, L: Sink>(
     stream: &mut Stream<W, L>,
     rewriting: &T,

@@ -34,10 +34,10 @@ pub trait Rewriting {
         ensures reported { OnOk result (WritesReason (is_reason self.now front.now) (L.contents log.old) (L.contents log.new)) }
         ensures cause { HasCause result (L.faults log.old) (L.faults log.new) };
 
-    // A front has one action.
+    // A front has at most one action.
     ghost one_action: { (x : Self) (front : List ℕ) (a b : Action) → is_action x front a → is_action x front b → a ≡ b };
 
-    // A front is rejected at one column and for one reason.
+    // A front is rejected at no more than one column and for no more than one reason.
     ghost one_reason: { (x : Self) (front : List ℕ) (column other : ℕ) (reason why : List ℕ)
         → is_reason x front column reason → is_reason x front other why → (column ≡ other) × (reason ≡ why) };
 }

@@ -69,7 +69,7 @@ impl<W: Sink, L: Sink> Stream<W, L> {
         Ok(left)
     }
 
-    // Processes what it can of the block: lines up to their LF, or a front of `LIMIT` bytes. Keeps only the bytes left.
+    // Processes what it can of the block: a line's rest, whole lines, and a front of `LIMIT` bytes. Keeps what is left.
     fn answer_block<T: Rewriting>(
         &mut self,
         file: &File<'_, T>,
@@ -178,9 +178,9 @@ impl<W: Sink, L: Sink> Stream<W, L> {
     /// Drops the bytes that were in `block` or in the buffer of `out` before the call.
     /// A line is processed by its first [`LIMIT`] bytes. Its later bytes are copied if it is written, or else dropped.
     ///
-    /// After [`Stop::Unread`] all that was read and could be processed is processed and written. After
-    /// [`Stop::Refused`] all lines before the first rejected one are. After [`Stop::Unwritten`] it is unknown how much
-    /// was written. An interrupted read is tried again. Reports start with `name`, and number the file's lines from 1.
+    /// After [`Stop::Unread`] all bytes read are processed and written, except fewer than [`LIMIT`] last ones with no
+    /// LF. After [`Stop::Refused`] all lines before the first rejected one are. After [`Stop::Unwritten`] it is unknown
+    /// how much was written. An interrupted read is tried again. Reports start with `name`, and number lines from 1.
     pub fn serve<T: Rewriting, R: Source>(
         &mut self,
         rewriting: &T,

@@ -17,7 +17,7 @@ pub enum Output {
     Times,
 }
 
-/// Which rejected lines the log names.
+/// Which rejected lines the log reports: none, or the first ones of each file.
 #[derive(Clone, Copy)]
 pub enum Reports {
     /// None. The log doesn't report how many there were, either.
@@ -27,7 +27,7 @@ pub enum Reports {
 }
 
 impl Reports {
-    /// Whether the log names the line counted last: only for `First(n)`, if it is `Refused` and `refused_here` <= n.
+    /// Whether the log names the line counted last: for `First(n)`, if `action` is `Refused` and `refused_here` <= n.
     pub fn names<R>(self, tally: &Tally, action: &LineAction<R>) -> bool
         ensures names { (text : Items) → result ≡ is_named self tally.now (action_of action.now text) }
         ensures refused { (text : Items) → IsTrue result → action_of action.now text ≡ Refused }
@@ -38,7 +38,7 @@ impl Reports {
         }
     }
 
-    /// How many rejected lines of the current file the log doesn't name; 0 for `Quiet`, as it reports no number.
+    /// How many rejected lines of the current file the log doesn't name; 0 for `Quiet`, which doesn't report how many.
     pub fn unnamed(self, tally: &Tally) -> u64
         ensures { result ≡ unnamed self tally.now }
     {

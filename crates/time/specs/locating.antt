@@ -1,3 +1,4 @@
+pub use Rattle.time_locating.specs.Completeness
 pub use Rattle.time_locating.specs.Iso8601
 pub use Rattle.time_locating.specs.IsoMarks
 pub use Rattle.time_locating.specs.Laws

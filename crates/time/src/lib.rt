@@ -129,7 +129,9 @@ pub mod preparing {
 
 /// The byte index at which a rejected text fails, and what was expected there.
 pub mod locating {
-    pub use time_locating::{Expected, Locate, Located, locate_error};
+    pub use time_locating::{
+        Expected, Locate, Located, has_day, has_full_date, has_hour, has_iso_day, locate_error,
+    };
 }
 
 /// Moments in named time zones, and the suffixes of times that name one.

@@ -1,3 +1,4 @@
+pub mod Completeness
 pub mod Iso8601
 pub mod IsoMarks
 pub mod IsoNumbers

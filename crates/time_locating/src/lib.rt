@@ -1,6 +1,7 @@
 //! Locates the error in a text that a format rejects: its index, and what was expected there.
 #![tactic(auto)]
 
+mod completeness;
 mod description;
 mod iso8601;
 pub mod laws;
@@ -12,5 +13,6 @@ mod rfc3339;
 mod rfc3339_strict;
 mod walk;
 
+pub use completeness::{has_day, has_full_date, has_hour, has_iso_day};
 pub use locate::{Locate, locate_error};
 pub use located::{Expected, Located};

@@ -40,8 +40,8 @@ fn put_block<const N: usize>(array: &mut [u8; CAPACITY], at: usize, block: [u8; 
     array[at..at + N].copy_from_slice(&block);
 }
 
-// Writes the first `count` bytes at index `at`. A few bytes are written as a whole block, since that needs no call, and
-// the next write overwrites the extra bytes.
+// Writes the first `count` bytes at index `at`. Up to 32 are written as a block of 32 if `bytes` has 32 or more, since
+// that needs no call, and the next write overwrites the extra bytes.
 #[inline(always)]
 fn put_first(array: &mut [u8; CAPACITY], at: usize, bytes: &[u8], count: usize)
     requires within { count ≤ length bytes.now }

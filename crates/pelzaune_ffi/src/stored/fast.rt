@@ -95,8 +95,8 @@ fn only_byte<'a>(byte: u8, behind: &[StoredStep], input: &'a [u8]) -> Option<&'a
     }
 }
 
-// Stores a parsed number in the record, and is the rest of the input in `Some`. If none was parsed or it is out of
-// range, the calling function returns `None`, and the record is unchanged.
+// Stores a parsed number in the record, and evaluates to `Some` with the unread input. If no number was parsed or it is
+// out of range, returns `None` from the calling function, and the record is unchanged.
 macro_rules! put {
     ($found:expr, $parsed:ident.$set:ident) => {{
         let found = $found?;

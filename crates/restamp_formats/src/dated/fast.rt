@@ -54,8 +54,8 @@ fn only_moment(clocks: &Clocks<'_>, shown: OffsetDateTime) -> Option<OffsetDateT
     assume_zone(clock_of(shown), &clocks.zone).ok()
 }
 
-// Parses a text as a local time in that zone. `None`: unknown, not rejected, as for a text with an offset or a second
-// of 60, or an ambiguous time. Not inlined, so that lines that need no zone need no stack for it.
+// Parses a text as a local time in that zone. `None` means unknown, not rejected: as for a text with an offset or a
+// second of 60, or an ambiguous time. Not inlined, so that lines that need no zone need no stack for it.
 #[inline(never)]
 fn read_on(
     clocks: Clocks<'_>,

@@ -21,7 +21,7 @@ fn is_alphanumeric(byte: u8) -> bool
     is_digit(byte) | ((b'A' <= byte) & (byte <= b'Z')) | ((b'a' <= byte) & (byte <= b'z'))
 }
 
-// Whether a text may start at index `place`, not 0: its byte is in `firsts`, and doesn't continue a word or a number.
+// Whether a timestamp may start at index `place`, not 0: its byte is in `firsts` and continues no word or number.
 #[inline(always)]
 fn may_begin(firsts: Firsts, line: &[u8], place: usize) -> bool
     requires some { 0 < place }
@@ -31,7 +31,7 @@ fn may_begin(firsts: Firsts, line: &[u8], place: usize) -> bool
     !(is_alphanumeric(line[place - 1]) & is_alphanumeric(line[place])) & is_in(firsts, line[place])
 }
 
-// How many of the sixteen bytes from `from` on come before the first at which a text may start; 16 if there is none.
+// How many of the 16 bytes from `from` on come before the first at which a timestamp may start; 16 if there is none.
 #[inline(always)]
 fn first_within(firsts: Firsts, line: &[u8], from: usize) -> u8
     requires some { 0 < from }
@@ -51,7 +51,7 @@ fn first_within(firsts: Firsts, line: &[u8], from: usize) -> u8
     first
 }
 
-// The first index from `from` to before `to` at which a text may start; `to` if there is none.
+// The first index from `from` to before `to` at which a timestamp may start; `to` if there is none.
 #[inline(always)]
 fn find_within(firsts: Firsts, line: &[u8], from: usize, to: usize) -> usize
     requires some { 0 < from }

@@ -13,7 +13,7 @@ pub(crate) struct Passed {
     pub(crate) left: usize,
 }
 
-// How many words end with one of the `block` bytes from `start`, each before a space or TAB. The line has more bytes.
+// How many words end with one of the `block` bytes from `start`, each before a space or TAB. The line must have more.
 #[inline(always)]
 fn ends_within(line: &[u8], start: usize, block: usize) -> u8
     requires few { block ≤ 16 }

@@ -19,7 +19,7 @@ use time_values::{Month, Weekday};
 
 // Parsers that try the fast path in `fast` before the plain parser in `numbers`.
 
-// Parses a year: a sign and four to `MOST` digits, or four if the sign is optional, with padding; negative after `-`.
+// Parses a year with padding, negative after `-`: a sign and four to `MOST` digits, or four if no sign is required.
 #[inline(always)]
 fn full_year<const MOST: u8>(
     input: &[u8],
@@ -36,7 +36,7 @@ fn full_year<const MOST: u8>(
     }
 }
 
-// Parses an offset's hours: an optional or mandatory sign, and two digits with the padding. The bool is true for `-`.
+// Parses an offset's hours, negative after `-`: two padded digits after a sign, if any. The bool is true for `-`.
 #[inline(always)]
 fn offset_hour(
     input: &[u8],

@@ -40,7 +40,7 @@ impl Date {
     }
 }
 
-// The date and time in UTC `nanos` nanoseconds after 1970-01-01T00:00:00Z, or `None` outside the years ±999999.
+// The date and time in UTC `nanos` nanoseconds after 1970-01-01T00:00:00Z, or `None` if the year is beyond ±999999.
 fn checked(nanos: i128) -> Option<UtcDateTime>
     ensures value { IfSome result (λ u. utc_instant greatest_year u ≡ nanos) }
     ensures none { IfNone result (¬ (IsInstant greatest_year nanos)) }
@@ -51,7 +51,7 @@ fn checked(nanos: i128) -> Option<UtcDateTime>
     Some(UtcDateTime::at_instant(nanos))
 }
 
-// The date and time in UTC `nanos` nanoseconds after 1970-01-01T00:00:00Z, or the nearest in the years ±999999.
+// The date and time in UTC `nanos` nanoseconds after 1970-01-01T00:00:00Z, or the nearest with a year within ±999999.
 #[tactic(auto, using(crate::proofs::InstantLemmas::instant_facts))]
 fn nearest(nanos: i128) -> UtcDateTime
     ensures { utc_instant greatest_year result ≡ nearest_instant greatest_year nanos }
@@ -160,7 +160,7 @@ impl PlainDateTime {
 }
 
 impl OffsetDateTime {
-    /// The moment `duration` later (earlier if negative) at this offset. `None` if its local year is outside ±999999.
+    /// The moment `duration` later (earlier if negative) at this offset. `None` if its local year is beyond ±999999.
     pub fn checked_add(self, duration: Duration) -> Option<OffsetDateTime>
         ensures value { IfSome result (λ v.
             offset_clock greatest_year v ≡ offset_clock greatest_year self +ℤ length duration) }
@@ -172,7 +172,7 @@ impl OffsetDateTime {
         Some(OffsetDateTime::new_in_offset(clock.date(), clock.time(), self.offset()))
     }
 
-    /// The moment `duration` earlier (later if negative) at this offset. `None` if its local year is outside ±999999.
+    /// The moment `duration` earlier (later if negative) at this offset. `None` if its local year is beyond ±999999.
     pub fn checked_sub(self, duration: Duration) -> Option<OffsetDateTime>
         ensures value { IfSome result (λ v.
             offset_clock greatest_year v ≡ offset_clock greatest_year self -ℤ length duration) }
@@ -184,7 +184,7 @@ impl OffsetDateTime {
         Some(OffsetDateTime::new_in_offset(clock.date(), clock.time(), self.offset()))
     }
 
-    /// The moment `duration` later (earlier if negative) at this offset, or the nearest one in the local years ±999999.
+    /// The moment `duration` later (earlier if negative) at this offset, or the nearest in local years up to ±999999.
     pub fn saturating_add(self, duration: Duration) -> OffsetDateTime
         ensures value { offset_clock greatest_year result
             ≡ nearest_instant greatest_year (offset_clock greatest_year self +ℤ length duration) }
@@ -194,7 +194,7 @@ impl OffsetDateTime {
         OffsetDateTime::new_in_offset(clock.date(), clock.time(), self.offset())
     }
 
-    /// The moment `duration` earlier (later if negative) at this offset, or the nearest one in the local years ±999999.
+    /// The moment `duration` earlier (later if negative) at this offset, or the nearest in local years up to ±999999.
     pub fn saturating_sub(self, duration: Duration) -> OffsetDateTime
         ensures value { offset_clock greatest_year result
             ≡ nearest_instant greatest_year (offset_clock greatest_year self -ℤ length duration) }
@@ -238,7 +238,7 @@ impl Sub<OffsetDateTime> for OffsetDateTime {
     }
 }
 
-// Converts a local date and time from offset `from` to `to`, as a `UtcDateTime`. `None` outside the years ±999999.
+// The local time at offset `to` of a date and time at `from`, as a `UtcDateTime`. `None` if its year is beyond ±999999.
 pub(crate) fn clock_with(
     date: Date,
     time: Time,

@@ -17,9 +17,9 @@ static PAIRS: [u16; 100] = [
     0x3639, 0x3739, 0x3839, 0x3939,
 ];
 
-/// The two ASCII digits of a number below 100, with a leading zero below 10.
-//
 // They are loaded as one number, so that one instruction stores them.
+//
+/// The two ASCII digits of a number below 100, with a leading zero below 10.
 #[inline(always)]
 #[tactic(auto, using(crate::proofs::NumberLemmas::pairs_at), unfolding(crate::specs::DisplayTexts::fixed))]
 pub fn pair(n: u8) -> [u8; 2]

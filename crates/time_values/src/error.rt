@@ -222,7 +222,7 @@ impl TryFrom<Parse> for ParseFromDescription {
     }
 }
 
-/// Any error of constructing dates, times, offsets or moments, or of parsing them.
+/// Any error of constructing dates, months, times, offsets or moments, or of parsing them.
 #[derive(Debug, Drop, thiserror::Error)]
 pub enum Error {
     /// A component is out of its range.

@@ -5,7 +5,7 @@ ghost use Rattle.time_values.specs.DisplayTexts.{Items};
 use std::marker::Model;
 use std::{fmt, str};
 
-/// A text of at most 35 bytes, the length of an RFC 3339 date-time with nine fraction digits and a numeric offset.
+/// A text of at most 35 bytes; the longest written is an RFC 3339 date-time with nine fraction digits and an offset.
 #[derive(Drop)]
 pub struct Text {
     array: [u8; 35],
@@ -59,7 +59,7 @@ impl Text {
         self.len = end;
     }
 
-    /// Appends the first `count` of the ten bytes, at most 10. The text must have at most 25 bytes before.
+    /// Appends the first `count` of the ten bytes. `count` must be at most 10, and the text at most 25 bytes before.
     #[inline(always)]
     pub fn append_some(&mut self, bytes: [u8; 10], count: usize)
         requires room { length self.old.items ≤ 25 }

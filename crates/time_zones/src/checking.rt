@@ -66,7 +66,7 @@ fn check_zone(moment: OffsetDateTime, zone: &TimeZone<'_>) -> Result<(), SuffixF
     }
 }
 
-// Checks that `zones` has a zone that is named, and, if `has_local_offset`, that the moment's offset is the zone's.
+// Checks that `zones` has the zone, if it is named, and, if `has_local_offset`, that the moment's offset is the zone's.
 fn check_zone_text(
     zone: ZoneText<'_>,
     moment: OffsetDateTime,

@@ -4,7 +4,7 @@ use jiff_core::error::TzifFault;
 use std::alloc::AllocError;
 use std::{fmt, io};
 
-/// Why a zone wasn't found: a fault in its name, in an environment variable or in its file, or memory ran out.
+/// Why a zone wasn't found: a fault in its name, an environment variable, its file or the folder, or memory ran out.
 #[derive(Debug, Drop, PartialEq, Eq)]
 pub enum ZoneFault {
     /// A part of the name, or of the name in `TZ`, is empty, `.` or `..`. Slashes separate the parts.

@@ -77,7 +77,7 @@ fn fault_from(error: Error, path: String) -> ZoneFault
     }
 }
 
-// Sets the zone of that name if it is found in the folder; else the map is unchanged. Only `OutOfMemory` is an error.
+// Sets the zone of that name if `find_at` finds it; else the map is unchanged. Only `OutOfMemory` is an error.
 fn add<F: ZoneFiles>(
     alloc: Global,
     files: &F,

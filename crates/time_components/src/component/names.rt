@@ -139,7 +139,7 @@ fn is_named(text: &[u8], name: &[u8], case_sensitive: bool) -> bool
     }
 }
 
-// Parses one digit, `0` to `6`, or `1` to `7` with `one_indexed`, and returns 0 to 6. Returns `None` for another byte.
+// Parses one digit, `0` to `6`, or `1` to `7` with `one_indexed`, and returns 0 to 6. `None` for any other input.
 #[inline]
 pub(super) fn weekday_digit(input: &[u8], one_indexed: bool) -> Option<ParsedItem<'_, u8>>
     ensures { Finds (IsDayDigit one_indexed) (λ v. v) input.now result }

@@ -111,7 +111,7 @@ fn sign_and_run<const N: u8, const M: u8, const A: u8, const B: u8, T: Integer>(
     }
 }
 
-// Parses a year: a sign and four to `MOST` digits, or four if the sign is optional, with padding; negative after `-`.
+// Parses a year with padding, negative after `-`: a sign and four to `MOST` digits, or four if no sign is required.
 #[cold]
 #[inline(never)]
 pub(super) fn full_year<const MOST: u8>(
@@ -127,8 +127,8 @@ pub(super) fn full_year<const MOST: u8>(
     Some(ParsedItem(found.0, signed_year(found.1.0, found.1.1)))
 }
 
-// Parses a century (a year without its last two digits), negative after `-`: a sign and two to `MOST` digits with the
-// padding, or, if the sign is optional, one or two whatever the padding. The bool is whether the sign is `-`.
+// Parses a century, negative after `-`: a sign and two to `MOST` digits with the padding, or, if no sign is there or
+// required, one or two digits whatever the padding. The bool is whether the sign is `-`, also for the number 0.
 #[inline]
 pub(super) fn century<const MOST: u8>(
     input: &[u8],

@@ -115,7 +115,7 @@ fn two_digits(tens: u8, ones: u8) -> Option<u8>
     Some((tens - b'0') * 10 + (ones - b'0'))
 }
 
-// The seconds since midnight of the text `hh:mm`, from 00:00 to 23:59. `None` for any other text.
+// The seconds of the text `hh:mm`, 3600 per hour and 60 per minute, up to 23:59. `None` for any other text.
 fn seconds_of(text: &[u8]) -> Option<u32>
     ensures some { IfSome result (IsHourMinute text.now) }
     ensures bound { IfSome result (λ n. n < 86_400) }

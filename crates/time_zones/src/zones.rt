@@ -117,8 +117,8 @@ pub fn find_zones_in<F: ZoneFiles>(
 }
 
 /// `UTC`, and all zones of the folder that `TZDIR` names, or of /usr/share/zoneinfo if it is unset or empty, by their
-/// paths below it, such as `Europe/Berlin`. Skips the folders `posix` and `right` directly in it, files and folders
-/// below it that can't be read, and files that aren't zone files or exceed 1 MiB. Of paths that differ only in ASCII
+/// paths below it, such as `Europe/Berlin`. Skips the folders `posix` and `right` directly in it, symbolic links to
+/// folders, what can't be read, and files that aren't zone files or exceed 1 MiB. Of paths that differ only in ASCII
 /// case, the map has one. An error if the folder is missing or can't be read, `TZDIR` isn't UTF-8, or memory runs out.
 pub fn find_zones<R: Env + Files + AllocGlobal + Clone + Drop>(rt: &R) -> Result<Zones, ZoneFault>
     ensures utc { IfOk result (λ zones. zone_named zones (codes "UTC") ≡ Some Named.Utc) }

@@ -242,7 +242,7 @@ static int has_instructions(void)
 PyMODINIT_FUNC PyInit__pelzaune(void)
 {
     if (!has_instructions()) {
-        PyErr_SetString(PyExc_ImportError, "pelzaune requires a processor with x86-64-v2, as those from 2009 on have");
+        PyErr_SetString(PyExc_ImportError, "pelzaune requires an x86-64-v2 processor");
         return NULL;
     }
     PyDateTime_IMPORT;

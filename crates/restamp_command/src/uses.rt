@@ -7,7 +7,7 @@ use crate::fault::Fault;
 use crate::options::Options;
 use restamp_formats::{Part, Reading};
 
-// Whether a default for that part can have an effect: a format uses the default, and may parse a text without the part.
+// Whether a format uses a default for that part and some text may omit it; if false, the default has no effect.
 fn one_can_default(first: &Reading, others: &[Reading], part: Part) -> bool
     ensures { result ≡ spec.one_can_default part first.now others.now }
 {

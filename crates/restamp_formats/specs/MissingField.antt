@@ -155,8 +155,8 @@ format_missing_field has_year (Reading.Complete d) = missing_field_of has_year (
 format_missing_field has_year (Reading.Counted d) = missing_field_of has_year (steps_shape d)
 format_missing_field has_year format = None
 
--- Whether a default for that part can have an effect: the format uses it, and some text may omit the part. RFC 3339,
--- RFC 9557, RFC 2822 and `Complete` use no defaults, and a date of ISO 8601 has its year.
+-- Whether the format uses a default for that part and some text may omit it; if false, the default has no effect.
+-- RFC 3339, RFC 9557, RFC 2822 and `Complete` use no defaults, and a date of ISO 8601 has its year.
 abbrev pub can_default : Part → Reading → Bool
 can_default Part.Offset Reading.Iso8601 = true
 can_default p (Reading.Described d) = not (always p (steps_shape d))

@@ -297,8 +297,8 @@ impl Reading {
         }
     }
 
-    /// Whether a default for that part can have an effect: the format uses defaults, and some text may omit the part.
-    /// False for RFC 3339, RFC 9557, RFC 2822 and `Complete`, and for the year of ISO 8601.
+    /// Whether the format uses defaults and some text may omit that part; if false, a default for it has no effect.
+    /// False for RFC 3339, RFC 9557, RFC 2822 and `Complete`, and for the year of ISO 8601, as its dates have one.
     pub fn can_default(&self, part: Part) -> bool
         ensures { result ≡ spec.can_default part self.now }
     {

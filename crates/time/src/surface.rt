@@ -1,5 +1,5 @@
-//! Each exported item by its path here and by that of its own crate. Where a path is missing, or leads to another item,
-//! this doesn't compile. A module that is exported whole is named by one of its items.
+//! Items by their path here and by that of their own crate. Where such a path is missing or leads to another item, this
+//! doesn't compile. Some items are left out: a module such as `modifier` is named by some of its items only.
 use crate as here;
 
 // Compiles only if the types of values that this crate exports are those of `time_values`.
@@ -76,7 +76,7 @@ fn owned_error(its: here::error::OwnedError<'_>) -> time_descriptions::OwnedErro
     its
 }
 
-// Compiles only if the types of the parts of descriptions that this crate exports are those of `time_components`.
+// Compiles only if these types of parts of descriptions here are those of `time_components`; of modifiers only `Day`.
 fn parts<'a>(
     its: (
         here::format_description::BorrowedFormatItem<'a>,

@@ -17,7 +17,7 @@ use numbers::{century, fraction, long_fraction, offset_part, timestamp, two_digi
 use std::num::NonZero;
 use time_values::{Month, Weekday};
 
-// Parsers that try the fast path in `fast` before the plain parser in `numbers`.
+// The two parsers that follow try the fast path in `fast` before the plain parser in `numbers`.
 
 // Parses a year with padding, negative after `-`: a sign and four to `MOST` digits, or four if no sign is required.
 #[inline(always)]

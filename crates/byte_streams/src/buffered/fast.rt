@@ -41,7 +41,7 @@ fn put_block<const N: usize>(array: &mut [u8; CAPACITY], at: usize, block: [u8; 
 }
 
 // Writes the first `count` bytes at index `at`. Up to 32 are written as a block of 32 if `bytes` has 32 or more, since
-// that needs no call, and the next write overwrites the extra bytes.
+// that needs no call. The extra bytes don't count: the next write begins at the first of them.
 #[inline(always)]
 fn put_first(array: &mut [u8; CAPACITY], at: usize, bytes: &[u8], count: usize)
     requires within { count ≤ length bytes.now }

@@ -141,8 +141,8 @@ fn past_second(input: &[u8]) -> Option<&[u8]>
     }
 }
 
-// The rest after a zone name, and `false`; or else the rest after a sign and two digits (`None` if fewer than three
-// bytes are left), and `true`.
+// The rest after a zone name, and `false`; or else after the three bytes of a sign and an hour, which aren't checked
+// (`None` if fewer are left), and `true`.
 fn past_offset_hour(input: &[u8]) -> (Option<&[u8]>, bool)
     ensures { (n m : Numbers) (rest : List ℕ) → Cut (PlaceSyntax true place.OffsetHour n) input.now rest m
         → (option_copied result.0 ≡ Some rest) × (result.1 ≡ is_some m.offset_sign) }

@@ -95,8 +95,8 @@ fn index_of(place: Place, input: &[u8]) -> usize
     (TO_SECOND + fraction).saturating_add(past_fraction)
 }
 
-// The rest after an offset's `Z`, in either case, or else after its sign and two digits (`None` if fewer than three
-// bytes are left). The `bool` is true after `Z`, and else `is_utc`.
+// The rest after an offset's `Z`, in either case, or else after the three bytes of its sign and hour, which aren't
+// checked (`None` if fewer are left). The `bool` is true after `Z`, and else `is_utc`.
 fn past_offset_hour(input: &[u8], is_utc: bool) -> (Option<&[u8]>, bool)
     ensures { (n m : Numbers) (rest : List ℕ) → n.is_utc ≡ is_utc → Cut (PlaceSyntax true place.OffsetHour n) input.now rest m
         → (option_copied result.0 ≡ Some rest) × (m.is_utc ≡ result.1) }

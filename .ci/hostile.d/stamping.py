@@ -13,7 +13,7 @@ SPACES = b" \t\n\x0c\r"
 YEAR_PARTS = [f"{kind}{part}" for kind in ("", "iso_") for part in ("year", "century", "last_two")]
 NO_PLACE = "the line has no place for a time"
 TWO_WAYS = "a fraction after a minus is read in two ways"
-TOO_FAR = f"the time goes on past byte {LIMIT} of its line"
+TOO_FAR = f"the time extends past byte {LIMIT} of its line"
 
 
 class Reading:

@@ -44,7 +44,7 @@ fn names_of<'m>(
     Ok(names)
 }
 
-// Prints on standard error the error of an option. Returns the exit status, 2.
+// Prints on standard error the error of an option, or that memory is short. Returns the exit status, 2.
 fn report(rt: &HostRuntime, fault: Fault<'_>) -> io::Result<u8> {
     match fault.place() {
         Some((option, value)) => {

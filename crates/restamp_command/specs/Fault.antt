@@ -27,7 +27,7 @@ erased_time_error none.NoClock = no_clock
 abbrev pub none_text : TimeArgError → List ℕ
 none_text (unread reason) = reason_text reason
 none_text out_of_range = codes "it is before the year -999999 or after 999999"
-none_text no_clock = codes "the clock shows no time from 1970 to 999999"
+none_text no_clock = codes "the system clock is before 1970 or after 999999"
 
 -- the errors of options, each but `memory` with the rejected value, and some with why
 pub data Fault : Type 0 where
@@ -122,13 +122,13 @@ why_text (incomplete_format value missing_field) = Some (missing_field_text miss
 why_text (to value why) = naming.fault_text why
 why_text (unnamed value) = Some (codes "it needs --utc, or a --zone name or offset below 24:00")
 why_text (year value) = Some (codes "it is not a year from -999999 to 999999")
-why_text (offset value) = Some (codes "it is no offset such as +05:30")
+why_text (offset value) = Some (codes "it is not an offset such as +05:30")
 why_text (local value why) = fault_text why
 why_text (fold value) = Some (codes "it is not earlier, later or refuse")
-why_text (unused_year value) = Some (codes "each format reads a year")
-why_text (unused_latest value) = Some (codes "each format reads a year")
-why_text (unused_offset value) = Some (codes "each format reads an offset")
-why_text (unused_local value) = Some (codes "each format reads an offset")
+why_text (unused_year value) = Some (codes "no format needs it")
+why_text (unused_latest value) = Some (codes "no format needs it")
+why_text (unused_offset value) = Some (codes "no format needs it")
+why_text (unused_local value) = Some (codes "no format needs it")
 why_text (zone value why) = fault_text why
 why_text (digits value) = Some (codes "it is not 0 to 9 or auto")
 why_text (errors value) = Some (codes "it is not a number from 0 to 18446744073709551615")

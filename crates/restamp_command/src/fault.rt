@@ -26,7 +26,7 @@ impl fmt::Display for TimeArgError {
         match self {
             TimeArgError::Unread(reason) => write!(f, "{reason}"),
             TimeArgError::OutOfRange => write!(f, "it is before the year -999999 or after 999999"),
-            TimeArgError::NoClock => write!(f, "the clock shows no time from 1970 to 999999"),
+            TimeArgError::NoClock => write!(f, "the system clock is before 1970 or after 999999"),
         }
     }
 }
@@ -133,10 +133,10 @@ impl fmt::Display for Fault<'_> {
                 write!(f, "it needs --utc, or a --zone name or offset below 24:00")
             }
             Fault::Year(_) => write!(f, "it is not a year from -999999 to 999999"),
-            Fault::Offset(_) => write!(f, "it is no offset such as +05:30"),
+            Fault::Offset(_) => write!(f, "it is not an offset such as +05:30"),
             Fault::Fold(_) => write!(f, "it is not earlier, later or refuse"),
-            Fault::UnusedYear(_) | Fault::UnusedLatest(_) => write!(f, "each format reads a year"),
-            Fault::UnusedOffset(_) | Fault::UnusedIn(_) => write!(f, "each format reads an offset"),
+            Fault::UnusedYear(_) | Fault::UnusedLatest(_) => write!(f, "no format needs it"),
+            Fault::UnusedOffset(_) | Fault::UnusedIn(_) => write!(f, "no format needs it"),
             Fault::Digits(_) => write!(f, "it is not 0 to 9 or auto"),
             Fault::Errors(_) => write!(f, "it is not a number from 0 to 18446744073709551615"),
             Fault::Latest(_, why) => write!(f, "{why}"),

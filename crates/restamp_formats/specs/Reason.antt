@@ -64,7 +64,7 @@ text_with zone outside_zone_range = codes "the time is outside the range of time
 text_with zone (suffix fault) = suffix_fault_text fault
 text_with zone (unwritable why) = unwritable_text why
 text_with zone (unformattable why) = unformattable_text why
-text_with zone too_far = codes "the time goes on past byte 262144 of its line"
+text_with zone too_far = codes "the time extends past byte 262144 of its line"
 text_with zone missing = codes "the line has no place for a time"
 
 -- the words in place of the name of a zone

@@ -137,7 +137,7 @@ impl fmt::Display for ReasonDisplay<'_> {
             Reason::Suffix(fault) => write!(f, "{fault}"),
             Reason::Unwritable(why) => write!(f, "{why}"),
             Reason::Unformattable(why) => write!(f, "{why}"),
-            Reason::TooFar => write!(f, "the time goes on past byte 262144 of its line"),
+            Reason::TooFar => write!(f, "the time extends past byte 262144 of its line"),
             Reason::Missing => write!(f, "the line has no place for a time"),
         }
     }

@@ -79,7 +79,7 @@ impl<W: Sink, L: Sink> Stream<W, L> {
         go_on(served)
     }
 
-    /// Processes all lines of the files, one after the other, with one tally. Lines are numbered from 1 in each file.
+    /// Processes the files in turn, each as [`Stream::serve`] does, with one tally. Bytes buffered before are dropped.
     ///
     /// If a file can't be opened or read to its end, that is logged, and the other files are processed: the result is
     /// never [`Stop::Unread`]. The work stops at a failed write, and at the first rejected line if `strict` is set. The

@@ -177,9 +177,9 @@ fn caret_lines(alloc: Global, bytes: &[u8], index: usize) -> Result<Vec<u8>, All
     Ok(lines)
 }
 
-/// The report of a fault: a line with `error: ` and its message. Then, unless the fault is that a description has too
-/// many steps, a line with the argument, each byte as by [`printable`], and a line with a caret below the index of the
-/// fault. Each line ends with LF. `Err` if memory runs out.
+/// The report of a fault: a line with `error: ` and its message. Then, unless a description has too many steps, two
+/// lines after two spaces each: the argument, each byte as by [`printable`], and a caret below the fault's index, 0 for
+/// an unknown name. Each line ends with LF. `Err` if memory runs out.
 pub fn report(alloc: Global, fault: Fault<'_>) -> Result<Vec<u8>, AllocError>
     ensures { IfOk result (λ lines. IsReport (reason_of fault.entry) lines.items) }
 {

@@ -19,7 +19,7 @@ abbrev pub onto_first : ℕ → List Line → List Line
 onto_first b [] = unended (b ∷ []) ∷ []
 onto_first b (line ∷ lines) = record { text = b ∷ line.text; ending = line.ending } ∷ lines
 
--- The lines of a text. Each line ends with LF, except that any bytes after the last LF are a line without LF.
+-- The lines of a text. Each line ends with LF, except the last line of a text whose last byte isn't LF.
 abbrev pub lines_of : List ℕ → List Line
 lines_of [] = []
 lines_of (b ∷ bytes) = if b == 10 then ended [] ∷ lines_of bytes else onto_first b (lines_of bytes)

@@ -232,15 +232,15 @@ HasTree tree status old new =
     ⊎ ((status ≡ fault_status too_long) × (new ≡ old)
     × (steps : List Step) × (steps_shape steps ≡ tree) × (MOST_STEPS < length steps))
 
--- `HasTree` for the tree, and the index is unchanged; or the status of the first fault, and the new index is that of
--- the fault, or unchanged if the fault has none; the description is unchanged then.
+-- `HasTree` for the tree, and the index is unchanged; or the status of the first fault, the stored description is
+-- unchanged, and the new index is that of the fault, or unchanged if the fault has none.
 abbrev pub IsDescriptionStored : Result Tree Refusal → ℕ → StoredDescription → StoredDescription → ℕ → ℕ → Type 0
 IsDescriptionStored (Ok tree) status old new index new_index = HasTree tree status old new × (new_index ≡ index)
 IsDescriptionStored (Err e) status old new index new_index =
     (status ≡ fault_status e) × (new ≡ old) × (new_index ≡ unwrap_or (index_of e) index)
 
--- The description is parsed in its syntax and stored, or its error's status and index are. An unknown syntax has the
--- status 17, and nothing is stored.
+-- The description is parsed in the syntax, and stored or rejected as by `IsDescriptionStored`. An unknown syntax has
+-- the status 17, and nothing is stored.
 abbrev pub StoresDescription : Option Syntax → List ℕ → ℕ → StoredDescription → StoredDescription → ℕ → ℕ → Type 0
 StoresDescription (Some s) text status old new index new_index =
     (described : Result Tree Refusal) × IsDescribed s text described

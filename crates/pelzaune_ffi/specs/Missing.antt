@@ -1,7 +1,7 @@
 -- What a text is missing for a value.
 use Rattle.std.specs.Prelude.{◌≡◌, ℕ, ◌+◌, ◌*◌, ◌/◌, ◌%◌, nat_eq, List, Bool, not, ◌&&◌, ◌||◌, is_some, if◌then◌else◌, Ok, Err, codes}
 use Rattle.time_record.specs.Record.{Record}
-use Rattle.time_locating.specs.Completeness.{has_day, has_iso_day, has_full_date, has_hour}
+use Rattle.time_locating.specs.Completeness.{has_day, has_iso_day, has_full_date, has_hour, skips_minute, skips_second}
 use Rattle.pelzaune_ffi.specs.Results.{Storing}
 use Rattle.pelzaune_ffi.specs.Status.{component_number, status_of}
 
@@ -32,8 +32,7 @@ missing_for_hour r =
 -- or a second before a fraction. 0 if there is no such gap.
 abbrev pub missing_below_hour : Record → ℕ
 missing_below_hour r =
-    if not (is_some r.minute) && (is_some r.second || is_some r.subsecond) then missing (codes "minute") else
-    if not (is_some r.second) && is_some r.subsecond then missing (codes "second") else 0
+    if skips_minute r then missing (codes "minute") else if skips_second r then missing (codes "second") else 0
 
 -- The status of what a record is missing for a time; 0 if nothing is.
 abbrev pub missing_for_time : Record → ℕ

@@ -18,12 +18,12 @@ use crate::status::UNKNOWN_SYNTAX;
 use crate::stored::{StoredDescription, prepare};
 use time_preparing::Prepared;
 
-// Parses a line and stores the nanoseconds from 1970-01-01T00:00:00Z to its moment.
+// Parses or rejects a line, and stores the nanoseconds from 1970-01-01T00:00:00Z to the moment of a parsed one.
 trait Count {
     // Relates a line to the status that `count_line` returns, and to the entry before and after the call.
     ghost stores: { Self → Counting };
 
-    // Stores the line's nanoseconds in `entry` and returns 0; or returns the error's status, and `entry` is unchanged.
+    // Stores the line's nanoseconds in `entry` and returns 0; or returns another status, and `entry` is unchanged.
     fn count_line(&self, line: &[u8], entry: &mut Nanoseconds) -> u32
         ensures { stores self.now line.now result entry.old entry.new };
 }
@@ -137,7 +137,7 @@ pub fn column_by(
 }
 
 // Stores in each line's entry its nanoseconds since 1970 by a description, or `i64::MIN` if it is rejected, and in
-// `refused` how many are. A malformed description rejects each line. Returns how many lines the whole text has.
+// `refused` how many lines with an entry are. A malformed description rejects each. Returns how many lines `text` has.
 fn described_column(
     syntax: Syntax,
     description: &[u8],

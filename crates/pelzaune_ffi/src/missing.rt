@@ -9,7 +9,7 @@ ghost use Rattle.pelzaune_ffi.specs.Results.{IsResultStored, StoresBy, of_record
 use crate::descriptions::{fault_status, read_description, syntax_of};
 use crate::status::{Format, UNKNOWN_FORMAT, UNKNOWN_SYNTAX, format_of, status_of};
 use crate::stored::StoredDescription;
-use time_locating::{has_day, has_full_date, has_hour, has_iso_day};
+use time_locating::{has_day, has_full_date, has_hour, has_iso_day, skips_minute, skips_second};
 use time_parsing::{Iso8601, Parsable, Rfc2822, Rfc3339, Rfc3339Strict};
 use time_record::Parsed;
 
@@ -45,10 +45,12 @@ fn missing_for_hour(parsed: &Parsed) -> u32
 fn missing_below_hour(parsed: &Parsed) -> u32
     ensures { result ≡ spec.missing_below_hour parsed.now }
 {
-    match (parsed.minute(), parsed.second(), parsed.subsecond()) {
-        (None, Some(_), _) | (None, None, Some(_)) => 4 + 256 * 9,
-        (Some(_), None, Some(_)) => 4 + 256 * 10,
-        _ => 0,
+    if skips_minute(parsed) {
+        4 + 256 * 9
+    } else if skips_second(parsed) {
+        4 + 256 * 10
+    } else {
+        0
     }
 }
 
@@ -84,7 +86,7 @@ fn missing_for_offset(parsed: &Parsed) -> u32
     }
 }
 
-// The status of what a record is missing for a date, time or offset, as the bits 1, 2 and 4 of `needs` select, or 0.
+// The status of what is missing for a date (1), time (2) or offset (4) in `needs`, or 0. A timestamp gives all or none.
 fn missing_for(needs: u32, parsed: &Parsed) -> u32
     ensures { result ≡ spec.missing_for needs parsed.now }
 {

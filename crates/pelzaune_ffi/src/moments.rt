@@ -87,8 +87,8 @@ pub fn moment_by<P: From<OffsetDateTime> + Copy>(format: u32, text: &[u8], out: 
     }
 }
 
-// Parses a text by RFC 3339, and stores the nanoseconds from 1970-01-01T00:00:00Z to its moment. Returns 0, or the
-// error's status and leaves `out` unchanged.
+// Parses a text by RFC 3339, and stores the nanoseconds from 1970-01-01T00:00:00Z to its moment. Returns 0; or the
+// error's status, `TOO_WIDE` if the nanoseconds don't fit 64 bits, and leaves `out` unchanged.
 #[inline(never)]
 fn count_3339(text: &[u8], out: &mut Nanoseconds) -> u32
     ensures { StoresCount (Some rfc3339) text.now result out.old out.new }
@@ -99,8 +99,8 @@ fn count_3339(text: &[u8], out: &mut Nanoseconds) -> u32
     }
 }
 
-// Parses a mail date of RFC 2822, and stores the nanoseconds from 1970-01-01T00:00:00Z to its moment. Returns 0, or the
-// error's status and leaves `out` unchanged.
+// Parses a mail date of RFC 2822, and stores the nanoseconds from 1970-01-01T00:00:00Z to its moment. Returns 0; or the
+// error's status, `TOO_WIDE` if the nanoseconds don't fit 64 bits, and leaves `out` unchanged.
 #[inline(never)]
 fn count_2822(text: &[u8], out: &mut Nanoseconds) -> u32
     ensures { StoresCount (Some rfc2822) text.now result out.old out.new }
@@ -111,8 +111,8 @@ fn count_2822(text: &[u8], out: &mut Nanoseconds) -> u32
     }
 }
 
-// Parses a text by ISO 8601, and stores the nanoseconds from 1970-01-01T00:00:00Z to its moment. Returns 0, or the
-// error's status and leaves `out` unchanged.
+// Parses a text by ISO 8601, and stores the nanoseconds from 1970-01-01T00:00:00Z to its moment. Returns 0; or the
+// error's status, `TOO_WIDE` if the nanoseconds don't fit 64 bits, and leaves `out` unchanged.
 #[inline(never)]
 fn count_8601(text: &[u8], out: &mut Nanoseconds) -> u32
     ensures { StoresCount (Some iso8601) text.now result out.old out.new }
@@ -123,7 +123,7 @@ fn count_8601(text: &[u8], out: &mut Nanoseconds) -> u32
     }
 }
 
-// Parses a text, and stores its nanoseconds since 1970. Returns 0, or the error's status and leaves `out` unchanged.
+// Stores a text's nanoseconds since 1970 and returns 0; or returns the error's status or `TOO_WIDE`, storing nothing.
 #[inline(never)]
 fn parsed_count<F: Parsable>(format: &F, text: &[u8], out: &mut Nanoseconds) -> u32
     ensures { IsResultStored IsCountStored

@@ -104,9 +104,9 @@ fn resolve<V: TryFrom<Parsed, Error = TryFromParsed> + Drop, P: From<V> + Copy>(
     }
 }
 
-/// Parses a text once by `format`, into its date, its time and its offset. A second of 60 rejects the time. If the
-/// whole text matches, returns 0 and stores the parts and a status for each in `out`: 0, or an error's, and then that
-/// part is unchanged. Otherwise returns the error's status and leaves `out` unchanged.
+/// Parses a text once by `format`, into its date, time and offset. A second of 60 rejects the time, and a Unix
+/// timestamp is dropped. If the whole text matches, returns 0 and stores the parts and a status for each in `out`: 0,
+/// or an error's, and then that part is unchanged. Otherwise returns the error's status and leaves `out` unchanged.
 #[inline(always)]
 pub fn parts<F: Parsable>(format: &F, text: &[u8], out: &mut Parts) -> u32
     ensures { IsResultStored ArePartsStored

@@ -127,8 +127,8 @@ fn chosen(kind: u8, choice: u8, flag: bool) -> StoredStep
     }
 }
 
-// Each of the next seven macros is for the components with certain modifiers: its rule `step` makes a component from
-// the numbers of a stored step, and its rule `stored` makes the stored step of a component.
+// Each of the next seven macros is for the components with certain modifiers: its rule `step` makes a step from the
+// numbers of a stored step, and its rule `stored` makes the stored step of a component.
 
 // Makes the step (`step`) or the stored step (`stored`) of a component with only a padding.
 macro_rules! padded {
@@ -224,7 +224,7 @@ macro_rules! ended {
 }
 
 // Calls the macro `$of_each` with the given names, and with the number of the kind, the name and the macro of each
-// component.
+// component. For `flagged`, the name of the bool's field follows in parentheses.
 macro_rules! components {
     ($of_each:ident $($given:ident)+) => {
         $of_each! { $($given)+;

@@ -110,8 +110,8 @@ fn write_moment(format: Format, parts: &MomentParts, buffer: &mut [u8], count: &
 /// Writes the text of a moment, in the format with this number, over the start of the buffer, truncated to the buffer's
 /// length. The rest of the buffer is unchanged. Stores the length of the whole text in `count`.
 ///
-/// Returns 0, or the status of the error and leaves `buffer` and `count` unchanged: 5 or 6 for a part out of range, 18
-/// for one that the format can't write, each plus 256 times its number, or [`UNKNOWN_FORMAT`] for an unknown format.
+/// Returns 0, or the status of the error and leaves `buffer` and `count` unchanged: [`UNKNOWN_FORMAT`]; or, plus 256
+/// times the component's number, 5 or 6 for a part out of range or 18 for a component that the format can't write.
 #[inline(always)]
 pub fn format_moment(format: u32, moment: &MomentParts, buffer: &mut [u8], count: &mut usize) -> u32
     ensures { StoresText (Formats.format_of format) moment.now result buffer.old buffer.new count.old count.new }

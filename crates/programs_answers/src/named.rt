@@ -17,7 +17,7 @@ use time_components::BorrowedFormatItem;
 use time_parsing::{Iso8601, Rfc2822, Rfc3339};
 use time_preparing::{Prepared, Unprepared};
 
-/// The descriptions of the formats `Ymd`, `Clock` and `Local`, prepared for many texts. Other formats need none.
+/// The descriptions of the formats `Ymd`, `Clock` and `Local`, prepared for many texts. Other formats aren't prepared.
 #[derive(Drop)]
 pub struct Named {
     ymd: Prepared<5>,

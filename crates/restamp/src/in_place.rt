@@ -62,9 +62,9 @@ fn try_to_replace<'a, L: Sink + Drop>(
     replace(request, target, &mut folder, rt.alloc(), log, block)
 }
 
-// Replaces a file, and logs why if that fails. Returns the log, the counts of the file's lines, and a stop only for a
-// rejected line at which processing stops, or a failed write to the log. Any other failure counts the file as unread,
-// and the next file may be replaced.
+// Replaces a file. Returns the log, the counts of the file's lines, and a stop only for a rejected line at which
+// processing stops, or a failed write to the log. Any other failure is logged and counts the file as unread, and the
+// next file may be replaced.
 fn replace_next<'a, L: Sink + Drop>(
     rt: &'a HostRuntime,
     request: &Request<'_>,

@@ -109,7 +109,7 @@ fn complete(rt: &HostRuntime, shell: &str) -> io::Result<u8> {
     }
 }
 
-// The clock's moment; `None` if the clock can't be read, or there is no date for it.
+// The clock's moment; `None` if the clock can't be read, or is before 1970 or after the year 999999.
 fn now_of(rt: &HostRuntime) -> Option<UtcDateTime> {
     let time = SystemTime::now(rt).ok()?;
     UtcDateTime::try_from(time).ok()
@@ -151,7 +151,7 @@ fn report_input(rt: &HostRuntime) -> io::Result<u8> {
 }
 
 // Replaces the files, and returns the exit status. Prints an error instead if one of them is standard input, also if no
-// file is given, or if an option rejects its value.
+// file is given, or if `Request::new` returns an error.
 #[inline(never)]
 fn follow_in_place(rt: &HostRuntime, matches: &ArgMatches<'_>) -> io::Result<u8> {
     let names = names_of(rt, matches)?;

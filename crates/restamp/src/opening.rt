@@ -93,7 +93,7 @@ impl<R: Clock + Eprint, S: Source + Drop> Source for Metered<'_, R, S> {
 
     ghost given = { λ metered. S.given metered.source };
 
-    // Progress is reported before a read, since then all earlier bytes are processed and all earlier reports are
+    // Progress is reported before a read, since then all earlier whole lines are processed and their reports are
     // complete. Not inlined, since the compiler decides by size how to compile the loop that calls it.
     #[inline(never)]
     fn read(&mut self, buffer: &mut [u8]) -> io::Result<usize> {

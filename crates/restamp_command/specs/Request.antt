@@ -77,12 +77,12 @@ IsFieldPlace o None w = w ≡ whole
 IsFieldPlace o (Some number) w =
     (fields : Fields) × (n : ℕ) × (fields_of o ≡ Some fields) × IsPositive number (Some n) × (w ≡ field fields n)
 
--- The place between two texts, or else that of the field.
+-- The place between two texts, or else that of the field, or else the whole line.
 abbrev pub IsBetweenPlace : Options → Option (Bor (List ℕ) × Bor (List ℕ)) → Where → Type 0
 IsBetweenPlace o None w = IsFieldPlace o (text_behind o.field) w
 IsBetweenPlace o (Some texts) w = w ≡ between texts.0.now texts.1.now
 
--- The place after a text, or else the place between two texts or that of the field.
+-- The place after a text, or else the place between two texts, or else that of the field, or else the whole line.
 abbrev pub IsAfterPlace : Options → Option (Bor (List ℕ)) → Where → Type 0
 IsAfterPlace o None w = IsBetweenPlace o o.between w
 IsAfterPlace o (Some key) w = w ≡ after key.now
@@ -133,8 +133,8 @@ abbrev pub IsOneOf : List (List ℕ) → List ℕ → Type 0
 IsOneOf [] text = ⊥
 IsOneOf (name ∷ names) text = (text ≡ name) ⊎ IsOneOf names text
 
--- One of the texts is no format, for that reason; or it is `rfc9557`, and the system's zones can't be read; or all
--- texts of its format omit that part; or memory was short. The flag is whether there is a default year.
+-- One of the texts is no format, for that reason; or it is `rfc9557`, and the zones can't be read; or all texts of its
+-- format omit that part, which no default supplies; or memory was short. The flag is whether there is a default year.
 abbrev pub IsFormatFault : Bool → List (List ℕ) → Fault → Type 0
 IsFormatFault has_year names fault.memory = Unit {0}
 IsFormatFault has_year names (fault.from value why) =

@@ -52,7 +52,7 @@ IsNoZone text why =
     (bytes_eq text (codes "keep") ≡ false) × (bytes_eq text (codes "utc") ≡ false)
     × IsOffsetText text None × IsZoneResult text (Err why)
 
--- the zone in a suffix, by its offset or its name; `None` for `Keep`, and for a named zone without a name
+-- the zone in a suffix, by its offset or its name; `None` for `Keep`, a POSIX rule, and a table without a name
 abbrev pub suffix_zone : Zone → Option Suffix.Zone
 suffix_zone kind.Keep = None
 suffix_zone (kind.Fixed offset) = Some (Suffix.at_offset offset)

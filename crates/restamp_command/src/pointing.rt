@@ -54,7 +54,7 @@ fn write_expectation<L: Sink>(expected: Expected<'_>, log: &mut L) -> Result<(),
     }
 }
 
-/// Writes `: expected ` and a literal in single quotes, the name of a component, or `the end`; nothing for `None`.
+/// Writes `: expected ` and an escaped literal in single quotes, a component's name, or `the end`; nothing for `None`.
 pub fn write_expected<L: Sink>(expected: Option<Expected<'_>>, log: &mut L) -> Result<(), Unwritten>
     ensures written { OnOk result (Appends (L.contents log.old) (L.contents log.new)
         (spec.expected_text (option_map wants expected.entry))) }

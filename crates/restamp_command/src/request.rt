@@ -81,7 +81,7 @@ fn find_field<'a>(options: &Options<'_, 'a>, number: &'a str) -> Result<Place<'a
     Ok(Place::Field(fields, index))
 }
 
-// A timestamp's place: by default the whole line, `None` for `--anywhere`. An error for a bad `--field` or delimiter.
+// A timestamp's place: by default the whole line, `None` for `--anywhere`. Only `--field` has errors (`find_field`).
 fn find_place<'a>(options: &Options<'_, 'a>) -> Result<Option<Place<'a>>, Fault<'a>>
     ensures { MatchResult result (λ place. spec.IsPlace options.now (spec.erased_place place))
         (λ fault. spec.IsFault options.now (erased_fault fault)) }
@@ -310,7 +310,7 @@ fn find_bounds<'a>(
 
 impl<'a> Request<'a> {
     /// The request of the options. If `--color` is `auto`, reports have colours if `is_terminal` is true. It loads a
-    /// named zone from its file, and all zones of the system for the format `rfc9557`. `now` is the clock's time, or
+    /// named zone from its file, and all zones of the system for `--from rfc9557`. `now` is the clock's time, or
     /// `None` if it is unreadable or out of range. It matters only if a time in the options is a word such as `today`.
     ///
     /// It is an error if an option rejects its value, is a default that no format can use, or needs zones that can't be

@@ -138,8 +138,8 @@ clock t = record {
   nanosecond = Times.nanosecond t;
 }
 
--- The record has the hour of the offset, and its minute and second: an absent one counts as 0, as does a second without
--- a minute.
+-- The record's hour is that of the offset. Its minute and second, negated if `offset_is_negative` is true, are those of
+-- the offset: an absent one counts as 0, as does a second without a minute.
 abbrev pub HasOffsetParts : Record → UtcOffset → Type 0
 HasOffsetParts r o =
     (r.offset_hour ≡ Some (Offsets.hours o))

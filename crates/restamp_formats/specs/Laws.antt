@@ -20,7 +20,7 @@ AutoHasAll = (v : OffsetDateTime) → HasDigits (written FractionDigits.Auto v) 
 
 -- The format parses all of the moment from the text that the output format writes of it. A named format is the same
 -- one, and the text has each nonzero digit of the fraction; a description has the same tree, and its text determines
--- the moment. Never for a count.
+-- the moment. Never if the output format is a `Count`.
 abbrev pub ReadsAll : Reading → Defaults → Writing → FractionDigits → OffsetDateTime → Type 0
 ReadsAll format defaults (Writing.Named Named.Rfc3339) digits v =
     (format ≡ Reading.Rfc3339) × HasDigits (written digits v) v

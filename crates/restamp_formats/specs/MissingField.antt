@@ -194,8 +194,8 @@ abbrev pub SameBut : Part → Defaults → Defaults → Type 0
 SameBut Part.Year defaults others = defaults.offset ≡ others.offset
 SameBut Part.Offset defaults others = defaults.year ≡ others.year
 
--- If each text of the tree has the part, the record of a text resolves to the same result with any defaults that differ
--- only in that part.
+-- If each text of the tree has the part, the record of a text resolves to the same result with any other defaults, if
+-- they have the same offset (for the part `Year`) or the same year (for the part `Offset`).
 abbrev pub HasNoUse : Type 0
 HasNoUse =
     (p : Part) (tree : Tree) (bytes rest : List ℕ) (r : Record) (defaults others : Defaults)

@@ -6,9 +6,9 @@ use Rattle.restamp_formats.specs.declared.naming.FormatName as declared
 use Rattle.restamp_formats.specs.Common.{Bool, ℕ, List, codes, Option, None, Some, MatchOption, Tree, steps_shape, shape, version_of, Describes, DescribesStrftime, Description, Seconds, Milliseconds, Microseconds, Nanoseconds, Named, Writing, Reading, MOST_STEPS}
 use Rattle.restamp_formats.specs.declared.naming.FormatFault.{FormatFault}
 
--- How a text names an input format: by one of three names; by a description in brackets of a number of seconds, of
--- texts that are parsed without defaults, or of other texts; or by a description as in strftime. `unknown` is none of
--- them.
+-- How a text names an input format: by one of three names; by a description in brackets, `counted` for `unix` (a number
+-- of seconds), `complete` for `common` (parsed without defaults), otherwise `brackets`; or by a description as in
+-- strftime. `unknown` is none of them.
 pub data FormatName : Type 0 where
   rfc3339 : FormatName
   rfc2822 : FormatName
@@ -43,7 +43,7 @@ abbrev pub common_text : List ℕ
 common_text =
     codes "[day]/[month repr:short]/[year]:[hour]:[minute]:[second] [offset_hour sign:mandatory][offset_minute]"
 
--- how a text names an input format: by one of nine names, of which six mean a description, or else as a description
+-- how a text names an input format: by one of nine names, of which six mean a description; or by `description_name`
 abbrev pub format_name_of : List ℕ → FormatName
 format_name_of name =
     if bytes_eq name (codes "rfc3339") then rfc3339 else

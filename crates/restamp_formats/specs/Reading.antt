@@ -208,7 +208,7 @@ ParsesInZone clocks format is_prefix text defaults result =
     (λ why. result ≡ Err why)
 
 -- The match of a text by a format; if the format rejects it, as a local time in the zone of the defaults, if they have
--- one. Otherwise the error.
+-- one. Otherwise the error of `ParsesInZone` or, without a zone, that of the format.
 abbrev pub ParsesLocally : Reading → Bool → List ℕ → Defaults → Result Match Reason → Type 0
 ParsesLocally format is_prefix text defaults result =
     (plain : Result Match Reason) × ParsesAs format is_prefix text defaults plain

@@ -34,7 +34,7 @@ fn convert_to_offset(moment: OffsetDateTime, offset: UtcOffset) -> Option<Offset
 }
 
 // Converts the moment to the zone's offset at that moment; `None` if the moment is before -9999-01-02T01:59:59Z or
-// after 9999-12-30T22:00:00.999999999Z. Not inlined, so that it needs no stack for lines without a zone.
+// after 9999-12-30T22:00:00.999999999Z. Not inlined, so that `Own` and `Fixed` need no stack for it.
 #[inline(never)]
 fn converted_in(moment: OffsetDateTime, zone: &TimeZone<'_>) -> Option<OffsetDateTime>
     ensures { spec.IsConverted (Clock.Zone zone.now) moment result }

@@ -152,9 +152,9 @@ fn parse_by_defaults<E: FromReason>(
 
 /// Parses a text (a prefix of it if `is_prefix` is true) by the format or, if that fails, as a local time in the zone
 /// of the defaults, if any. If both fail and the defaults have a `latest`, tries both with ten default years, from the
-/// one after the year of `latest` down, for a moment that isn't after it. Ten suffice: up to seven years in a row have
-/// no 29 February. A nonexistent or ambiguous local time ends the search if it isn't after `latest` at the offset of
-/// `latest`. The error, as an `E`, is that of the last failed attempt. Not inlined: other texts need no stack for it.
+/// one after its year down, for a moment that isn't after it. Ten suffice for month and day: up to seven years in a row
+/// have no 29 February. A nonexistent or ambiguous local time ends the search if it isn't after `latest` at the offset
+/// of `latest`. The error, as an `E`, is that of the last failed attempt. Not inlined: fast paths need no stack for it.
 #[tactic(auto, using(crate::proofs::ParseLemmas::dated_at_once))]
 #[inline(never)]
 pub fn parse_dated<E: FromReason>(

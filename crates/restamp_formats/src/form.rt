@@ -95,8 +95,8 @@ fn store_count<E: FromReason>(count: Option<i64>, text: &mut Text) -> Result<(),
     Ok(())
 }
 
-// Replaces `text` by the count in decimal, of at most 35 bytes with a `-`; for `None` returns the reason `OutOfRange`,
-// as an `E`. Not inlined, so that it needs no stack when seconds are written.
+// Replaces `text` by the count in decimal, of at most 35 bytes, with a `-` if it is negative; for `None` returns the
+// reason `OutOfRange`, as an `E`. Not inlined, so that seconds and milliseconds need no stack for it.
 #[inline(never)]
 fn store_wide_count<E: FromReason>(count: Option<i128>, text: &mut Text) -> Result<(), E>
     requires { IfSome count (λ z. length (signed_decimal z) ≤ 35) }

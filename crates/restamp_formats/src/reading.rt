@@ -221,8 +221,8 @@ fn bare(said: Match, text: &[u8]) -> Match
     }
 }
 
-// Parses a mail date, RFC 2822, with optional white space and comments around it: a prefix of the text if `is_prefix`
-// is true, else the whole text. Only a prefix's match omits white space at its ends. Not inlined, so that others are.
+// Parses a mail date, RFC 2822, with optional white space and comments around it: a prefix if `is_prefix` is true, else
+// the whole text. Only a prefix's match omits white space at its ends. Not inlined: other formats need no stack for it.
 #[inline(never)]
 fn read_mail(is_prefix: bool, text: &[u8]) -> Result<Match, Parse>
     ensures said { spec.IsReadMail is_prefix text.now (spec.erased_match result) }
@@ -235,8 +235,8 @@ fn read_mail(is_prefix: bool, text: &[u8]) -> Result<Match, Parse>
     Ok(said)
 }
 
-/// Parses a prefix of the text by RFC 3339, with `T`, `t` or a space between the date and the time, and without filling
-/// a record where possible. Bytes after the prefix are no error. Not inlined, so that whole texts need no stack for it.
+/// Parses a prefix of the text by RFC 3339, with `T`, `t` or a space between the date and the time, if possible without
+/// filling a record. Bytes after the prefix are no error. Not inlined: whole texts of `Rfc3339` need no stack for it.
 #[inline(never)]
 pub fn read_front_3339(text: &[u8]) -> Result<Match, Parse>
     ensures said { spec.IsReadInFront text.now (spec.erased_match result) }

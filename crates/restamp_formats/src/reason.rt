@@ -17,7 +17,7 @@ pub struct TwoOffsets {
     pub later: OffsetParts,
 }
 
-/// The sign and the size of an offset from UTC. Its fields take whole words, so that a [`Reason`] is copied by words.
+/// The sign and the size of an offset from UTC. `seconds` is a `u64`, so that a [`Reason`] is copied by words.
 #[derive(Clone, Copy, Debug, PartialEq, Eq)]
 pub struct OffsetParts {
     /// Whether local time is behind UTC.

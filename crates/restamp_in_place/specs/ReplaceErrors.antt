@@ -1,4 +1,4 @@
--- Reports of files that weren't replaced.
+-- Reports of why replacing a file failed.
 use Rattle.std.specs.Prelude.{ℕ, List, codes, ◌≡◌, ◌++◌}
 use Rattle.restamp_stream.specs.declared.ending.Stop.{Stop}
 use Rattle.restamp_in_place.specs.declared.replace_errors.Step.{Step}
@@ -20,7 +20,7 @@ step_text Rename = codes "the new file did not take its place"
 step_text Remove = codes "the new file was not removed"
 step_text Sync = codes "the new file took its place, but its folder was not synced"
 
--- The text of why a file wasn't replaced. After the step that failed, the text of its error may be any.
+-- The text of why replacing a file failed. After the step that failed, the text of its error may be any.
 abbrev pub IsWhy : Unreplaced Stop → List ℕ → Type 0
 IsWhy (Stopped stop) text = text ≡ codes "its lines were not rewritten"
 IsWhy Changed text = text ≡ codes "another program changed it meanwhile"

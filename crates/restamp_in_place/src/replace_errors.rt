@@ -1,4 +1,4 @@
-//! Reports why a file wasn't replaced.
+//! Reports why replacing a file failed.
 ghost use Rattle.std.specs.Io.KnownBytes.{Appends};
 ghost use Rattle.std.specs.Prelude.{ℕ, List, ◌++◌, OnOk, codes};
 ghost use Rattle.byte_streams.specs.Faults.{HasCause};
@@ -38,8 +38,8 @@ fn write_failed<L: Sink>(
     log.write_all(b"\n")
 }
 
-/// Writes a line to the log: the escaped name of a file, and why it wasn't replaced. For `Failed` that is the step, and
-/// the error's text, or in place of the text `out of memory` if no memory can be allocated for it.
+/// Writes a line to the log: the escaped name of a file, and why replacing it failed. For `Failed` that is the step,
+/// and the error's text, or in place of the text `out of memory` if no memory can be allocated for it.
 pub fn write_unreplaced<L: Sink>(
     alloc: Global,
     name: &[u8],

@@ -193,11 +193,11 @@ fn finish<F: Folder, S: Drop>(
 /// Replaces the file of that name by what `maker` makes of its bytes. Returns the maker, and whether the file was
 /// replaced, or the error.
 ///
-/// It writes the new bytes to a new file beside the old one, stores that on the disk, and renames it. If a backup's
-/// name is given, which must be unused, the old file has that name afterwards. The old file isn't replaced if the maker
-/// returns `Same` or an error, if a check finds that another program changed or replaced it, or if a step fails. Then
-/// the new file is removed, unless that fails too. There are two exceptions: if a rename fails after it was made, or if
-/// only the last write of the folder to the disk fails, the new file is in place, and the result is an error.
+/// It writes the new bytes to a new file beside the old one, stores that on the disk, and renames it. The old file then
+/// has the backup's name, if one is given, which must be unused; after an error it may have it, too. It isn't replaced
+/// if the maker returns `Same` or an error, if a check finds that another program changed or replaced it, or if a step
+/// fails. Then the new file is removed, unless that fails too. Two exceptions: if a rename fails after it was made, or
+/// if only the last write of the folder to the disk fails, the new file is in place, and the result is an error.
 ///
 /// Under the name, a crash at any moment leaves what a crash before the call could leave, or the whole new file.
 pub fn replace<F: Folder, M: FileTransform>(

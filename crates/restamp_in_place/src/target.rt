@@ -24,9 +24,9 @@ pub struct Target<'a> {
 }
 
 /// Replaces a file by its processed lines, unless none of its timestamps is rewritten. Returns the log, the counts of
-/// the file's lines by their actions, and whether the file was replaced, or the error.
+/// the file's lines (`unread` counts failed reading only), and whether the file was replaced, or the error.
 ///
-/// The file isn't replaced if the work stops early, as at a rejected line, if another program changed it, or if a step
+/// The file isn't replaced if the work stops early, if a check finds that another program changed it, or if a step
 /// fails. Yet it is, despite the error, if a rename fails after it was made, or only the last sync of its folder fails.
 pub fn replace_file<T: Rewriting, F: Folder, L: Sink + Drop>(
     rewriting: &T,

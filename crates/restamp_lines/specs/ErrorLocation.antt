@@ -14,7 +14,7 @@ use Rattle.time_parsing.specs.Outcome as Outcome
 use Rattle.time_parsing.specs.Rfc2822 as Rfc2822
 use Rattle.time_parsing.specs.Rfc3339Strict as Rfc3339
 use Rattle.time_parsing.specs.Outcome.{Refusing}
-use Rattle.time_locating.specs.Completeness.{has_day, has_iso_day, has_full_date, has_hour}
+use Rattle.time_locating.specs.Completeness.{has_day, has_iso_day, has_full_date, has_hour, skips_minute, skips_second}
 use Rattle.time_locating.specs.Iso8601 as located_iso
 use Rattle.time_locating.specs.IsoMarks as iso_marks
 use Rattle.time_locating.specs.Located.{IsLocated, IsValueAt, Locating, Marking, range_name, wants}
@@ -160,13 +160,13 @@ missing_date_field r =
     if not (has_day r) && not (has_iso_day r) then missing_field.Day else
     if has_year r then missing_field.WholeYear else missing_field.Year
 
--- the missing part of a record with a date: the first of the hour (AM or PM if it has an hour from 1 to 12), the minute
--- and the second that it doesn't have, or if it has them, the offset
+-- the missing part of a record with a date: the first of the hour (AM or PM if it has an hour from 1 to 12), a minute
+-- before a second or a fraction, and a second before a fraction that it doesn't have; or else the offset
 abbrev pub missing_time_field : Record → MissingField
 missing_time_field r =
     if not (has_hour r) then (if is_some r.hour_12 then missing_field.Half else missing_field.Hour) else
-    if not (is_some r.minute) then missing_field.Minute else
-    if not (is_some r.second) then missing_field.Second else missing_field.Offset
+    if skips_minute r then missing_field.Minute else
+    if skips_second r then missing_field.Second else missing_field.Offset
 
 -- the missing part of a record that has too little information for a moment: a part of its date, or if it has a date,
 -- of its time or offset

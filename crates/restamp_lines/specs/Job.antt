@@ -109,8 +109,8 @@ abbrev pub part_of : Option Place → List ℕ → Option Part
 part_of None line = None
 part_of (Some place) line = option_map (part_in line (is_prefix place)) (span_of place line)
 
--- The verdict on a line whose timestamp lies in that part, or which has no such part: by the match of the first format
--- that matches; rejected at the start of the part for the first format's reason if none does.
+-- The verdict on a line whose timestamp lies in that part: by the match of the first format that matches; if none does,
+-- rejected at the part's start for the first format's reason. For `None`, the verdict on a line without a timestamp.
 abbrev pub IsJudgedIn : Job → Option Part → Verdict → Type 0
 IsJudgedIn job None verdict = verdict ≡ missed job
 IsJudgedIn job (Some p) verdict =

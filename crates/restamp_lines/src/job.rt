@@ -147,7 +147,7 @@ impl Job<'_> {
         }
     }
 
-    // The verdict of `judge_in_turn`. The fast path tries the first format without the reason of an error.
+    // The verdict of `judge_in_turn`. Unless `tries_more`, the fast path tries the first format, without error reasons.
     #[inline(always)]
     fn judge_part<E: FromReason>(&self, part: Part<'_>, text: &mut Text) -> LineAction<Refusal<E>>
         ensures verdict { spec.SatisfiesWithText E.is_of (spec.IsJudgedIn self.now (Some (spec.erased_part part.entry))) result text.new }

@@ -6,7 +6,7 @@ ghost use Rattle.restamp_formats.specs.Reason.{seen};
 use crate::job::Job;
 use restamp_formats::{Defaults, MissingField, Reading, Reason, ReasonDisplay, complete, has_year};
 use std::fmt;
-use time_locating::{has_day, has_full_date, has_hour, has_iso_day};
+use time_locating::{has_day, has_full_date, has_hour, has_iso_day, skips_minute, skips_second};
 use time_parsing::{Iso8601, Parsable};
 use time_record::Parsed;
 use time_values::error::{Parse, TryFromParsed};
@@ -25,8 +25,8 @@ fn missing_date_field(parsed: &Parsed) -> MissingField
     }
 }
 
-// The missing part of a record with a date: the first of the hour (AM or PM if it has an hour from 1 to 12), the minute
-// and the second that it doesn't have, or if it has them, the offset.
+// The missing part of a record with a date: the first of the hour (AM or PM if it has an hour from 1 to 12), a minute
+// before a second or a fraction, and a second before a fraction that it doesn't have; or else the offset.
 fn missing_time_field(parsed: &Parsed) -> MissingField
     ensures { result ≡ spec.missing_time_field parsed.now }
 {
@@ -37,9 +37,9 @@ fn missing_time_field(parsed: &Parsed) -> MissingField
             MissingField::Hour
         };
     }
-    if parsed.minute().is_none() {
+    if skips_minute(parsed) {
         MissingField::Minute
-    } else if parsed.second().is_none() {
+    } else if skips_second(parsed) {
         MissingField::Second
     } else {
         MissingField::Offset

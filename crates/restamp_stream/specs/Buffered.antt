@@ -45,19 +45,19 @@ Stops job mid after rest held =
     (before : State) (read more : List ℕ) → Answered job before mid read rest held
     → Stopped job before after (lines_of (read ++ more))
 
--- The work stopped, but not at a failed read. If it stopped at a rejected line, the fact holds.
+-- The work stopped at a failed write; or at a rejected line, and the fact holds.
 abbrev pub StoppedBy : Stop → Type 0 → Type 0
 StoppedBy Unread fact = ⊥
 StoppedBy Unwritten fact = Unit {0}
 StoppedBy Refused fact = fact
 
--- The work stopped at a failed read, and the fact holds, or at a failed write.
+-- The work stopped at a failed write; or at a file that wasn't opened or read to its end, and the fact holds.
 abbrev pub FailedBy : Stop → Type 0 → Type 0
 FailedBy Unread fact = fact
 FailedBy Unwritten fact = Unit {0}
 FailedBy Refused fact = ⊥
 
--- The bytes have no LF, and continue a line whose front was processed. They were written, or dropped for `Dropping`.
+-- Bytes with no LF were written, or dropped for `Dropping`. They continue a line if `HasFront rest` holds.
 abbrev pub ContinuesLine : Option (List ℕ) → Option (List ℕ) → TailAction → List ℕ → Type 0
 ContinuesLine out out' rest bytes = HasNoLf bytes × Appends out out' (passed rest bytes)
 

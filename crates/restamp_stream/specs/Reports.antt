@@ -148,7 +148,7 @@ counted t (action ∷ actions) = counted (count_action t action) actions
 abbrev pub at_first_line : Tally → Tally
 at_first_line t = record t { line = 0; refused_here = 0 }
 
--- a tally after one more file that wasn't opened, not read to its end, or not replaced
+-- a tally after one more file for which opening, reading to the end or, in place, replacing failed
 abbrev pub count_unread : Tally → Tally
 count_unread t = record t { unread = one_more t.unread }
 
@@ -174,6 +174,6 @@ more_text name n =
     if n == 1 then displayed_name name ++ (codes ": 1 more line was rejected" ++ 10 ∷ []) else
     displayed_name name ++ (codes ": " ++ (decimal n ++ (codes " more lines were rejected" ++ 10 ∷ [])))
 
--- the line in the log for a file that wasn't opened, or not read to its end, or not replaced: `NAME: WHY` and LF
+-- the line in the log for a file for which opening, reading to the end or replacing failed: `NAME: WHY` and LF
 abbrev pub unread_text : List ℕ → List ℕ → List ℕ
 unread_text name why = displayed_name name ++ (codes ": " ++ (why ++ 10 ∷ []))

@@ -176,7 +176,7 @@ pub record Fails (name : List ℕ) (before after : State) : Type 0 where
   pub reported : Appends before.log after.log (unread_text name why)
   pub counts : after.tally ≡ count_unread before.tally
 
--- A failed read of the input was reported. All that was read and could be processed was, and rejections were reported.
+-- Rejections and a failure to read the input to its end were reported. All that was read and could be processed was.
 pub record ProcessedSome (job : Job) (old new : Option (List ℕ)) (before after : State) : Type 0 where
   pub rest : TailAction
   pub held : List ℕ
@@ -194,8 +194,8 @@ pub record ProcessedBefore (job : Job) (before after : State) (bytes : List ℕ)
 
 -- ---- Several files, processed one after the other
 
--- Between the two states a file's lines were processed until a read failed, or the file wasn't opened and no line was
--- processed. The count of files that failed to open or were cut off rose from `faults` to `faults'`.
+-- Between the two states a file wasn't read to its end (`ProcessedSome`), or wasn't opened and no line was processed.
+-- The count of files that failed to open or were cut off rose from `faults` to `faults'`.
 abbrev pub ProcessedCutOff : Job → Option (List ℕ) → ℕ → ℕ → State → State → Type 0
 ProcessedCutOff job bytes faults faults' before after =
     Rises faults faults'

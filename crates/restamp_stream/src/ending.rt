@@ -23,7 +23,7 @@ pub fn status(tally: &Tally, stop: Option<Stop>, strict: bool) -> u8
 pub enum Stop {
     /// A read failed, or the input didn't end within 18446744073709551615 reads.
     Unread,
-    /// A write to the output or to the log failed.
+    /// A write to the output or to the log failed, or a flush of the log.
     Unwritten,
     /// A line was rejected, and `strict` is set.
     Refused,

@@ -38,7 +38,7 @@ pub trait Opening {
         ensures same { bytes_of self.new ≡ bytes_of self.old };
 }
 
-// The result with `Unread` replaced by success: a file that wasn't read to its end doesn't stop the work.
+// The result with `Unread` replaced by success: a file that wasn't opened or read to its end doesn't stop the work.
 fn go_on(served: Result<(), Stop>) -> Result<(), Stop>
     ensures ok { OnOk result (IfErr served (λ stop. stop ≡ Stop.Unread)) }
     ensures err { IfErr result (λ stop. (served ≡ Err stop) × (stop ≢ Stop.Unread)) }
@@ -79,7 +79,7 @@ impl<W: Sink, L: Sink> Stream<W, L> {
         go_on(served)
     }
 
-    /// Processes the files in turn, each as [`Stream::serve`] does, with one tally. Bytes buffered before are dropped.
+    /// Processes the files in turn with one tally, each as [`Stream::serve`] does, which drops bytes buffered before.
     ///
     /// If a file can't be opened or read to its end, that is logged, and the other files are processed: the result is
     /// never [`Stop::Unread`]. The work stops at a failed write, and at the first rejected line if `strict` is set. The

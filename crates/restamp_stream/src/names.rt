@@ -48,7 +48,7 @@ fn plain_length(ascii: bool, name: &[u8]) -> usize
     name.len()
 }
 
-// Writes the unescaped bytes at the start of `name`, or else its first byte escaped. Returns how many bytes of it.
+// Writes the unescaped bytes at the start of `name`; if none, its first byte escaped. Returns their number in `name`.
 #[tactic(auto, using(crate::proofs::LinesLemmas::log_writes))]
 fn write_part<L: Sink>(ascii: bool, name: &[u8], log: &mut L) -> Result<usize, Unwritten>
     requires { 0 < length name.now }

@@ -140,7 +140,7 @@ impl<W: Sink, L: Sink> Stream<W, L> {
         Ok(())
     }
 
-    // Processes all lines of a file, and writes all that it can before each read. Counts and reports a failed read.
+    // Processes all lines. Writes what it can before each read. Calls `fail` at a failed read or after 2^64 - 1 reads.
     fn serve_lines<T: Rewriting, R: Source>(
         &mut self,
         file: &File<'_, T>,

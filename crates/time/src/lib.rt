@@ -131,6 +131,7 @@ pub mod preparing {
 pub mod locating {
     pub use time_locating::{
         Expected, Locate, Located, has_day, has_full_date, has_hour, has_iso_day, locate_error,
+        skips_minute, skips_second,
     };
 }
 

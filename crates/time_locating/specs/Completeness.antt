@@ -1,5 +1,5 @@
--- Which of its components a record has for a date or an hour.
-use Rattle.std.specs.Prelude.{Bool, ◌&&◌, ◌||◌, is_some}
+-- Which of its components a record has for a date or a time.
+use Rattle.std.specs.Prelude.{Bool, not, ◌&&◌, ◌||◌, is_some}
 use Rattle.time_record.specs.Record.{Record}
 
 -- the record has a year, or its century and its last two digits
@@ -28,3 +28,11 @@ has_full_date r = (has_whole_year r && has_day r) || (has_whole_iso_year r && ha
 -- the record has an hour of the day: from 0 to 23, or from 1 to 12 with AM or PM
 abbrev pub has_hour : Record → Bool
 has_hour r = is_some r.hour_24 || (is_some r.hour_12 && is_some r.hour_12_is_pm)
+
+-- the record has a second or a fraction of a second, but no minute
+abbrev pub skips_minute : Record → Bool
+skips_minute r = not (is_some r.minute) && (is_some r.second || is_some r.subsecond)
+
+-- the record has a fraction of a second, but no second
+abbrev pub skips_second : Record → Bool
+skips_second r = not (is_some r.second) && is_some r.subsecond

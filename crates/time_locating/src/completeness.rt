@@ -1,4 +1,4 @@
-//! Which of its components a record has for a date or an hour, to find what a text is missing.
+//! Which of its components a record has for a date or a time, to find what a text is missing.
 ghost use Rattle.std.specs.Prelude.{◌≡◌};
 ghost use Rattle.time_locating.specs.Completeness as spec;
 
@@ -51,4 +51,18 @@ pub fn has_hour(parsed: &Parsed) -> bool
     ensures { result ≡ spec.has_hour parsed.now }
 {
     parsed.hour_24().is_some() || (parsed.hour_12().is_some() && parsed.hour_12_is_pm().is_some())
+}
+
+/// Whether the record has a second or a fraction of a second, but no minute, so that it has no time.
+pub fn skips_minute(parsed: &Parsed) -> bool
+    ensures { result ≡ spec.skips_minute parsed.now }
+{
+    parsed.minute().is_none() && (parsed.second().is_some() || parsed.subsecond().is_some())
+}
+
+/// Whether the record has a fraction of a second, but no second, so that it has no time.
+pub fn skips_second(parsed: &Parsed) -> bool
+    ensures { result ≡ spec.skips_second parsed.now }
+{
+    parsed.second().is_none() && parsed.subsecond().is_some()
 }

@@ -13,6 +13,6 @@ mod rfc3339;
 mod rfc3339_strict;
 mod walk;
 
-pub use completeness::{has_day, has_full_date, has_hour, has_iso_day};
+pub use completeness::{has_day, has_full_date, has_hour, has_iso_day, skips_minute, skips_second};
 pub use locate::{Locate, locate_error};
 pub use located::{Expected, Located};

@@ -80,14 +80,14 @@ IsRefusalFor target.Staged path = IsRefusal (IsMoment greatest_year)
 IsRefusalFor target.Timestamp path = IsRefusal (IsTimestamp greatest_year)
 
 -- The printed index of an error, or nothing without an error or an index: where the text doesn't match the format, or
--- in a text that matches, where the component out of range begins (the week number, if its ordinal is absent).
+-- in a text that matches, where the component out of range begins (the week number, if that is an absent ordinal).
 abbrev pub IsErrorPlace : Reading → Locating → Marking → List ℕ → Option Refusal → List ℕ → Type 0
 IsErrorPlace reads locates marks text None printed = printed ≡ []
 IsErrorPlace reads locates marks text (Some e) printed =
     (index : Option ℕ) × IsErrorAt reads locates marks text empty e index × (printed ≡ index_text index)
 
 -- The printed location of a text's error, parsed over an empty record: its index and what was expected there. For a
--- text that is parsed whole, the index of the component whose range is rejected for the target, or nothing.
+-- text that is parsed whole, the index of the error for the target, as in `IsErrorPlace`, or nothing.
 abbrev pub IsPlace : Target → Path → Reading → Refusing → Locating → Marking → List ℕ → List ℕ → Type 0
 IsPlace target path reads refuses locates marks text printed =
     ((at : Located) × IsLocated reads locates text empty (Some at) × (printed ≡ place_text (erased_located (Some at))))
@@ -148,7 +148,7 @@ WritesAnswers prints_places version format target old new input =
 
 -- ---- Laws of answers.
 
--- The argument for a format has at most one meaning: a named format or one tree.
+-- The argument for a format has at most one meaning in each version: a named format or one tree.
 abbrev pub OneMeaning : Type 0
 OneMeaning =
     (version : Version) (format : List ℕ) (meaning other : Meaning)

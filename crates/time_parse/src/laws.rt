@@ -3,8 +3,8 @@ ghost use Rattle.time_parse.specs.Place.{OneMeaning, OneAnswer, OneWriting};
 
 use time_descriptions::laws::{law_one_description, law_one_strftime_description};
 
-/// The argument for a format has at most one meaning, and a text has at most one answer by it for a target. The command
-/// line and the input determine the contents of a writer after the answers, if the earlier contents are known.
+/// The argument for a format has at most one meaning in each version, and by a meaning a text has at most one answer
+/// for a target, with `--place` or not. Command line and input determine what is added to a writer's known contents.
 pub fn law_one_answer()
     ensures meaning { OneMeaning }
     ensures text { OneAnswer }

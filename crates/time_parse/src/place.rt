@@ -148,7 +148,7 @@ fn write_error_place<F: Locate, W: Sink>(
 
 // Writes ` at `, the byte index at which the text doesn't match the format, `: expected ` and what was expected there.
 // If the whole text matches, writes ` at ` and the index of the component that the error for the target calls out of
-// range, or nothing without an error or such a component.
+// range (the week number for an absent ordinal), or nothing without an error or such a component.
 fn write_place<F: Locate, W: Sink>(
     format: &F,
     target: Target,

@@ -27,7 +27,7 @@ pub enum Failure<'a> {
 }
 
 // Reads the input to its end, and writes the answer to each of its lines and an LF after it. With `prints_places` the
-// location of its error follows the answer to a rejected line.
+// error's location, if it has one, follows the answer to a rejected line, before the LF.
 fn serve_request<R: Source, W: Sink>(
     request: Request,
     prints_places: bool,
@@ -52,8 +52,8 @@ fn serve_request<R: Source, W: Sink>(
 }
 
 /// Reads the input to its end, and writes the answer to each of its lines and an LF after it, by the requested format
-/// and for the requested target. If locations are requested, the location of its error follows the answer to a rejected
-/// line.
+/// and for the requested target. If locations are requested, the error's location, if it has one, follows the answer to
+/// a rejected line, before the LF.
 ///
 /// LF is optional after the last line. Earlier contents of the buffer are dropped once the whole input is read, and the
 /// sink isn't flushed. If the format or the target has a fault, nothing is read or written. Otherwise it returns early

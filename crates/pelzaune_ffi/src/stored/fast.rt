@@ -124,8 +124,8 @@ fn read_common<'a>(component: Component, parsed: &mut Parsed, input: &'a [u8]) -
     }
 }
 
-// Parses a component into the record, and returns the unread bytes. `None`: the input doesn't match, and the record is
-// unchanged.
+// Parses a component into the record, and returns the unread bytes. `None`: no match or a value out of range, and the
+// record is unchanged.
 #[inline(always)]
 fn read_component<'a>(
     component: Component,
@@ -144,7 +144,7 @@ fn read_component<'a>(
 }
 
 // Parses a step that is a literal of one byte or a component into the record, and returns the unread bytes. `behind`
-// are the steps after it. `None`: another step or a text that doesn't match, and the record is unchanged.
+// are the steps after it. `None`: another step, no match or a value out of range, and the record is unchanged.
 #[inline(always)]
 pub(super) fn read_step<'a>(
     stored: &StoredStep,

@@ -45,8 +45,8 @@ fn parse<'a>(reading: &Reading, text: &'a [u8], parsed: &mut Parsed) -> Option<&
     }
 }
 
-// The only moment that the zone has for the local date and time of a moment. `None` if that is nonexistent, ambiguous
-// or out of the zone's range. A reason in the result would cost a line a third of what finding the moment costs.
+// The only moment that the zone has for the local date and time of `shown`; `None` if that is nonexistent, ambiguous
+// (whatever `fold` is) or `OutsideZoneRange`. A reason in the result would cost a line a third of the search's cost.
 #[inline(always)]
 fn only_moment(clocks: &Clocks<'_>, shown: OffsetDateTime) -> Option<OffsetDateTime>
     ensures { IfSome result (λ moment. IsMomentWhen clocks.now shown (Ok moment)) }

@@ -17,7 +17,7 @@ fn after<'a>(bytes: &'a [u8], name: &[u8]) -> Option<&'a [u8]>
     bytes.strip_prefix(name)
 }
 
-// The format whose name and TAB start the line, and the bytes after them. `None` if no format's name does.
+// The format whose name and TAB start the line, and the bytes after them. `None` for any other start of the line.
 #[inline(always)]
 fn format(line: &[u8]) -> Option<(Format, &[u8])>
     ensures { IfSome result (λ read. StartsWithName formats.format_named line.now read.0 read.1.now) }
@@ -36,7 +36,7 @@ fn format(line: &[u8]) -> Option<(Format, &[u8])>
     }
 }
 
-// The target whose name and TAB start the bytes, and the bytes after them. `None` if no target's name does.
+// The target whose name and TAB start the bytes, and the bytes after them. `None` for any other start of the bytes.
 #[inline(always)]
 fn target(bytes: &[u8]) -> Option<(Target, &[u8])>
     ensures { IfSome result (λ read. StartsWithName formats.target_named bytes.now read.0 read.1.now) }

@@ -212,7 +212,7 @@ fn is_flagged(step: &StoredStep, kind: u8, flag: u8) -> bool
     is_padded(step, kind) && step.flag == flag
 }
 
-// Whether a step has this kind and the choice 0, which is padding with zeros. One load reads both numbers.
+// Whether a step has this kind and the choice 0 (zeros, for a kind with a padding). One load reads both numbers.
 #[inline(always)]
 fn is_padded(step: &StoredStep, kind: u8) -> bool
     ensures { IsTrue result → (step.now.kind ≡ kind) × (step.now.choice ≡ 0) }

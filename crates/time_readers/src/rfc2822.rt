@@ -135,8 +135,8 @@ fn to_day<'a, const CHECK_RANGES: bool>(
     grammar::day::<CHECK_RANGES>(rest, numbers).ok_or(Place::Day)
 }
 
-// Parses optional blanks and comments, and then nothing, or a weekday's first three letters in any case, a comma and
-// optional blanks and comments. Stores the weekday, or `None`. Returns the rest, or `None` for a name without a comma.
+// Parses optional blanks, and then nothing, or a weekday's first three letters, a comma and optional blanks. Stores the
+// weekday, or `None`. Returns the rest, or `None` for a name without a comma.
 #[inline(always)]
 fn weekday_name<'a>(input: &'a [u8], numbers: &mut Numbers) -> Option<&'a [u8]>
     ensures { Reads (PlaceSyntax false place.WeekdayName numbers.old) input.now result numbers.new }

@@ -87,8 +87,8 @@ fn after_year(
     }
 }
 
-// Parses a month of 01 to 12 and a day of 01 to 99, with `-` between the two if `is_extended`. The year and its `-` are
-// parsed before. The error is that of the first piece that doesn't match: `month`, an invalid literal, or `day`.
+// Parses a month of 01 to 12 and a day of 01 to 99 after that year, with `-` between them if `is_extended`. The error
+// is that of the first piece that doesn't match: `month`, an invalid literal, or `day`.
 #[inline(always)]
 fn month_and_day(
     input: &[u8],
@@ -109,8 +109,8 @@ fn month_and_day(
     Ok(ParsedItem(day.0, DateNumbers::Calendar(year, month.1, day.1)))
 }
 
-// Parses a week of 01 to 99 and a weekday of 1 to 7, with `-` between the two if `is_extended`. The year and `W` are
-// parsed before. The error is that of the first piece that doesn't match: `week`, an invalid literal, or `weekday`.
+// Parses a week of 01 to 99 and a weekday of 1 to 7 after that year and a `W`, with `-` between them if `is_extended`.
+// The error is that of the first piece that doesn't match: `week`, an invalid literal, or `weekday`.
 fn week_and_weekday(
     input: &[u8],
     year: i32,

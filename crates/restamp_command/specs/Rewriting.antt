@@ -37,7 +37,7 @@ around line column = map printable_byte (take 60 (drop (column - 41) line))
 abbrev pub pointer : List ℕ → ℕ → List ℕ
 pointer line column = 10 ∷ (around line column ++ (10 ∷ (blanks (column - 1) ++ red (codes "^"))))
 
--- the text of a reason: plain, or if the flag is true, in red with the line below it and a caret under the column
+-- the text of a reason: plain, or if the flag is true, in red with part of the line below and a caret under the column
 abbrev pub reason_report : Bool → List ℕ → ℕ → List ℕ → List ℕ
 reason_report false line column reason = reason
 reason_report true line column reason = red reason ++ pointer line column
@@ -68,8 +68,8 @@ abbrev pub IsAction : Job → List ℕ → Action → Type 0
 IsAction job front its =
     (verdict : Verdict) × IsJudged job front verdict × (its ≡ action_of_verdict verdict)
 
--- the text of an error in a front: the missing part if there is one, or else the reason, with the zone's name, and then
--- what was expected; if the flag is true, in red, and with the line and a caret below
+-- the text of an error in a front, a line's first bytes: the missing part if any, or else the reason, which may name
+-- the zone, and then what was expected; if the flag is true, in red, with the bytes around the error and a caret below
 abbrev pub error_report : Bool → List ℕ → List ℕ → Reason → Option MissingField → ErrorLocation → List ℕ
 error_report shows_lines front zone reason missing_field w =
     reason_report shows_lines front w.column (why_text zone reason missing_field ++ expected_text w.wanted)

@@ -26,7 +26,7 @@ const USAGE: &str = "usage: time_bench FORMAT TARGET TIMES TEXT
        time_bench describe WAY DESCRIPTION YEAR TARGET TIMES TEXT
        time_bench write CASE TIMES DAY";
 
-// The sum for the words after `write`: a case, how many texts, and a day. `None` if the words aren't three, or
+// The sum for the words after `write`: a case, how many moments, and a day. `None` if the words aren't three, or
 // `writing::sum_of` rejects them.
 fn written(words: &[String]) -> Option<i64> {
     let [case, times, day] = words else {

@@ -90,7 +90,7 @@ fn sum_of_text(description: &[u8], target: &[u8], times: u64, texts: Texts<'_>) 
 /// `rfc2822`, `iso8601`, `ymd`, `clock`, `unix` and `local` is a description of version 2. `None`: that description is
 /// malformed or has more than 64 steps, or no target has the name.
 ///
-/// A value adds the sum of its numbers, a timestamp its nanoseconds modulo 1,000,000,007, and an error 1.
+/// A value adds the sum of its numbers, a timestamp its nanoseconds `% 1_000_000_007`, and an error 1.
 pub fn sum_by_name(format: &[u8], target: &[u8], times: u64, texts: Texts<'_>) -> Option<i64> {
     match format {
         b"rfc3339" => sum_for(&Rfc3339, target, times, texts),

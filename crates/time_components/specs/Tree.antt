@@ -92,7 +92,7 @@ v3_step (v3.OwnedCompound xs) = sequence (trees xs.items)
 v3_step (v3.OwnedOptional f x) = optional x.value
 v3_step (v3.OwnedFirst xs) = first_of (trees xs.items)
 
--- the tree of the items of a version-3 description
+-- the tree of a version-3 item
 abbrev pub v3_shape : FormatDescriptionV3Inner → Tree
 v3_shape = fold-FormatDescriptionV3Inner Tree v3_step
 

@@ -36,7 +36,7 @@ fn full_year<const MOST: u8>(
     }
 }
 
-// Parses an offset's hours, negative after `-`: two padded digits after a sign, if any. The bool is true for `-`.
+// Parses an offset's signed hours: an optional or mandatory sign and two padded digits. The bool is true for `-`.
 #[inline(always)]
 fn offset_hour(
     input: &[u8],

@@ -70,7 +70,7 @@ after_component opening (b ∷ rest) =
     else Err (fault.UnclosedOpeningBracket opening))
 
 -- component = "[" , [ space ] , name , { space , modifier } , [ space ] , "]", of a text that begins with the bracket:
--- the component, and the text after its closing bracket; a missing count of `ignore` is a fault only after that bracket
+-- the component, and the text after its closing bracket; a missing count of `ignore` is the fault if there's no other
 unfoldable pub bracketed : List ℕ → Read Component
 bracketed text =
     let inside = drop 1 text in

@@ -93,7 +93,7 @@ HasText tree = (text : List ℕ) × Describes versions.Two text tree
 abbrev pub IsTextOf : Tree → List ℕ → Type 0
 IsTextOf tree bytes = (bytes ≡ tree_text tree) × Describes versions.Two bytes tree
 
--- Why there is no text of at most n bytes: no text describes the tree, or one does, but the canonical text is longer.
+-- Why `text_of` fails with room for n bytes: no text describes the tree, or one does, but the canonical text is longer.
 abbrev pub IsNoText : ℕ → Tree → NoText → Type 0
 IsNoText n tree no_text.Undescribed = HasText tree → ⊥
 IsNoText n tree no_text.TooLong = HasText tree × (n < length (tree_text tree))

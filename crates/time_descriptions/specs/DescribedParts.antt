@@ -50,7 +50,7 @@ name_part (component.UnixTimestampMicrosecond m) = codes "unix_timestamp precisi
 name_part (component.UnixTimestampNanosecond m) = codes "unix_timestamp precision:nanosecond"
 name_part (component.End m) = codes "end"
 
--- the modifier of the component's padding, with a space before it; empty if it has no padding or pads with zeros
+-- a space and the component's modifier `padding`; empty if that is the default, zeros, or if the component has none
 abbrev pub padding_part : Component → List ℕ
 padding_part (component.Day m) = padding_text m.padding
 padding_part (component.MonthNumerical m) = padding_text m.padding

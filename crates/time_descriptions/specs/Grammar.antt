@@ -223,7 +223,7 @@ lists_step_count item begun opening (suc n) text =
     1 + list_step_count item begun text
     + counted (λ x. by_option 0 (lists_step_count item begun opening n) (next_list x.1)) (list_by item opening text)
 
--- how many steps a group's contents start, given the text in its first list; each list of `first` adds one for itself
+-- how many steps a group's contents start, given the text after its first list's `[`; each list of `first` adds one
 abbrev pub inside_step_count : (List ℕ → Read Item) → (List ℕ → ℕ) → ℕ → Group → List ℕ → ℕ
 inside_step_count item begun opening groups.Optional text = list_step_count item begun text
 inside_step_count item begun opening _ text = lists_step_count item begun opening (suc (length text)) text

@@ -40,7 +40,7 @@ refusal_of (error.Expected what index) = expected_here what.now index
 refusal_of (error.NotSupported what context index) = not_supported what.now context.now index
 refusal_of error.TooLong = too_long
 
--- the index of the error, or `None` for a text that is too long
+-- the index of the error, or `None` for `too_long`
 abbrev pub index_of : Refusal → Option ℕ
 index_of (unclosed index) = Some index
 index_of (component_name name index) = Some index

@@ -147,8 +147,8 @@ with_padding p (component.Minute m) = Some (component.Minute (record m { padding
 with_padding p (component.Second m) = Some (component.Second (record m { padding = p }))
 with_padding p _ = None
 
--- the component of the letter with that padding instead of its own; `None` if the letter means no component, or one
--- without a padding
+-- the component of the letter with that padding instead of its own; `None` if the letter means no single component,
+-- or one without a padding
 abbrev pub padded : Padding → ℕ → Option Component
 padded p letter = option_and_then (with_padding p) (row_of components letter)
 

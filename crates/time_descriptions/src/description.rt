@@ -52,7 +52,7 @@ pub(crate) fn version_of(number: usize) -> Version
 /// # Errors
 ///
 /// [`InvalidFormatDescription::TooLong`] if and only if the text, up to its first fault or its end, starts more than
-/// `N` steps. A text of at most `N` bytes never does. Otherwise, the first fault from the left, with its byte index.
+/// `N` steps. A text of at most `N` bytes never does. Otherwise, the fault that parsing meets first, with its index.
 pub fn parse_borrowed<const VERSION: usize, const N: usize>(
     text: &[u8],
 ) -> Result<Description<N>, InvalidFormatDescription<'_>>

@@ -103,7 +103,7 @@ fn write_invalid<W: fmt::Write>(
     )
 }
 
-// Writes that a component's required modifier is missing, with the modifier's name and the component's byte index.
+// Writes that a component's required modifier is missing, with the modifier's name and the component name's index.
 fn write_missing<W: fmt::Write>(f: &mut fmt::Formatter<W>, name: &str, index: usize) -> fmt::Result
     ensures { DisplaysOnOk W.write_str_gives f.old result (refusal_text (refusal.missing_modifier name.now index)) f.new }
 {
@@ -279,8 +279,8 @@ pub enum Unsupported {
     Conversion,
 }
 
-/// The first fault from the left, with `left`, the number of bytes from its place to the end of the whole text, which
-/// gives its index; or `NoRoom` if there are too many steps. A parser that sees only the remaining text knows `left`.
+/// The fault that parsing meets first, with `left`, the number of bytes from its place to the end of the whole text,
+/// which gives its index; or `NoRoom` for too many steps. A parser that sees only the remaining text knows `left`.
 #[derive(Clone, Copy)]
 pub enum Fault {
     /// An opening bracket is never closed, or something else is found instead of its closing bracket.

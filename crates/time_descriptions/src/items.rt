@@ -336,8 +336,8 @@ fn add_list<'a, const N: usize>(
 
 /// Parses the items at the start of the text, up to its end or, if `nested`, up to a closing bracket. Appends their
 /// steps, and returns the remaining text, which is empty or begins with this bracket. Lists may nest `depth` deep. The
-/// error is `NoRoom` if the steps started up to the first fault or the end of the items exceed `N` in all, and
-/// otherwise the first fault. After an error, some steps may have been appended.
+/// error is `NoRoom` if the earlier steps and those started up to the first fault or the end of the items exceed `N`,
+/// and otherwise the first fault. After an error, some steps may have been appended.
 #[cycle(items)]
 pub fn add_items<'a, const N: usize>(
     version: Version,

@@ -259,7 +259,7 @@ fn read_items<'a>(
 ///
 /// # Errors
 ///
-/// [`OwnedError::Invalid`] for the first fault from the left, with its index in the text, and never with
+/// [`OwnedError::Invalid`] for the fault that parsing meets first, with its index in the text, and never with
 /// [`InvalidFormatDescription::TooLong`]; [`OwnedError::Memory`] if out of memory.
 pub fn parse_owned<const VERSION: usize>(
     alloc: Global,

@@ -47,8 +47,8 @@ const OFFSET_MINUTE: Step = Step::Component(component!(OffsetMinute, padding: Pa
 // A fraction of a second of one or more digits.
 const FRACTION: Step = Step::Component(component!(Subsecond, digits: SubsecondDigits::OneOrMore));
 
-// The component with that padding instead of its own. `None` if it has no padding, or if no letter means a component
-// of its variant.
+// The component with that padding instead of its own. `None` if it has no padding, or if no letter means a single
+// component of its variant.
 #[tactic(auto, unfolding(crate::specs::Strftime::with_padding))]
 fn with_padding(padding: Padding, component: Component) -> Option<Component>
     ensures { result ≡ letters.with_padding padding component }
@@ -284,7 +284,7 @@ fn read_steps<const N: usize>(text: &[u8]) -> Result<ArrayVec<Step, N>, Fault>
 /// # Errors
 ///
 /// [`InvalidFormatDescription::TooLong`] if and only if the text, up to its first fault or its end, describes more than
-/// `N` steps. Otherwise, the first fault from the left, with its byte index in the text.
+/// `N` steps. Otherwise, the fault that parsing meets first, with its byte index in the text.
 pub fn parse_strftime<const N: usize>(
     text: &[u8],
 ) -> Result<Description<N>, InvalidFormatDescription<'_>>

@@ -67,7 +67,7 @@ time_mark name left kind bytes =
     rows_mark name left (rows_after time_piece time_rows kind) (unwrap_or (byte 84 bytes) bytes)
 
 -- how many bytes are left at the start of the component of that name, in an offset that follows the time and leaves
--- `left` bytes, or else in the time, which may follow a part of that kind; `otherwise` if there is no time
+-- `left` bytes, or else in the time, after a part of that kind; none if neither has it; `otherwise` without a time
 abbrev pub from_time : List ℕ → ℕ → ExtendedKind → List ℕ → Option (Found TimeNumbers) → Option ℕ → Option ℕ
 from_time name left kind bytes None otherwise = otherwise
 from_time name left kind bytes (Some t) otherwise =

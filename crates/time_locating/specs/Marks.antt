@@ -94,7 +94,7 @@ MarksPlaces {P} {N} A expected_from fault name (p ∷ ps) n bytes mark =
     × (((is_place_of name (fault p) bytes mid ≡ true) × (mark ≡ Some (length (expected_from p bytes))))
     ⊎ ((is_place_of name (fault p) bytes mid ≡ false) × MarksPlaces A expected_from fault name ps k mid mark))
 
--- How many bytes are left where the text of that name begins, or none if no place has it or they don't all match.
+-- How many bytes are left where the text of that name begins; none if it is empty or absent, or a place doesn't match.
 abbrev pub MarksText :
     {P N : Type 0} → Format P N → Beginning P → (P → Refusal) → List P → N → List ℕ → List ℕ → Option ℕ → Type 0
 MarksText {P} {N} A expected_from fault ps start name bytes mark =

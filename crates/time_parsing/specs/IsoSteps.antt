@@ -11,8 +11,8 @@ use Rattle.time_readers.specs.declared.iso8601.ExtendedKind.TheVariants.{Unknown
 use Rattle.time_record.specs.Record.{Record}
 use Rattle.time_parsing.specs.Iso8601.{date_over, time_over, offset_over}
 
--- the reading of an offset after a part of that kind, without the kind after the offset, which is the last part; none
--- if no offset matches, or a number is out of its range
+-- the reading of an offset with that kind before it, known or not, without the kind after it, since it is the last
+-- part; none if no offset matches, or a number is out of its range
 abbrev pub after_offset : ℕ → ExtendedKind → List ℕ → Record → Option (List ℕ × Record)
 after_offset Y kind bytes r = option_map (λ o. (o.rest, o.value)) (offset_over Y kind bytes r)
 

@@ -50,7 +50,7 @@ quoted_pair = char "\\" then one_of is_quotable
 abbrev pub content : Reader → Reader
 content inner = one_of is_text or quoted_pair or inner
 
--- comment (section 3.2.3) after its `(`: ccontent with optional FWS around it, and `)`
+-- comment (section 3.2.3) after its `(`: any number of FWS and ccontent, in any order, and `)`
 unfoldable pub comment_end : Reader → Reader
 comment_end inner = zero_or_more fws then zero_or_more (content inner then zero_or_more fws) then char ")"
 

@@ -47,7 +47,7 @@ abbrev pub year_blanks : Bool → Reader
 year_blanks true = fws
 year_blanks false = cfws
 
--- nothing if there is no colon; or a colon with optional blanks around it and two digits, 0 to 60 if ranges are checked
+-- nothing without a colon; or a colon between optional blanks and comments, and two digits, 0 to 60 if checked
 abbrev pub IsSecond : Bool → Form (Option ℕ)
 IsSecond check_ranges text after None = (text ≡ []) × (opt_cfws_colon_opt_cfws after ≡ None)
 IsSecond check_ranges text after (Some v) =
@@ -79,7 +79,7 @@ IsOffsetMinute check_ranges (Some sign) n text after m =
     × (m ≡ record n { offset_minute = signed_by (is_negative sign) (pos v) })
 
 -- The text of each place and its value: its form, and its range if ranges are checked. The year stores whether it has
--- four digits, and the hour of the offset whether it has a sign, since the next place depends on it.
+-- four digits, and the hour of the offset its sign, or `None` for a zone name, since the next place depends on it.
 abbrev pub PlaceSyntax : Bool → Format Place Numbers
 PlaceSyntax check_ranges WeekdayName n text after m =
     (v : Option Weekday) × IsWeekdayPart text after v × (m ≡ record n { weekday = v })

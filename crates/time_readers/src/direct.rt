@@ -20,7 +20,7 @@ use time_values::{Date, Month, OffsetDateTime, Time, UtcOffset};
 ///
 /// Most ranges aren't checked yet: apart from its sign, a number of two digits may be up to 99. The month isn't 0.
 ///
-/// No parser returns it. It is public because laws compare these parsers with a parse over a `Parsed` record.
+/// No parser returns it. It is public for `pelzaune_ffi`, and for laws that compare parses over a `Parsed` record.
 #[derive(Clone, Copy, Debug)]
 pub struct MomentNumbers {
     /// The year, 0 to 9999.
@@ -50,10 +50,10 @@ pub struct MomentNumbers {
 ///
 /// # Errors
 ///
-/// In this order: the error of the first place that doesn't match, by [`rfc3339::place_fault`]; a `ComponentRange` of
-/// `minutes`, for an offset's minute above 59; unexpected trailing characters; a `ComponentRange` of the first of
-/// `month`, `day` (conditional), `hour`, `minute` and `second` that is out of range; and a conditional one of `second`
-/// if a leap second isn't the last second of a month in UTC.
+/// In this order: the error of the first place that doesn't match, by [`rfc3339::place_fault`], as a month `00` or an
+/// offset's hour above 23; a `ComponentRange` of `minutes`, for an offset's minute above 59; unexpected trailing
+/// characters; a `ComponentRange` of the first of `month`, `day` (conditional), `hour`, `minute` and `second` that is
+/// out of range; and a conditional one of `second` if a leap second isn't the last second of a month in UTC.
 pub fn rfc3339(input: &[u8]) -> Result<OffsetDateTime, Parse>
     ensures { DirectRfc3339 greatest_year input.now result }
 {

@@ -135,8 +135,8 @@ fn to_day<'a, const CHECK_RANGES: bool>(
     grammar::day::<CHECK_RANGES>(rest, numbers).ok_or(Place::Day)
 }
 
-// Parses optional blanks, and then nothing, or a weekday's first three letters, a comma and optional blanks. Stores the
-// weekday, or `None`. Returns the rest, or `None` for a name without a comma.
+// Parses optional blanks and comments, and then nothing, or a weekday's first three letters in any case, a comma and
+// optional blanks and comments. Stores the weekday, or `None`. Returns the rest, or `None` for a name without a comma.
 #[inline(always)]
 fn weekday_name<'a>(input: &'a [u8], numbers: &mut Numbers) -> Option<&'a [u8]>
     ensures { Reads (PlaceSyntax false place.WeekdayName numbers.old) input.now result numbers.new }
@@ -254,8 +254,8 @@ pub fn fws(input: &[u8]) -> Option<ParsedItem<'_, ()>>
 ///
 /// A comment is in parentheses. It contains ASCII bytes other than NUL, CR, LF, parentheses and a backslash; pairs of a
 /// backslash and an ASCII byte other than NUL, CR and LF; blanks by [`fws`]; and comments, nested 31 deep at most,
-/// counting the outermost. A comment of another form isn't parsed. Returns the rest after the last blank or comment, or
-/// `None` if the input begins with neither a comment of this form nor blanks that [`fws`] accepts.
+/// counting the outermost. A comment of another form isn't parsed. Returns the rest after the last parsed blank or
+/// comment, or `None` if the input begins with neither a comment of this form nor blanks that [`fws`] accepts.
 #[inline(always)]
 pub fn cfws(input: &[u8]) -> Option<ParsedItem<'_, ()>>
     ensures { option_map (λ p. p.0.now) result ≡ spec.cfws input.now }

@@ -137,7 +137,7 @@ abbrev mutual
   unmarked_all none = none
   unmarked_all (more t ts) = more (unmarked t) (unmarked_all ts)
 
--- ---- How many items a reading visits, and how many there are. `Y` is the greatest year.
+-- ---- How many items an attempt to read a tree visits, and how many there are. `Y` is the greatest year.
 
 -- the number of nodes of a tree, itself included
 abbrev mutual

@@ -171,21 +171,21 @@ IsTimed r result = MatchOption (clock_of r) (result ≡ Err insufficient)
 abbrev pub offset_part : Record → Option ℤ → ℤ
 offset_part r part = unwrap_or (option_map (signed_by r.offset_is_negative) part) (pos 0)
 
--- the seconds of an offset, or 0 if they or its minutes are missing
+-- an offset's seconds, negated if the flag of a negative offset is set, or 0 if they or its minutes are missing
 abbrev pub offset_seconds_of : Record → ℤ
 offset_seconds_of r = option_map_or (λ _. offset_part r r.offset_second) r.offset_minute (pos 0)
 
--- the offset of a record's hour, minutes and seconds; without an hour, the result satisfies `Missing`
+-- the offset of a record's `offset_hour`, minutes and seconds; without an `offset_hour`, the result satisfies `Missing`
 abbrev pub IsOffsetOr : (Result UtcOffset Refusal → Type 0) → Record → Result UtcOffset Refusal → Type 0
 IsOffsetOr Missing r result = MatchOption r.offset_hour (Missing result)
     (λ h. let m = offset_part r r.offset_minute in let s = offset_seconds_of r in
     IsConstructed (offset_refusal h m s) (HasOffset h m s) result)
 
--- the offset of a record; without an hour the error is insufficient information
+-- the offset of a record; without an `offset_hour` the error is insufficient information
 unfoldable pub IsOffset : Record → Result UtcOffset Refusal → Type 0
 IsOffset r = IsOffsetOr (λ result. result ≡ Err insufficient) r
 
--- the offset of a record; without an hour it is UTC
+-- the offset of a record; without an `offset_hour` it is UTC
 unfoldable pub IsOffsetOrUtc : Record → Result UtcOffset Refusal → Type 0
 IsOffsetOrUtc r = IsOffsetOr (λ result. IsOkAnd result IsUtc) r
 
@@ -222,8 +222,8 @@ IsMomentOfParts Y r = Then (IsDated Y r) (λ d. Then (IsTimed (replace_leap_seco
     (λ o. Judged (is_leap_second r) (IsLeapSecondMoment Y (instant Y d t o))
     (λ v. (offset_date v ≡ d) × (offset_time v ≡ t) × (offset_of v ≡ o)))))
 
--- the moment of a record with its offset: that of its timestamp, in UTC, with the record's subsecond if there is one,
--- or else of its parts
+-- the moment of a record with its offset: that of its timestamp, in UTC, with the record's subsecond if there is one;
+-- without a timestamp, that of its parts
 unfoldable pub IsMoment : ℕ → Record → Result OffsetDateTime Refusal → Type 0
 IsMoment Y r result = MatchOption r.unix_timestamp_nanos (IsMomentOfParts Y r result)
     (λ n. IsOkAnd result
@@ -243,8 +243,8 @@ IsUtcMomentOfParts Y r = Then (IsDated Y r) (λ d. Then (IsTimed (replace_leap_s
     (λ u. Judged (is_leap_second r) (IsLastNanosecondOfMonth (utc_date u) (utc_time u))
     (λ v. (utc_date v ≡ utc_date u) × (utc_time v ≡ utc_time u))))))
 
--- the moment of a record in UTC: that of its timestamp, with the record's subsecond if there is one, or else of its
--- parts
+-- the moment of a record in UTC: that of its timestamp, with the record's subsecond if there is one; without a
+-- timestamp, that of its parts
 unfoldable pub IsUtcMoment : ℕ → Record → Result UtcDateTime Refusal → Type 0
 IsUtcMoment Y r result = MatchOption r.unix_timestamp_nanos (IsUtcMomentOfParts Y r result)
     (λ n. IsOkAnd result (λ v. IsStamped Y n r.subsecond (utc_date v) (utc_time v)))

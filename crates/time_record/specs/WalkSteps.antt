@@ -43,7 +43,7 @@ Attempts Y t bytes r None r' = Unread Y t bytes r r'
 
 -- ---- The results of the walk's fast paths. `Y` is the greatest year.
 
--- the rest and the record of a reading; or, for `None`, the fast path doesn't apply, and the record is unchanged
+-- the rest and the record of a reading; or `None` and the unchanged record, whether or not the tree has a reading
 abbrev pub MayRead : ℕ → Tree → List ℕ → Record → Option (Bor (List ℕ)) → Record → Type 0
 MayRead Y t bytes r (Some rest) r' = Reads Y t bytes r rest.now r'
 MayRead Y t bytes r None r' = r' ≡ r

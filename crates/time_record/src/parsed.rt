@@ -77,9 +77,9 @@ impl Parsed {
         }
     }
 
-    /// Allows a second of 60 as a leap second. Conversions to `OffsetDateTime`, `UtcDateTime` and `Timestamp` then
-    /// replace it by the last nanosecond before it, or fail if that doesn't end a month in UTC. Conversions to `Time`
-    /// and `PlainDateTime` always reject it. Setting and parsing a second of 60 needs no permission.
+    /// Allows a second of 60 as a leap second. If no timestamp is set, conversions to `OffsetDateTime`, `UtcDateTime`
+    /// and `Timestamp` then replace it by the last nanosecond before it, or fail if that doesn't end a month in UTC.
+    /// Conversions to `Time` and `PlainDateTime` always reject it. Setting and parsing a 60 needs no permission.
     #[inline]
     pub fn allow_leap_second(&mut self)
         ensures { self.new ≡ record self.old { leap_second_allowed = true } }
@@ -95,7 +95,7 @@ impl Parsed {
         self.flag(LEAP_SECOND_ALLOWED)
     }
 
-    /// Clears the flag of a negative offset. Parsing an offset's hour sets it if the hour has a minus, and else clears
+    /// Clears the flag of a negative offset. Parsing an `OffsetHour` sets it if the hour has a minus, and else clears
     /// it; setters don't change it. While it is set, `offset_minute_signed` and `offset_second_signed` return the
     /// stored numbers negated. This call leaves the stored components unchanged.
     #[inline]

@@ -58,8 +58,8 @@ pub fn configured_date<'a>(description: &'a str, text: &str) -> Result<Date, NoD
     }
 }
 
-/// The start of a calendar's event, a whole text in ISO 8601 such as `20210102T030405Z`, converted to UTC. A text
-/// without an offset is in UTC. An error if the text has no valid date and time, or its date in UTC is out of range.
+/// The start of a calendar's event, a whole ISO 8601 text such as `20210102T030405Z`, converted to UTC. A text without
+/// an offset is in UTC. An error if the text doesn't match, has no valid date and time, or no date in UTC in range.
 pub fn event_start(start: &str) -> Result<UtcDateTime, Parse>
     ensures { IsOutcome (IsUtcMoment greatest_year) (iso8601.Reads greatest_year) (iso8601.Refuses greatest_year)
         start.now empty (seen result) }
@@ -68,7 +68,7 @@ pub fn event_start(start: &str) -> Result<UtcDateTime, Parse>
 }
 
 /// The time of day of a whole text in ISO 8601. A date and an offset are dropped. The text `03.33`, an hour with a
-/// fraction, is exactly 03:19:48. An error if the text has no valid time.
+/// fraction, is exactly 03:19:48. An error if the text doesn't match, or has no valid time.
 pub fn time_of_day(text: &str) -> Result<Time, Parse>
     ensures { IsOutcome IsTimed (iso8601.Reads greatest_year) (iso8601.Refuses greatest_year)
         text.now empty (seen result) }
@@ -76,8 +76,8 @@ pub fn time_of_day(text: &str) -> Result<Time, Parse>
     Time::parse(text, &Iso8601)
 }
 
-/// The date of a whole text by the format. `year` (ignored unless from -999999 to 999999) is the year of a text without
-/// a full year, even with a century and two digits. An error if the text doesn't match, or gives no valid date.
+/// The date of a whole text by the format. `year` (ignored unless from -999999 to 999999) is the calendar year of a
+/// text without a full one, even with a century and two digits. An error if it doesn't match, or gives no valid date.
 pub fn date_in<F: Parsable>(year: i32, text: &[u8], format: &F) -> Result<Date, Parse>
     ensures { IsOutcome (IsDated greatest_year) (F.reads format.now) (F.refuses format.now) text.now
         (begun (put greatest_year (year_is year) empty)) (seen result) }

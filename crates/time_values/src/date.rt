@@ -288,7 +288,7 @@ fn days_before_month(year: i32, month: u16) -> u16
     if month <= 2 {
         31 * (month - 1)
     } else {
-        // From March on, any five months in a row have 153 days.
+        // From March to December, any five months in a row have 153 days.
         (153 * month - 457) / 5 + 59 + leap_day(year)
     }
 }

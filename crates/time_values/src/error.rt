@@ -161,7 +161,7 @@ impl TryFrom<TryFromParsed> for ComponentRange {
 pub enum Parse {
     /// The text was read, but its components don't make a value.
     TryFromParsed(TryFromParsed),
-    /// A literal is missing, a component could not be read, or bytes are left over.
+    /// A literal is missing, a component could not be read or is out of its range, or bytes are left over.
     ParseFromDescription(ParseFromDescription),
 }
 

@@ -11,8 +11,8 @@ use crate::days::is_leap_year;
 use crate::error::ComponentRange;
 use std::num::NonZero;
 
-// From January on, first what `days_from_march` returns for each month: the days from 1 March to the month's first
-// day, less 365998494. Then what `march_years` returns. Both are in one table, so that its address is loaded once.
+// The days of `days_from_march` for each month from January on, and then what `march_years` returns: in one table, so
+// that its address is loaded once. 365998494 is subtracted from the days, so that `days_since_1970` is 0 on 1970-01-01.
 static MARCH: [i64; 24] = [
     -365_998_188,
     -365_998_157,

@@ -5,7 +5,7 @@ ghost use Rattle.time_values.specs.DisplayTexts.{Items};
 use std::marker::Model;
 use std::{fmt, str};
 
-/// A text of at most 35 bytes; the longest written is an RFC 3339 date-time with nine fraction digits and an offset.
+/// A text of at most 35 bytes: enough for an RFC 3339 date-time with nine fraction digits and an offset.
 #[derive(Drop)]
 pub struct Text {
     array: [u8; 35],

@@ -1,5 +1,5 @@
--- The suffix that RFC 9557, section 4.1, appends to a timestamp of RFC 3339. Each definition has the rule of its
--- grammar.
+-- The suffix that RFC 9557, section 4.1, appends to a timestamp of RFC 3339: its grammar, whose rules the comments
+-- name, and the check of a suffix against a moment.
 use Rattle.std.specs.Prelude.{◌≡◌, ◌≢◌, ◌⊎◌, ℕ, ◌+◌, ◌*◌, ◌/◌, ◌%◌, ◌<◌, ◌≤◌, Bool, true, false, ◌||◌, ◌==◌, IsTrue, List, [], ◌∷◌, ◌++◌, length, take, All, Option, Some, None, if◌then◌else◌, codes, pos, neg_ℤ, option_map, ℤ, MatchBool, MatchOption, Result, Ok, Err}
 use Rattle.std.specs.Char.{is_ascii_alphabetic, is_ascii_alphanumeric, is_ascii_digit, is_ascii_lowercase}
 use Rattle.std.specs.List.{AllPass, slice_split}

@@ -120,8 +120,8 @@ suffix_fault_text Suffix.OutsideZoneRange = codes "the time is outside the range
 
 -- the message for a zone that wasn't found; none if it isn't specified, since it contains a message of a library
 abbrev pub fault_text : ZoneFault → Option (List ℕ)
-fault_text Fault.NotAName = Some (codes "the name of a time zone has no `.` or `..` and no slash at an end")
-fault_text Fault.NotText = Some (codes "the variable of the time zone is not UTF-8")
+fault_text Fault.NotAName = Some (codes "a part of the name of a time zone is empty, `.` or `..`")
+fault_text Fault.NotText = Some (codes "the variable `TZ` or `TZDIR` is not UTF-8")
 fault_text (Fault.Unknown path) = Some (codes "there is no time zone file " ++ string_bytes path)
 fault_text Fault.Folder = Some (codes "the name is that of a folder of time zones")
 fault_text (Fault.Unreadable kind) = None

@@ -48,7 +48,7 @@ fn fault_from(error: io::Error) -> ReadFault {
     }
 }
 
-// The bytes of the file, or `FileTooLarge` above `MOST_BYTES`. Reads at most one byte more: a device might never end.
+// The bytes of the file, or `FileTooLarge` above `MOST_BYTES`. Reads at most one byte more, however long the file is.
 fn read_whole<R: Files + AllocGlobal>(rt: &R, path: &str) -> io::Result<Vec<u8>> {
     let mut bytes = Vec::new(rt.alloc());
     let mut file = fs::open(rt, path)?.take(MOST_BYTES + 1);

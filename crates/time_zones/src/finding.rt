@@ -181,8 +181,8 @@ fn find_on_disk<R: Env + Files + AllocGlobal>(
 /// The zone of that name: an IANA name such as `Europe/Berlin` in the folder that `TZDIR` names, or in
 /// /usr/share/zoneinfo if it is unset or empty; `UTC`; or `local`, which is the zone that `TZ` specifies, or
 /// /etc/localtime if it is unset. `TZ` has a name or an absolute path, with or without a colon before it, or a rule
-/// such as `CET-1CEST,M3.5.0,M10.5.0/3`; an empty `TZ` is UTC. Reads at most one file, `TZ` only for `local`, and
-/// `TZDIR` only for a name in the folder. [`ZoneFault`] describes the errors.
+/// such as `CET-1CEST,M3.5.0,M10.5.0/3`, which precedes a file of that name; an empty `TZ` is UTC. Reads at most one
+/// file, `TZ` only for `local`, and `TZDIR` only for a name in the folder. [`ZoneFault`] describes the errors.
 pub fn find_zone<R: Env + Files + AllocGlobal>(rt: &R, name: &str) -> Result<NamedZone, ZoneFault>
     ensures utc { name.now ≡ codes "UTC" → result ≡ Ok NamedZone.Utc }
     ensures refused { name.now ≢ codes "local" → ((result ≡ Err ZoneFault.NotAName)

@@ -46,9 +46,9 @@ impl fmt::Display for ZoneFault {
     fn fmt<W: fmt::Write>(&self, f: &mut fmt::Formatter<W>) -> fmt::Result {
         match self {
             ZoneFault::NotAName => f.write_str(
-                "the name of a time zone has no `.` or `..` and no slash at an end",
+                "a part of the name of a time zone is empty, `.` or `..`",
             ),
-            ZoneFault::NotText => f.write_str("the variable of the time zone is not UTF-8"),
+            ZoneFault::NotText => f.write_str("the variable `TZ` or `TZDIR` is not UTF-8"),
             ZoneFault::Unknown { path } => write!(f, "there is no time zone file {path}"),
             ZoneFault::Folder => f.write_str("the name is that of a folder of time zones"),
             ZoneFault::Unreadable(kind) => write!(f, "the time zone file cannot be read: {kind}"),

@@ -1,4 +1,4 @@
-//! Zones by their names, each read once.
+//! A map from names to zones, and calls that fill it from the files of a folder.
 ghost use Rattle.std.specs.Prelude.{◌≡◌, ℕ, List, map, Some, None, codes, IfOk, IfErr, OnOk, OnErr, IsOkUnless};
 ghost use Rattle.time_zones.specs.Finding.{zone_named, SameNamed, IsInserted, IsZoneIfAny, AddsFound, AreZonesOf, IsFolderFault};
 ghost use Rattle.time_zones.specs.declared.finding.NamedZone.TheVariants as Named;

@@ -124,7 +124,7 @@ mod tests {
         bytes
     }
 
-    // Whether `join_word` of `n` bytes rejects `DIGITS` shortened to any count below `n`.
+    // Whether `join_word` of `n` bytes rejects `DIGITS` shortened to `count` bytes, for every `count` below `n`.
     fn is_refused_short(n: u8) -> bool {
         let mut all_refused = true;
         for count in 0..n {

@@ -98,8 +98,8 @@ fn time_mark(kind: ExtendedKind, left: usize, input: &[u8], name: &str) -> Optio
 }
 
 // The mark (how many bytes are left at its start) of the component of this name, in an offset that follows a time and
-// leaves `left` bytes, or else in the time. `otherwise` if no time of that kind, whose `T` is required if `needs_t`,
-// matches.
+// leaves `left` bytes, or else in the time. `None` if neither has the component. `otherwise` if no time of that kind,
+// whose `T` is required if `needs_t`, matches.
 fn mark_from_time(
     needs_t: bool,
     kind: ExtendedKind,

@@ -107,7 +107,7 @@ fn parts(input: &[u8]) -> Option<DateAndTime<'_>>
 }
 
 /// The ISO 8601 offset that is the whole input: `Z`, or a sign, an hour and an optional minute. `kind` is the kind of
-/// the text before the offset. `None` if the input isn't an offset, or the hour is above 25 or the minute above 59.
+/// the text before it: a basic text allows no colon. `None` for other input, an hour above 25 or a minute above 59.
 #[inline(always)]
 pub fn offset_to_the_end(input: &[u8], kind: ExtendedKind) -> Option<UtcOffset>
     ensures { IfSome result (λ o. (n : OffsetNumbers_) × (offset_found kind input.now ≡ Some ([], n)) × IsOffsetOfNumbers n o) }

@@ -25,8 +25,8 @@ pub(super) fn date<const N: usize>(format: &Prepared<N>, input: &[u8]) -> Option
     fast::date(format.whole(), input)
 }
 
-/// The time of a whole text. `None`: the description's form isn't `Whole::Time` or `Whole::Half`, the text isn't such a
-/// time, its second is 60, or its fraction has more than nine digits.
+/// The time of a whole text. `None`: the form isn't `Whole::Time` or `Whole::Half`, the text isn't such a time, its
+/// second is 60, its fraction has over nine digits, or the byte before AM or PM could there begin a second or fraction.
 #[inline(always)]
 pub(super) fn time<const N: usize>(format: &Prepared<N>, input: &[u8]) -> Option<Time>
     ensures { IfSome result (λ v. IsOutcome IsTimed (Reads greatest_year (steps_shape format.now))

@@ -190,8 +190,8 @@ fn time_form(steps: &[Step]) -> Option<u8>
     }
 }
 
-// A date of that form at the front of the input, and the rest. `None` if there is none, or if it is no date of the
-// calendar.
+// A date of that form at the front of the input, with a year of four digits and no sign, and the rest. `None` if there
+// is none, or if it is no date of the calendar.
 #[inline(always)]
 fn date_of<'a>(form: &Dated, input: &'a [u8]) -> Option<(Date, &'a [u8])>
     ensures { IfSome result (λ f. (r : Record) → ReadsAll greatest_year (leaves (dated_parts form.now))
@@ -262,7 +262,7 @@ pub(crate) fn date(whole: &Whole, input: &[u8]) -> Option<Date>
 }
 
 /// The time of a whole text. `None` if the form isn't `Whole::Time` or `Whole::Half`, the text isn't such a time, its
-/// second is 60, or its fraction has more than nine digits.
+/// second is 60, its fraction has over nine digits, or the byte before AM or PM could there begin a second or fraction.
 #[inline(always)]
 pub(crate) fn time(whole: &Whole, input: &[u8]) -> Option<Time>
     ensures { IfSome result (λ v. ReadsWhole whole.now input.now (λ r. IsTimed r (Ok v))) }

@@ -87,8 +87,8 @@ fn after_year(
     }
 }
 
-// Parses a month of 01 to 12 and a day of 01 to 99 after that year, with `-` between them if `is_extended`. The error
-// is that of the first piece that doesn't match: `month`, an invalid literal, or `day`.
+// Parses a month of 01 to 12 and a day of 01 to 99, with `-` between the two if `is_extended`. What precedes the month
+// is parsed before. The error is that of the first piece that doesn't match: `month`, an invalid literal, or `day`.
 #[inline(always)]
 fn month_and_day(
     input: &[u8],
@@ -109,8 +109,8 @@ fn month_and_day(
     Ok(ParsedItem(day.0, DateNumbers::Calendar(year, month.1, day.1)))
 }
 
-// Parses a week of 01 to 99 and a weekday of 1 to 7 after that year and a `W`, with `-` between them if `is_extended`.
-// The error is that of the first piece that doesn't match: `week`, an invalid literal, or `weekday`.
+// Parses a week of 01 to 99 and a weekday of 1 to 7, with `-` between the two if `is_extended`. The year and `W` are
+// parsed before. The error is that of the first piece that doesn't match: `week`, an invalid literal, or `weekday`.
 fn week_and_weekday(
     input: &[u8],
     year: i32,
@@ -236,7 +236,7 @@ pub fn round_fraction(digits: &[u8], unit: u64) -> u64
     requires most { unit ≤ 3_600_000_000_000 }
     ensures { IsRounded digits.now unit result }
 {
-    // Rounding half up is the floor of twice the fraction, plus one, halved.
+    // The fraction, rounded half up, is half of this sum, truncated: the floor of twice the fraction, plus one.
     (carried(digits, 2 * unit) + 1) / 2
 }
 

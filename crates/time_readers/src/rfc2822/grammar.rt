@@ -17,8 +17,8 @@ use crate::rfc2822::{Numbers, Place, cfws, fws, opt_cfws, opt_cfws_colon_opt_cfw
 use crate::{ParsedItem, modifier};
 use time_values::sign::signed;
 
-// Parses optional blanks, and then nothing, or the first three letters of a weekday's name in any case, a comma and
-// optional blanks. Stores the weekday, or `None`. Returns `None` for a name without a comma.
+// Parses optional blanks and comments, and then nothing, or a weekday's first three letters in any case, a comma and
+// optional blanks and comments. Stores the weekday, or `None`. Returns `None` for a name without a comma.
 #[inline(always)]
 pub(super) fn weekday_name<'a>(input: &'a [u8], numbers: &mut Numbers) -> Option<&'a [u8]>
     ensures { Reads (PlaceSyntax false place.WeekdayName numbers.old) input.now result numbers.new }
@@ -202,8 +202,8 @@ fn minute<'a, const CHECK_RANGES: bool>(input: &'a [u8], numbers: &mut Numbers) 
     Some(found.0)
 }
 
-// Parses nothing if there is no colon, and stores `None`; or a colon with optional blanks and two digits, and stores
-// the second: 0 to 60 with range checks, else 0 to 99. Returns `None` for a colon without such digits.
+// Parses nothing if there is no colon, and stores `None`; or a colon between optional blanks and comments, and two
+// digits, and stores the second: 0 to 60 with range checks, else 0 to 99. `None` for a colon without such digits.
 #[inline(always)]
 fn second<'a, const CHECK_RANGES: bool>(input: &'a [u8], numbers: &mut Numbers) -> Option<&'a [u8]>
     ensures { Reads (PlaceSyntax CHECK_RANGES place.Second numbers.old) input.now result numbers.new }

@@ -187,7 +187,7 @@ impl Parsed {
 
     /// Sets the whole hours of the offset from UTC, from -25 to 25. `None` if out of range.
     ///
-    /// Doesn't change the flag of a negative offset, which parsing an offset's hour with a minus sets. While it is set,
+    /// Doesn't change the flag of a negative offset, which parsing an `OffsetHour` with a minus sets. While it is set,
     /// `offset_minute_signed` and `offset_second_signed` return the stored numbers negated, whatever the sign of this
     /// value; `forget_offset_sign` clears the flag.
     #[inline]
@@ -199,7 +199,7 @@ impl Parsed {
     }
 
     /// Sets the minutes of the offset from UTC to a number from 0 to 59. `None` if out of range. While the flag of a
-    /// negative offset (a parsed minus) is set, `offset_minute_signed` returns the number negated.
+    /// negative offset (`OffsetHour`'s minus) is set, `offset_minute_signed` returns the number negated.
     #[deprecated(note = "`with_offset_minute_signed` takes a sign")]
     #[inline]
     pub fn with_offset_minute(mut self, value: u8) -> Option<Parsed>
@@ -210,7 +210,7 @@ impl Parsed {
     }
 
     /// Sets the minutes of the offset from UTC, from -59 to 59. `None` if out of range. While the flag of a negative
-    /// offset (a parsed minus) is set, `offset_minute_signed` returns the number negated.
+    /// offset (`OffsetHour`'s minus) is set, `offset_minute_signed` returns the number negated.
     #[inline]
     pub fn with_offset_minute_signed(mut self, value: i8) -> Option<Parsed>
         ensures { result ≡ put greatest_year (offset_minute_is value) self }
@@ -220,7 +220,7 @@ impl Parsed {
     }
 
     /// Sets the seconds of the offset from UTC to a number from 0 to 59. `None` if out of range. While the flag of a
-    /// negative offset (a parsed minus) is set, `offset_second_signed` returns the number negated.
+    /// negative offset (`OffsetHour`'s minus) is set, `offset_second_signed` returns the number negated.
     #[deprecated(note = "`with_offset_second_signed` takes a sign")]
     #[inline]
     pub fn with_offset_second(mut self, value: u8) -> Option<Parsed>
@@ -231,7 +231,7 @@ impl Parsed {
     }
 
     /// Sets the seconds of the offset from UTC, from -59 to 59. `None` if out of range. While the flag of a negative
-    /// offset (a parsed minus) is set, `offset_second_signed` returns the number negated.
+    /// offset (`OffsetHour`'s minus) is set, `offset_second_signed` returns the number negated.
     #[inline]
     pub fn with_offset_second_signed(mut self, value: i8) -> Option<Parsed>
         ensures { result ≡ put greatest_year (offset_second_is value) self }

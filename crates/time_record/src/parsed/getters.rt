@@ -239,8 +239,8 @@ impl Parsed {
         }
     }
 
-    /// The minutes of the offset from UTC, from -59 to 59: the stored number, negated if the offset's hour was last
-    /// parsed with a minus and `forget_offset_sign` wasn't called since. `None` if not set.
+    /// The minutes of the offset from UTC, from -59 to 59: the stored number, negated while the flag of a negative
+    /// offset is set (see `forget_offset_sign`). `None` if the offset's minutes aren't set.
     #[inline]
     pub fn offset_minute_signed(&self) -> Option<i8>
         ensures value { result ≡ option_map (signed_by self.now.offset_is_negative)
@@ -268,8 +268,8 @@ impl Parsed {
         }
     }
 
-    /// The seconds of the offset from UTC, from -59 to 59: the stored number, negated if the offset's hour was last
-    /// parsed with a minus and `forget_offset_sign` wasn't called since. `None` if not set.
+    /// The seconds of the offset from UTC, from -59 to 59: the stored number, negated while the flag of a negative
+    /// offset is set (see `forget_offset_sign`). `None` if the offset's seconds aren't set.
     #[inline]
     pub fn offset_second_signed(&self) -> Option<i8>
         ensures value { result ≡ option_map (signed_by self.now.offset_is_negative)

@@ -263,7 +263,7 @@ impl Parsed {
     /// Sets the whole hours of the offset from UTC, from -25 to 25. If out of range, returns `None` and changes
     /// nothing.
     ///
-    /// Doesn't change the flag of a negative offset, which parsing an offset's hour with a minus sets. While it is set,
+    /// Doesn't change the flag of a negative offset, which parsing an `OffsetHour` with a minus sets. While it is set,
     /// `offset_minute_signed` and `offset_second_signed` return the stored numbers negated, whatever the sign of this
     /// value; `forget_offset_sign` clears the flag.
     #[inline]
@@ -279,7 +279,7 @@ impl Parsed {
     }
 
     /// Sets the minutes of the offset from UTC, from 0 to 59. If out of range, returns `None` and changes nothing.
-    /// While the flag of a negative offset (a parsed minus) is set, `offset_minute_signed` returns the number negated.
+    /// While the flag of a negative offset (`OffsetHour`'s minus) is set, `offset_minute_signed` returns them negated.
     #[deprecated(note = "`set_offset_minute_signed` takes a sign")]
     #[inline]
     pub fn set_offset_minute(&mut self, value: u8) -> Option<()>
@@ -293,7 +293,7 @@ impl Parsed {
     }
 
     /// Sets the minutes of the offset from UTC, from -59 to 59. If out of range, returns `None` and changes nothing.
-    /// While the flag of a negative offset (a parsed minus) is set, `offset_minute_signed` returns the number negated.
+    /// While the flag of a negative offset (`OffsetHour`'s minus) is set, `offset_minute_signed` returns them negated.
     #[inline]
     pub fn set_offset_minute_signed(&mut self, value: i8) -> Option<()>
         ensures { Sets (put greatest_year (offset_minute_is value) self.old)
@@ -307,7 +307,7 @@ impl Parsed {
     }
 
     /// Sets the seconds of the offset from UTC, from 0 to 59. If out of range, returns `None` and changes nothing.
-    /// While the flag of a negative offset (a parsed minus) is set, `offset_second_signed` returns the number negated.
+    /// While the flag of a negative offset (`OffsetHour`'s minus) is set, `offset_second_signed` returns them negated.
     #[deprecated(note = "`set_offset_second_signed` takes a sign")]
     #[inline]
     pub fn set_offset_second(&mut self, value: u8) -> Option<()>
@@ -321,7 +321,7 @@ impl Parsed {
     }
 
     /// Sets the seconds of the offset from UTC, from -59 to 59. If out of range, returns `None` and changes nothing.
-    /// While the flag of a negative offset (a parsed minus) is set, `offset_second_signed` returns the number negated.
+    /// While the flag of a negative offset (`OffsetHour`'s minus) is set, `offset_second_signed` returns them negated.
     #[inline]
     pub fn set_offset_second_signed(&mut self, value: i8) -> Option<()>
         ensures { Sets (put greatest_year (offset_second_is value) self.old)

@@ -21,7 +21,7 @@ const FIRST_SECOND: i64 = -377_705_023_201;
 // The last second of the range of zones, 9999-12-30T22:00:00Z, in seconds since 1970-01-01T00:00:00Z.
 const LAST_SECOND: i64 = 253_402_207_200;
 
-// Half a mean Gregorian year, in seconds: in most zones clocks change twice a year, so rows are about so far apart.
+// Half a mean Gregorian year, in seconds: where clocks change twice a year, rows are about so far apart.
 const HALF_YEAR: i64 = 15_778_476;
 
 // The greatest number of seconds that an offset is ahead of UTC or behind it: 25:59:59.

@@ -69,8 +69,8 @@ pub(super) fn form(steps: &[Step]) -> Option<InHalf>
     }
 }
 
-// The numbers of a time of the form at the front of the input, and the rest. `None` if there is none, if a number is
-// out of range, or if the fraction has more than nine digits. The second may be 60.
+// The numbers of a time of the form at the front, and the rest. A second may be 60. `None`: there is none, a number is
+// out of range, the fraction has over nine digits, or the byte before AM or PM could there begin a second or fraction.
 #[inline(always)]
 fn numbers<'a>(form: &InHalf, input: &'a [u8]) -> Option<(HalfNumbers, &'a [u8])>
     ensures { IfSome result (λ f. (r : Record) → ReadsAll greatest_year (half_trees form.now)
@@ -142,7 +142,7 @@ fn whole(form: &InHalf, input: &[u8]) -> Option<Time>
 }
 
 /// The time of a whole text of the form. `None` if the form isn't `Whole::Half`, the text isn't such a time, its second
-/// is 60, or its fraction has more than nine digits.
+/// is 60, its fraction has over nine digits, or the byte before AM or PM could there begin a second or a fraction.
 #[inline(always)]
 pub(super) fn time(form: &Whole, input: &[u8]) -> Option<Time>
     ensures { IfSome result (λ v. ReadsWhole form.now input.now (λ r. IsTimed r (Ok v))) }

@@ -25,8 +25,8 @@ pub fn date(whole: &Whole, input: &[u8]) -> Option<Date>
 }
 
 /// The time that the form's steps parse from the whole input. `None` if the form isn't [`Whole::Time`] or
-/// [`Whole::Half`], the input isn't such a time, its second is 60, or its fraction has more than nine digits. The steps
-/// may still parse that input.
+/// [`Whole::Half`], the input isn't such a time, its second is 60, its fraction has over nine digits, or the byte
+/// before AM or PM could there begin a second or a fraction. The steps may still parse that input.
 #[inline(always)]
 pub fn time(whole: &Whole, input: &[u8]) -> Option<Time>
     ensures { IfSome result (λ v. IsOutcome IsTimed (Reads greatest_year (steps_shape (whole_parts whole.now)))

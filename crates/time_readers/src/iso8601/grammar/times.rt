@@ -11,7 +11,7 @@ use crate::iso8601::grammar::pieces::{byte, float};
 use crate::iso8601::grammar::{floor_fraction, round_fraction};
 use crate::iso8601::{ExtendedKind, Part, TimeNumbers};
 
-// Parses the time of a text of kind `kind`. Its `T` is optional unless `needs_t`. `None` for any other input.
+// Parses a time after a part of that kind, `hhmm` even after an extended one; its `T` is optional unless `needs_t`.
 #[inline(never)]
 pub(in crate::iso8601) fn time<'a>(
     input: &'a [u8],
@@ -66,8 +66,8 @@ fn after_hour<'a>(input: &'a [u8], kind: ExtendedKind, hour: u8) -> Option<Part<
     }
 }
 
-// Parses the rest of a time after a whole hour that no colon follows: nothing, or a minute and an optional second, with
-// a colon before the second in an extended text. `None` for an invalid minute or second.
+// Parses the rest of a time after a whole hour that no colon follows: nothing; or a minute and, unless that has a
+// fraction, an optional second, with a colon before it in an extended text. `None` for an invalid minute or second.
 #[inline(always)]
 fn minute_without_colon<'a>(
     input: &'a [u8],

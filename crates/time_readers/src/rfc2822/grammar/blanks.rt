@@ -124,7 +124,7 @@ fn comment(input: &[u8]) -> Option<&[u8]>
     Some(rest)
 }
 
-// Parses blanks, or else a comment.
+// Parses blanks, folded over lines or not, or else a comment.
 #[inline]
 fn blanks_or_comment(input: &[u8]) -> Option<&[u8]>
     ensures { option_copied result ≡ (spec.fws or spec.comment 31) input.now }

@@ -20,8 +20,8 @@ pub extern "C" fn pelzaune_missing(needs: u32, format: u32, text: &[u8]) -> u32
     missing_by(needs, format, text)
 }
 
-/// As `pelzaune_missing`, by a description in the syntax with this number: returns 4 plus 256 times the number of the
-/// missing component, 0 for none, or the status of the text's or the description's error, 17 for an unknown syntax.
+/// As `pelzaune_missing`, by a description in this syntax: returns 4 plus 256 times the missing component's number, or
+/// 0 if none is missing; or the status of the text's or the description's error, 17 for an unknown syntax.
 #[unsafe(no_mangle)]
 pub extern "C" fn pelzaune_read_missing(
     needs: u32,
@@ -35,7 +35,7 @@ pub extern "C" fn pelzaune_read_missing(
     missing_read(needs, syntax, description, text)
 }
 
-/// As `pelzaune_missing`, by a stored description: 4 + 256 * a component's number, 0 for none, or an error's status.
+/// As `pelzaune_missing`, by a stored description: 4 + 256 * a component's number; 0 if none is; or an error's status.
 #[unsafe(no_mangle)]
 pub extern "C" fn pelzaune_described_missing(
     needs: u32,

@@ -130,8 +130,8 @@ pub fn missing_by(needs: u32, format: u32, text: &[u8]) -> u32
     }
 }
 
-/// As [`missing_by`], by a description in the syntax with this number: 4 plus 256 times the number of the missing
-/// component, 0 for none, or the status of the text's or the description's error, 17 for an unknown syntax.
+/// As [`missing_by`], by a description in this syntax: 4 plus 256 times the missing component's number, or 0 if none is
+/// missing; or the status of the text's or the description's error, 17 for an unknown syntax.
 #[inline(never)]
 pub fn missing_read(needs: u32, syntax: u32, description: &[u8], text: &[u8]) -> u32
     ensures { StoresByDescription (spec.IsMissing needs) of_record (Described.syntax_of syntax) description.now
@@ -140,7 +140,7 @@ pub fn missing_read(needs: u32, syntax: u32, description: &[u8], text: &[u8]) ->
     by_description!(syntax, description, found => missing(&found, needs, text))
 }
 
-/// As [`missing_by`], by a stored description: 4 + 256 * a component's number, 0 for none, or an error's status.
+/// As [`missing_by`], by a stored description: 4 + 256 * a component's number; 0 if none is missing; an error's status.
 #[inline(never)]
 pub fn missing_stored(needs: u32, description: &StoredDescription, text: &[u8]) -> u32
     ensures { StoresBySteps (spec.IsMissing needs) of_record description.now text.now result tt tt }

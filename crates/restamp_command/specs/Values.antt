@@ -73,8 +73,8 @@ AreUnits number u result =
     × FitsSigned w64 (signed_digits_value 10 number))
     (word.Later (signed_digits_value 10 number) u)
 
--- The meaning of the text after `now`: 0 seconds for no text, or a signed number of units such as `-90m`; `None` for
--- any other text.
+-- The meaning of the text after `now`: 0 seconds for no text, or a signed number of 64 bits, of units such as `-90m`;
+-- `None` for any other text.
 abbrev pub IsShift : List ℕ → Option Word → Type 0
 IsShift [] result = result ≡ Some (word.Later (pos 0) unit.Second)
 IsShift text result =

@@ -7,7 +7,7 @@ ghost use Rattle.restamp_command.specs.Options as spec;
 use clap::ArgMatches;
 
 /// The values of the command line before they are interpreted: whether each flag is given, and the texts of the other
-/// options. A field is `None` if its option isn't given and has no default value.
+/// options. If such an option isn't given, its field is the default value, or `None` if the option has no default.
 #[derive(Clone, Copy)]
 pub struct Options<'m, 'a> {
     /// `--front`.

@@ -101,10 +101,10 @@ impl Restamping<'_> {
 
 /// Processes all lines of the files as requested, one file after the other.
 ///
-/// It logs a file that it can't open or read to its end, and processes the others, so it never returns
-/// [`Stop::Unread`]. It stops at a failed write, and under `--strict` at the first rejected line, unless `--keep-going`
-/// is given: all files and lines before that one are processed. After a failed write it is unknown how many bytes were
-/// written.
+/// It logs a file that it can't open or read to its end, and goes on with the next, so it never returns
+/// [`Stop::Unread`]; lines read before a failed read are processed. It stops at a failed write, and under `--strict` at
+/// the first rejected line, unless `--keep-going` is given: all files and lines before that one are processed. After a
+/// failed write it is unknown how many bytes were written.
 pub fn serve<W: Sink, L: Sink, O: Opening>(
     request: &Request<'_>,
     names: &[&[u8]],

@@ -54,7 +54,7 @@ pub enum Local<'a> {
     Zone(NamedZone, &'a str, Fold),
 }
 
-/// Defaults for the year and the offset that a timestamp omits. They own the zone.
+/// Defaults for the year and the offset that a timestamp omits. They own the zone, if there is one, but not its name.
 #[derive(Drop)]
 pub struct OwnedDefaults<'a> {
     /// The year, if the timestamp has no part of one.

@@ -16,7 +16,7 @@ pub fn law_rewritten_read_back()
 {}
 
 /// If RFC 3339 matches a whole text, and the suffix after it has no critical tag and, if it has a zone, a known one
-/// with the offset of the text (any, for `Z`, `z` or `-00:00`), RFC 9557 matches both together as the same moment.
+/// with the offset of the text (any offset, for `Z`, `z` or `-00:00`), RFC 9557 matches both together as that moment.
 pub fn law_suffixed_read_back()
     ensures { ReadsSuffixedBack }
 {}

@@ -21,8 +21,8 @@ fn moment(day: u8, nanosecond: u32, minutes: i8) -> Option<OffsetDateTime> {
     Some(OffsetDateTime::new_in_offset(date, time, offset))
 }
 
-// Four moments as by `moment`, from `day` on: each is a day and an hour after the one before, or equal to it from day
-// 20 on. `None` if a number is out of range.
+// Four moments as by `moment`, from `day` on: each is a day and an hour after the one before, or equal to it if that is
+// on day 20 or later. `None` if a number is out of range.
 fn moments(day: u8, nanosecond: u32, minutes: i8) -> Option<[OffsetDateTime; 4]> {
     let second = if day < 20 { day + 1 } else { day };
     let third = if second < 20 { second + 1 } else { second };
@@ -125,9 +125,9 @@ fn sum_by_name(name: &[u8], times: u64, day: u8) -> Option<i64> {
 }
 
 /// The wrapping sum over `times` moments: four, from `day` of March 2021 on, in turn (each a day and an hour after the
-/// one before, or equal to it from day 20 on). It adds Unix seconds for `unix`, days of the month for `none`, and else
-/// the last bytes of texts (1 for an error): of RFC 2822 for `mail`, of RFC 3339 for `z`, `auto`, `nine`, `micro`,
-/// `behind` and `exact0`. `None`: no such case, `times` is no `u64`, or `day` isn't from 1 to 23.
+/// one before, or equal to it if that is on day 20 or later). It adds Unix seconds for `unix`, days of the month for
+/// `none`, and else the last bytes of texts (1 for an error): of RFC 2822 for `mail`, of RFC 3339 for `z`, `auto`,
+/// `nine`, `micro`, `behind` and `exact0`. `None`: no such case, `times` is no `u64`, or `day` isn't from 1 to 23.
 pub fn sum_of(case: &str, times: &str, day: &str) -> Option<i64> {
     let times = times.parse::<u64>().ok()?;
     let day = day.parse::<u8>().ok()?;

@@ -105,7 +105,7 @@ OneOutcome = (n : ℕ) (version : Version) (text : List ℕ) (r : Refusal) → I
     → ((s : Refusal) → IsRefused n version text s → r ≡ s)
     × ((tree : Tree) → Describes version text tree → StartsAtMost n version text → ⊥)
 
--- A text that parses to its end starts exactly as many steps as its items have.
+-- A text that parses to its end has a step count equal to the number of steps of its items.
 abbrev pub StepsOfRead : Type 0
 StepsOfRead = (version : Version) (text : List ℕ) (is : List Item) → description version text ≡ Ok (is, [])
     → steps_count version text ≡ length (flat is)

@@ -18,7 +18,7 @@ pub fn law_one_outcome()
     ensures { OneOutcome }
 {}
 
-/// A text that parses to its end starts exactly as many steps as its items have, so it fits if and only if they fit.
+/// A text that parses to its end has a step count equal to the steps of its items, so it fits if and only if they fit.
 #[tactic(auto, using(crate::proofs::ReadComponents::steps_of_read))]
 pub fn law_steps_of_read()
     ensures { StepsOfRead }

@@ -205,7 +205,7 @@ IsStamped Y n subsecond date time =
 abbrev pub is_leap_second : Record → Bool
 is_leap_second r = r.leap_second_allowed && option_map_or (λ s. s == 60) r.second false
 
--- the record, where a leap second that is allowed is replaced by the last nanosecond before it
+-- the record, where a second of 60, if the record's flag allows it, is replaced by the last nanosecond before it
 abbrev pub replace_leap_second : Record → Record
 replace_leap_second r =
     if is_leap_second r then record r { second = Some 59; subsecond = Some 999_999_999 } else r

@@ -217,8 +217,8 @@ fn second<'a, const CHECK_RANGES: bool>(input: &'a [u8], numbers: &mut Numbers) 
     Some(found.0)
 }
 
-// Parses a sign and two digits, 0 to 25 with range checks; or a zone name. Stores the sign, or `None` for a zone name,
-// and the hour. No zone name begins with a sign.
+// Parses a sign and two digits, 0 to 25 with range checks, else 0 to 99; or a zone name. Stores the sign, or `None` for
+// a zone name, and the hour. No zone name begins with a sign.
 #[inline(always)]
 fn offset_hour<'a, const CHECK_RANGES: bool>(
     input: &'a [u8],
@@ -238,8 +238,8 @@ fn offset_hour<'a, const CHECK_RANGES: bool>(
     Some(found.0)
 }
 
-// Parses two digits after a signed hour, 0 to 59 with range checks, and stores the minute with that sign. Parses
-// nothing after a zone name, and leaves the minute unchanged.
+// Parses two digits after a signed hour, 0 to 59 with range checks, else 0 to 99, and stores the minute with that sign.
+// Parses nothing after a zone name, and leaves the minute unchanged.
 #[inline(always)]
 fn offset_minute<'a, const CHECK_RANGES: bool>(
     input: &'a [u8],

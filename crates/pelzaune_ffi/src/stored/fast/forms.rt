@@ -139,7 +139,7 @@ pub(super) fn timed(steps: &[StoredStep]) -> Option<u8>
 }
 
 // The byte before an offset, and the one between its hour and minute, each `None` if there is none. `None` as a whole:
-// the steps aren't an hour with a mandatory sign and a minute, padded with zeros, with at most these two bytes.
+// not recognized as an hour with a mandatory sign and a minute, padded with zeros, with at most these two bytes.
 #[inline(always)]
 fn offset(steps: &[StoredStep]) -> Option<(Option<u8>, Option<u8>)>
     ensures { IfSome result (λ form. map spec.step_of steps.now ≡ byte_parts form.0 ++ offset_parts form.1) }
@@ -155,7 +155,7 @@ fn offset(steps: &[StoredStep]) -> Option<(Option<u8>, Option<u8>)>
     Some((None, within))
 }
 
-// The byte between the hour and the minute of an offset, or `Some(None)` if there is none. `None`: the steps aren't an
+// The byte between the hour and the minute of an offset, or `Some(None)` if there is none. `None`: not recognized as an
 // hour with a mandatory sign and a minute, padded with zeros, with at most one byte between them.
 #[inline(always)]
 fn signed(steps: &[StoredStep]) -> Option<Option<u8>>

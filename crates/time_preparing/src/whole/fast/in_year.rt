@@ -100,8 +100,8 @@ fn month_and_day(between: u8, input: &[u8]) -> Option<((Month, NonZero<u8>), &[u
     Some(((month.1, day.1), day.0))
 }
 
-// A date of that year, whose month and day, with this byte between them, are at the front of the input, and the rest.
-// `None` if there is none, or if it is no date of the calendar.
+// A date of that year, whose month's short name and day, with this byte between them, are at the front of the input,
+// and the rest. `None` if there is none, or if it is no date of the calendar.
 #[inline(always)]
 fn date_of(year: i32, between: u8, input: &[u8]) -> Option<(Date, &[u8])>
     ensures reads { IfSome result (λ f. (r : Record) → ReadsAll greatest_year (leaves (month_day_parts between))

@@ -5,7 +5,7 @@ use Rattle.std.specs.Prelude.{◌≡◌, ◌⊎◌, ℕ, ◌+◌, ◌-◌, ◌^�
 abbrev pub Rises : ℕ → ℕ → Type 0
 Rises before now = (before ≤ now) × (min (before + 1) (2 ^ 64 - 1) ≤ now)
 
--- After `Ok` the count of failed calls is unchanged, and after an error it rose (`Rises`).
+-- After `Ok` the count of failed calls (reads, writes, flushes, opens) is unchanged. After an error it rose (`Rises`).
 abbrev pub HasCause : {V E : Type 0} → Result V E → ℕ → ℕ → Type 0
 HasCause result before now = MatchResult result (λ _. now ≡ before) (λ _. Rises before now)
 

@@ -74,7 +74,7 @@ impl<const N: usize> ArrayBuf<N> {
         self.end = 0;
     }
 
-    /// Removes all bytes but the last `n`. The buffer must contain at least `n` bytes.
+    /// Removes all bytes but the last `n`, and frees no room for `append`. The buffer must contain at least `n` bytes.
     pub fn keep_last(&mut self, n: usize)
         requires { n ≤ length self.old.items }
         ensures { self.new.items ≡ drop (length self.old.items - n) self.old.items }

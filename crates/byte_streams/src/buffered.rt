@@ -17,8 +17,8 @@ const CAPACITY: usize = 65536;
 const LONGEST: usize = 128;
 
 /// A sink that buffers up to 65536 bytes in an array. [`flush_buffer`](BufferedSink::flush_buffer) writes them to the
-/// wrapped sink. So does a write of bytes that don't fit in the buffer, and a `write_fmt` of a text of more than 128
-/// bytes. `flush` doesn't write them, and dropping this value discards them. It allocates nothing.
+/// wrapped sink. So does a write of bytes that don't fit after them in the array, and a `write_fmt` of a text of more
+/// than 128 bytes. `flush` doesn't write them, and dropping this value discards them. It allocates nothing.
 #[derive(Drop)]
 pub struct BufferedSink<W> {
     /// The sink that the buffered bytes are written to.
@@ -75,7 +75,7 @@ impl<W: Sink> BufferedSink<W> {
         Ok(())
     }
 
-    // Writes the buffered bytes to the sink, and then these bytes, which don't fit in the buffer.
+    // Writes the buffered bytes to the sink, and then these bytes, which don't fit even in an empty buffer.
     #[cold]
     #[inline(never)]
     fn write_past(&mut self, bytes: &[u8]) -> Result<(), Unwritten>

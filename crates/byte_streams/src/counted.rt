@@ -8,8 +8,8 @@ use std::fmt::Display;
 use std::io;
 use std::io::{Read, Write};
 
-/// Wraps a reader or a writer of std. It counts the failed calls and the bytes that reads returned, each up to
-/// 18446744073709551615, and keeps the error of the last failed write or flush.
+/// Wraps a reader or a writer of std. It counts the failed calls (also interrupted reads) and the bytes that reads
+/// returned, each up to 18446744073709551615, and keeps the error of the last failed write or flush.
 ///
 /// A write to a `Vec` fails if no memory can be allocated.
 #[derive(Drop)]
@@ -57,15 +57,15 @@ impl<T> Counted<T> {
         (inner, error)
     }
 
-    // Whether a call has failed, or reads have returned 18446744073709551615 bytes or more.
+    // Whether it counts as cut off: a call failed (also an interrupted read), or reads returned 2^64 - 1 bytes or more.
     fn is_cut_off(&self) -> bool
         ensures { IsTrue result ↔ IsCutOff 0 self.now.faults self.now.given }
     {
         self.faults > 0 || self.given == u64::MAX
     }
 
-    /// `count` (of readers that were cut off), plus 1 if this reader was: if a call to it failed, or if its reads have
-    /// returned 18446744073709551615 bytes or more. The result is at most 18446744073709551615.
+    /// `count` (of readers that were cut off), plus 1 if this one was: if a call failed (also an interrupted read), or
+    /// if its reads have returned 18446744073709551615 bytes or more. The result is at most 18446744073709551615.
     pub fn count_cut_off(&self, count: u64) -> u64
         ensures cut_off { IsCutOff 0 self.now.faults self.now.given → Rises count result }
         ensures whole { ¬ IsCutOff 0 self.now.faults self.now.given → result ≡ count }
@@ -87,7 +87,7 @@ impl<T> Counted<T> {
         self.faults = self.faults.saturating_add(1);
     }
 
-    // Counts a failed call, and keeps its error.
+    // Counts a failed call, and keeps its error in place of an earlier one.
     #[cold]
     #[inline(never)]
     fn fail(&mut self, error: io::Error) -> Unwritten

@@ -46,7 +46,7 @@ impl<'a, W> Lent<'a, W> {
         }
     }
 
-    // Counts a failed call, and keeps its error.
+    // Counts a failed call, and keeps its error in place of an earlier one.
     #[cold]
     #[inline(never)]
     fn fail(&mut self, error: io::Error) -> Unwritten

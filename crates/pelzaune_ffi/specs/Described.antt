@@ -69,8 +69,8 @@ Checks (Some s) description status old new =
     (described : Result Tree Refusal) × IsDescribed s description described × IsChecked described status old new
 Checks None description status old new = (status ≡ unknown_syntax) × (new ≡ old)
 
--- The text is parsed by the described tree, and its result stored. A malformed description has its fault's status, and
--- nothing is stored.
+-- The text is parsed by the described tree. `storing` relates its result to the status and to what is stored. A
+-- malformed description has its fault's status, and nothing is stored.
 abbrev pub StoresByTree : {V S : Type 0} → Storing V S → Outcomes V → Result Tree Refusal → List ℕ → ℕ → S → S
     → Type 0
 StoresByTree storing outcomes (Ok tree) text status old new =
@@ -78,8 +78,8 @@ StoresByTree storing outcomes (Ok tree) text status old new =
     status old new
 StoresByTree storing outcomes (Err e) text status old new = (status ≡ fault_status e) × (new ≡ old)
 
--- The text is parsed by a description in the syntax, and its result stored. An unknown syntax has the status 17, and
--- nothing is stored.
+-- The text is parsed by a description in the syntax. `storing` relates its result to the status and to what is stored.
+-- An unknown syntax has the status 17, and nothing is stored.
 abbrev pub StoresByDescription : {V S : Type 0} → Storing V S → Outcomes V → Option Syntax → List ℕ → List ℕ → ℕ → S → S
     → Type 0
 StoresByDescription storing outcomes (Some s) description text status old new =
@@ -248,7 +248,7 @@ StoresDescription (Some s) text status old new index new_index =
 StoresDescription None text status old new index new_index =
     (status ≡ unknown_syntax) × (new ≡ old) × (new_index ≡ index)
 
--- The text is parsed by a stored description, and its result stored: a value with status 0, or the error's status.
+-- The text is parsed by a stored description. `storing` relates its result to the status and to what is stored.
 abbrev pub StoresBySteps : {V S : Type 0} → Storing V S → Outcomes V → StoredDescription → List ℕ → ℕ → S → S → Type 0
 StoresBySteps storing outcomes h text status old new =
     StoresByTree storing outcomes (Ok (stored_tree h)) text status old new

@@ -51,13 +51,13 @@ IsPlaceStored (Some at) status old new =
     (status ≡ status_of (expected_refusal (wants at.expected)))
     × (new ≡ record { index = at.index; byte = expected_byte (wants at.expected) })
 
--- The location of the text's error, by what a format parses and locates, is stored; for a text that is parsed whole,
--- status 0 and nothing is stored.
+-- The location of the text's mismatch, by what a format parses and locates, is stored. For a text that matches whole,
+-- even with a date that doesn't exist, the status is 0, and nothing is stored.
 abbrev pub LocatesBy : Reading → Locating → List ℕ → ℕ → Place → Place → Type 0
 LocatesBy reads locates text status old new =
     (answer : Option Located) × IsLocated reads locates text empty answer × IsPlaceStored answer status old new
 
--- The location of the text's error by the format is stored. An unknown format has the status 8, and nothing is stored.
+-- The location of the text's mismatch by the format is stored. For an unknown format, status 8 and nothing is stored.
 abbrev pub StoresPlace : Option Format → List ℕ → ℕ → Place → Place → Type 0
 StoresPlace (Some Rfc3339) text status old new =
     LocatesBy (rfc3339.Reads greatest_year) places_3339.Locates text status old new
@@ -69,15 +69,15 @@ StoresPlace (Some Rfc3339Strict) text status old new =
     LocatesBy (strict.Reads greatest_year) places_strict.Locates text status old new
 StoresPlace None text status old new = (status ≡ unknown_format) × (new ≡ old)
 
--- The location of the text's error by the described tree is stored. A malformed description has its fault's status, and
--- nothing is stored.
+-- The location of the text's mismatch by the described tree is stored. A malformed description has its fault's
+-- status, and nothing is stored.
 abbrev pub StoresPlaceByTree : Result Tree Refusal → List ℕ → ℕ → Place → Place → Type 0
 StoresPlaceByTree (Ok tree) text status old new =
     LocatesBy (Reads greatest_year tree) (LocatesTree first_byte tree) text status old new
 StoresPlaceByTree (Err e) text status old new = (status ≡ fault_status e) × (new ≡ old)
 
--- The location of the text's error by a description in the syntax is stored. An unknown syntax has the status 17, and
--- nothing is stored.
+-- The location of the text's mismatch by a description in the syntax is stored. An unknown syntax has the status 17,
+-- and nothing is stored.
 abbrev pub StoresPlaceByDescription : Option Syntax → List ℕ → List ℕ → ℕ → Place → Place → Type 0
 StoresPlaceByDescription (Some s) description text status old new =
     (described : Result Tree Refusal) × IsDescribed s description described

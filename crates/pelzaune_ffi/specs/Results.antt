@@ -153,7 +153,7 @@ of_record path reads refuses text answer = IsWhole reads refuses text empty answ
 abbrev pub of_moment : Outcomes OffsetDateTime
 of_moment path reads refuses text answer = IsMomentOutcome greatest_year path reads refuses text None answer
 
--- The text is parsed by the format, and its result stored. An unknown format has the status 8, and nothing is stored.
+-- The text's result by the format is stored as by `storing`. An unknown format has the status 8, and nothing is stored.
 abbrev pub StoresBy : {V S : Type 0} → Storing V S → Outcomes V → Option Format → List ℕ → ℕ → S → S → Type 0
 StoresBy storing outcomes (Some Rfc3339) text status old new =
     IsResultStored storing

@@ -24,7 +24,7 @@ fn lf_among(text: &[u8], from: usize) -> Option<usize>
     Some(from + ends.trailing_zeros() as usize)
 }
 
-// The index of the LF that ends the first line of a text. `None`: the text has no LF, so it is one line.
+// The index of the LF that ends the first line of a non-empty text. `None`: the text has no LF, so it is one line.
 #[inline(always)]
 fn line_end(text: &[u8]) -> Option<usize>
     requires { 0 < length text.now }

@@ -13,7 +13,7 @@ use time_locating::{has_day, has_full_date, has_hour, has_iso_day, skips_minute,
 use time_parsing::{Iso8601, Parsable, Rfc2822, Rfc3339, Rfc3339Strict};
 use time_record::Parsed;
 
-// The status of what a record is missing for a date: only the year, the month of a day, or the day; 0 if nothing is.
+// The status of what a date lacks: the year if only that, else the month if the record has a day, else the day; or 0.
 fn missing_for_date(parsed: &Parsed) -> u32
     ensures { result ≡ spec.missing_for_date parsed.now }
 {
@@ -86,7 +86,7 @@ fn missing_for_offset(parsed: &Parsed) -> u32
     }
 }
 
-// The status of what is missing for a date (1), time (2) or offset (4) in `needs`, or 0. A timestamp gives all or none.
+// The status of what is missing for date (1), time (2) or offset (4) in `needs`, or 0. A timestamp suffices only for 7.
 fn missing_for(needs: u32, parsed: &Parsed) -> u32
     ensures { result ≡ spec.missing_for needs parsed.now }
 {

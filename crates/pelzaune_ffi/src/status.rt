@@ -93,7 +93,7 @@ pub fn status_of(error: Parse) -> u32
     }
 }
 
-/// A format that has a number: RFC 3339, RFC 2822, ISO 8601, or RFC 3339 with a strict separator.
+/// A format that has a number: RFC 3339, RFC 2822, ISO 8601, or RFC 3339 with only `T`, `t` or a space as separator.
 #[derive(Clone, Copy)]
 pub enum Format {
     /// RFC 3339, section 5.6, with any byte between the date and the time.

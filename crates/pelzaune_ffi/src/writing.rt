@@ -46,7 +46,7 @@ fn local_of(parts: &MomentParts) -> Result<PlainDateTime, ComponentRange>
 }
 
 // The moment with these parts, or the error of the first that is out of range: that of the date and time, or else of
-// the offset.
+// the offset, which is one number of seconds.
 pub(crate) fn moment_of(parts: &MomentParts) -> Result<OffsetDateTime, ComponentRange>
     ensures { Constructs (moment_refusal parts.now) (λ v. HasMoment v parts.now) result }
 {

@@ -87,7 +87,7 @@ date_time_parts = date_parts ++ literal (codes " ") ∷ time_parts ++ literal (c
 abbrev pub ordinal_parts : List Tree
 ordinal_parts = year ∷ literal (codes "-") ∷ part (kind.Ordinal (record { padding = padding.Zero })) ∷ []
 
--- The parts of a second's fraction, as `.25`: a dot and one or more digits.
+-- The parts of a second's fraction, as `.25`: a dot and 1 to 32 digits. Those after the ninth don't change the value.
 abbrev pub fraction_parts : List Tree
 fraction_parts = literal (codes ".") ∷ part (kind.Subsecond (record { digits = OneOrMore })) ∷ []
 

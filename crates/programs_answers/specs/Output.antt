@@ -172,8 +172,8 @@ AreAnswers P (line ∷ lines) text =
 abbrev pub Writes : (List ℕ → Type 0) → Option (List ℕ) → Option (List ℕ) → Type 0
 Writes P old new = (text : List ℕ) × P text × Appends old new text
 
--- The answers to the lines of the input, each followed by LF, are appended to the writer's contents, if they are known.
--- P relates a line to its answer. An empty input has no lines.
+-- The answers to the lines of the input, each followed by LF, are appended to the contents `old`, which gives `new`. If
+-- `old` is none, `new` may be anything. P relates a line to its answer. An empty input has no lines.
 abbrev pub WritesAnswers : (List ℕ → List ℕ → Type 0) → Option (List ℕ) → Option (List ℕ) → List ℕ → Type 0
 WritesAnswers P old new input = Writes (AreAnswers P (line_texts input)) old new
 

@@ -161,7 +161,7 @@ pub fn local_items() -> [BorrowedFormatItem<'static>; 18]
     ]
 }
 
-/// The items of a dot and the one or more digits of a fraction, as `.25`.
+/// The items of a dot and the 1 to 32 digits of a fraction, as `.25`. Those after the ninth don't change the value.
 pub fn fraction_items() -> [BorrowedFormatItem<'static>; 2]
     ensures { map borrowed_shape result ≡ formats.fraction_parts }
 {

@@ -17,7 +17,7 @@ pub(crate) struct Disk<'a, R> {
     rt: &'a R,
     opener: Opener<'a, R>,
     progress: &'a Progress<'a, R>,
-    // How many of the closed inputs had been cut off: a read failed, or the reads returned at least 2^64 - 1 bytes.
+    // How many closed inputs were cut off: a read failed or was interrupted, or reads returned at least 2^64 - 1 bytes.
     cut_off: u64,
 }
 

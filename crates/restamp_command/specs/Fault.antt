@@ -11,7 +11,7 @@ use Rattle.restamp_command.specs.declared.fault.Fault.TheVariants as fault
 use Rattle.restamp_command.specs.declared.fault.TimeArgError as declared_none
 use Rattle.restamp_command.specs.declared.fault.TimeArgError.TheVariants as none
 
--- why a text is no moment: a reason; its word's moment has no date in UTC; or it is a word, and the clock isn't known
+-- why a text is no moment: RFC 3339's error, or its word's day has no start; its word has no date in UTC; or no clock
 pub data TimeArgError : Type 0 where
   unread : Reason → TimeArgError
   out_of_range : TimeArgError

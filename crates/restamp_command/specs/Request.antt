@@ -110,8 +110,8 @@ abbrev pub IsZoned : Reading → Type 0
 IsZoned (reading.Zoned zones) = zone_named zones (codes "UTC") ≡ Some NamedZone.Utc
 IsZoned format = ⊥
 
--- The format that has that name, or that the text describes. Its texts don't all omit a part of a moment that no
--- default supplies; the flag is whether there is a default year.
+-- The format that has that name, or that the text describes. Its `format_missing_field` is `None`; the flag is whether
+-- there is a default year.
 abbrev pub IsFormat : Bool → List ℕ → Reading → Type 0
 IsFormat has_year name format =
     MatchBool (is_zoned name) (IsZoned format)
@@ -204,7 +204,7 @@ abbrev pub IsWriting : List ℕ → Writing → Type 0
 IsWriting name writing =
     MatchBool (is_zoned name) (writing ≡ Named Rfc3339) (MeansWriting name writing)
 
--- The text after each timestamp, by the name of the output format: the zone in brackets for `rfc9557`, otherwise empty.
+-- The text after each timestamp: the zone's name or offset in brackets if the format is `rfc9557`, otherwise empty.
 abbrev pub IsSuffixBy : List ℕ → Zone → List ℕ → Type 0
 IsSuffixBy name zone bytes = MatchBool (is_zoned name) (IsSuffixOf zone bytes) (bytes ≡ [])
 
@@ -238,8 +238,8 @@ abbrev pub erased_bound : Result (Option OffsetDateTime) (Bor (List ℕ) × decl
 erased_bound (Ok bound) = Ok bound
 erased_bound (Err e) = Err (e.0.now, erased_time_error e.1)
 
--- A bound: the moment of the text, by the formats, the defaults and the clock at `now`; `None` without a text; the
--- error is the text, and why it is no moment.
+-- A bound: the moment of the text, by RFC 3339, the formats, the defaults and the clock at `now`; `None` without a
+-- text; the error is the text, and why it is no moment.
 abbrev pub IsBound : Option UtcDateTime → Reading → List Reading → Defaults → Option (List ℕ)
     → Result (Option OffsetDateTime) (List ℕ × TimeArgError) → Type 0
 IsBound now first others defaults None result = result ≡ Ok None
@@ -267,7 +267,7 @@ AreBounds now o first others given bounds =
     IsBoundBy now first others given (text_behind o.since) (Ok bounds.0)
     × IsBoundBy now first others given (text_behind o.until) (Ok bounds.1)
 
--- Whether reports have colours, by `--color`, and for `auto` by whether they go to a terminal.
+-- Whether reports have colours and show the rejected line, by `--color`; for `auto`, the flag `is_terminal` decides.
 abbrev pub AreColors : Options → Bool → Bool → Type 0
 AreColors o is_terminal shows = shows_of o.color.now is_terminal ≡ Some shows
 
@@ -293,7 +293,7 @@ has_slash text = list_any (λ b. b == 47) text
 abbrev pub IsSuffix : Options → Option (List ℕ) → Type 0
 IsSuffix o suffix = (suffix ≡ text_behind o.in_place) × IfSome suffix (λ text. has_slash text ≡ false)
 
--- The request of options, by the clock's moment, and by whether reports go to a terminal.
+-- The request of options, by the clock's moment. `is_terminal` is whether `auto` for `--color` means colours.
 pub record IsRequestOf (now : Option UtcDateTime) (o : Options) (is_terminal : Bool)
     (r : Request) : Type 0 where
   pub place : IsPlace o (erased_place r.place)
@@ -309,16 +309,16 @@ pub record IsRequestOf (now : Option UtcDateTime) (o : Options) (is_terminal : B
   pub strict : r.strict ≡ o.strict
   pub in_place : IsSuffix o (text_behind r.in_place)
 
--- The text of `--since` or `--until` is that value, and is no moment by the requested formats and defaults, for that
--- reason.
+-- The text of `--since` or `--until` is that value, and is no moment by RFC 3339, the requested formats and defaults,
+-- and the clock at `now`, for that reason.
 abbrev pub IsNoBound : Option UtcDateTime → Options → Option (List ℕ) → List ℕ → TimeArgError → Type 0
 IsNoBound now o text value why =
     (first : Reading) × (others : List Reading) × (given : OwnedDefaults)
     × AreFormats o first others × IsGiven now o first others given
     × IsBoundBy now first others given text (Err (value, why))
 
--- The text of `--latest` is that value, and is no moment by the requested formats and the other defaults, for that
--- reason.
+-- The text of `--latest` is that value, and is no moment by RFC 3339, the requested formats, the other defaults and
+-- the clock at `now`, for that reason.
 abbrev pub IsNoLatest : Option UtcDateTime → Options → List ℕ → TimeArgError → Type 0
 IsNoLatest now o value why =
     (first : Reading) × (others : List Reading) × (parts : OwnedDefaults)

@@ -69,13 +69,13 @@ IsAction job front its =
     (verdict : Verdict) × IsJudged job front verdict × (its ≡ action_of_verdict verdict)
 
 -- the text of an error in a front, a line's first bytes: the missing part if any, or else the reason, which may name
--- the zone, and then what was expected; if the flag is true, in red, with the bytes around the error and a caret below
+-- the zone, then what was expected if known; if the flag is true, in red, with bytes around the error and a caret below
 abbrev pub error_report : Bool → List ℕ → List ℕ → Reason → Option MissingField → ErrorLocation → List ℕ
 error_report shows_lines front zone reason missing_field w =
     reason_report shows_lines front w.column (why_text zone reason missing_field ++ expected_text w.wanted)
 
--- If a front is rejected at `begin` for a reason, its error is at `column`, and that text reports it, with the name of
--- the zone.
+-- If the verdict rejects a front at the column `begin`, from 1, for a reason, the error itself is at `column`, and that
+-- text reports it, with the name of the zone.
 abbrev pub ReportsError : Job → List ℕ → Bool → List ℕ → ℕ → Reason → ℕ → List ℕ → Type 0
 ReportsError job zone shows_lines front begin reason column text =
     (w : ErrorLocation) × (missing_field : Option MissingField) × IsErrorLocation job front begin reason w

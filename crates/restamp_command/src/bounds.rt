@@ -180,7 +180,7 @@ fn moment_at(nanos: i128) -> Result<OffsetDateTime, TimeArgError>
 }
 
 // The start of the day that is `back` days before the clock's day in the zone: the earliest moment whose local time is
-// its midnight. An error if there is none, or if the clock or that midnight is out of range.
+// its midnight. An error if there is none, or if the clock or that midnight is outside the range of time zones.
 fn start_of_day_in(
     clocks: &Clocks<'_>,
     now: UtcDateTime,
@@ -219,8 +219,8 @@ fn named_at(
     moment_at(nanos_of(word, now, day_offset(offset)))
 }
 
-// The moment of a word by the clock. Days start in the default zone, or else at the default offset, or else in UTC. An
-// error if the moment is out of range, or the day has no start in the zone.
+// The moment of a word by the clock. Days start in the default zone, or else at the default offset, or else in UTC. The
+// error is `OutOfRange` if the moment has no date in UTC, or `Unread` if the day has no start in the zone.
 fn moment_from(
     word: Word,
     now: UtcDateTime,
@@ -238,7 +238,7 @@ fn moment_from(
 }
 
 // The moment of a text as a word, or an error: `Unread` with `reason` if it is no word, `NoClock` if `now` is `None`,
-// or else that the moment is out of range, or that the day has no start in the default zone.
+// `OutOfRange` if the moment has no date in UTC, or `Unread` if the day has no start in the default zone.
 fn find_named(
     now: Option<UtcDateTime>,
     text: &str,
@@ -252,8 +252,8 @@ fn find_named(
 }
 
 /// Returns the moment of a whole text by the first of these that yields one: RFC 3339, `first`, each of `others`, or a
-/// word such as `today` or `now-90m`, by the clock's time `now`. If none matches, returns the error of RFC 3339. A word
-/// is an error if `now` is `None`, its moment is out of range, or its day has no start in the default zone.
+/// word such as `today` or `now-90m`, by the clock's time `now`. If none matches, the error is RFC 3339's `Unread`. For
+/// a word it is `NoClock` if `now` is `None`, `OutOfRange`, or `Unread` if its day has no start in the default zone.
 pub fn find_moment(
     now: Option<UtcDateTime>,
     first: &Reading,

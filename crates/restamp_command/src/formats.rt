@@ -24,9 +24,9 @@ pub(crate) fn is_zoned(name: &str) -> bool
     name == "rfc9557"
 }
 
-// The format that the text names or describes. An error if there is none, if all its texts omit a part of a moment that
-// no default supplies, or if it is RFC 9557 and the zones of the system can't be read. `has_year` is whether there is a
-// default year.
+// The format that the text names or describes. An error if there is none, if `missing_field` returns a part (a day, its
+// year, an hour or its half of the day), or if it is RFC 9557 and the zones of the system can't be read. `has_year` is
+// whether there is a default year.
 fn find_format<'a, R: Env + Files + AllocGlobal + Clone + Drop>(
     rt: &R,
     name: &'a str,

@@ -186,8 +186,8 @@ fn find_parts<'a, R: Env + Files + AllocGlobal>(
     })
 }
 
-// The moment of the text of `--since`, `--until` or `--latest`, by the formats and the clock at `now`; `None` without a
-// text. The error is the text, and why it is no moment.
+// The moment of the text of `--since`, `--until` or `--latest`, by RFC 3339 or one of the formats, or as a word by the
+// clock at `now`; `None` without a text. The error is the text, and why it is no moment.
 fn find_bound<'a>(
     now: Option<UtcDateTime>,
     first: &Reading,
@@ -204,7 +204,7 @@ fn find_bound<'a>(
     Ok(Some(moment))
 }
 
-// The defaults for an omitted year and offset, and the moment of `--latest`, parsed with them by the formats, or as a
+// The defaults for an omitted year and offset, and with them the moment of `--latest`, by RFC 3339 or a format, or as a
 // word by the clock at `now`. An error if an option rejects its value, or the zone of `--in` can't be loaded.
 #[tactic(auto, using(crate::proofs::FormatLemmas::fault_at))]
 fn find_given<'a, R: Env + Files + AllocGlobal>(
@@ -275,7 +275,7 @@ fn find_in_place<'a>(options: &Options<'_, 'a>) -> Result<Option<&'a str>, Fault
     Ok(Some(suffix))
 }
 
-// Whether reports have colours: for `always`, or for `auto` on a terminal, not for `never`. An error for another text.
+// Whether reports have colours: for `always`; for `auto` if `is_terminal` is true; not for `never`. Else an error.
 fn find_colors<'a>(options: &Options<'_, 'a>, is_terminal: bool) -> Result<bool, Fault<'a>>
     ensures { MatchResult result (λ shows. spec.AreColors options.now is_terminal shows)
         (λ fault. spec.IsFault options.now (erased_fault fault)) }
@@ -356,7 +356,7 @@ impl<'a> Request<'a> {
         })
     }
 
-    /// The settings for the lines of files: `output`, `reports` and `style.suffix` of `self`, and `stops` as `strict`.
+    /// The settings for the lines of files: `output`, `reports` and `style.suffix`. Their `strict` is `self.stops`.
     pub fn settings(&self) -> Settings<'_>
         ensures { spec.AreSettingsOf self.now result }
     {

@@ -67,9 +67,9 @@ impl Rewriting for Restamping<'_> {
 }
 
 impl Restamping<'_> {
-    // Writes the column of the error, from 1, then `: `, the reason or the missing part, and what was expected there;
-    // if `shows_lines` is true, in red after the `: `, and below it the line with a caret. No LF ends it. `front` is
-    // the start of the rejected line. Not inlined, so that reports need no stack while lines are rewritten.
+    // Writes the column of the error, from 1, then `: `, the reason or the missing part, and what was expected there if
+    // it is known; if `shows_lines` is true, in red after the `: `, and below it the line with a caret. No LF ends it.
+    // `front` is the start of the rejected line. Not inlined, so that reports need no stack while lines are rewritten.
     #[inline(never)]
     fn write_location<L: Sink>(
         &self,
@@ -102,9 +102,9 @@ impl Restamping<'_> {
 /// Processes all lines of the files as requested, one file after the other.
 ///
 /// It logs a file that it can't open or read to its end, and goes on with the next, so it never returns
-/// [`Stop::Unread`]; lines read before a failed read are processed. It stops at a failed write, and under `--strict` at
-/// the first rejected line, unless `--keep-going` is given: all files and lines before that one are processed. After a
-/// failed write it is unknown how many bytes were written.
+/// [`Stop::Unread`]; lines read before a failed read are processed. It stops at a failed write or flush, and under
+/// `--strict` at the first rejected line, unless `--keep-going` is given: all files and lines before that one are
+/// processed. After [`Stop::Unwritten`] it is unknown how many bytes were written.
 pub fn serve<W: Sink, L: Sink, O: Opening>(
     request: &Request<'_>,
     names: &[&[u8]],

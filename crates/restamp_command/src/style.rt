@@ -24,7 +24,7 @@ pub struct Style {
     pub digits: FractionDigits,
     /// The zone that moments are converted to.
     pub zone: Zone,
-    /// The text after each timestamp: for RFC 9557 the zone in brackets, otherwise nothing.
+    /// The text after each timestamp: for RFC 9557 the zone's name or offset in brackets, otherwise nothing.
     pub suffix: Vec<u8>,
 }
 

@@ -227,7 +227,7 @@ const LINES: &[Row] = &[
     },
 ];
 
-// The options for what is done with rejected lines.
+// The options for how rejected lines are reported, and whether one stops the work. `LINES` has `--drop-refused`.
 const REPORTS: &[Row] = &[
     Row {
         name: "quiet",

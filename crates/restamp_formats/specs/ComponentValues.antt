@@ -47,8 +47,8 @@ whole_text v [] = []
 whole_text v (verbatim text ∷ ps) = text ++ whole_text v ps
 whole_text v (part c ∷ ps) = or_nothing (component_text greatest_year v c) ++ whole_text v ps
 
--- Each component's text is followed by bytes, or by the end of the text, at which the component's parse stops, so that
--- exactly this text is parsed.
+-- Each component's text, if it has one, is followed by bytes, or by the end of the text, at which the component's
+-- parse stops, so that exactly this text is parsed.
 abbrev pub AllStop : OffsetDateTime → List Piece → Type 0
 AllStop v [] = Unit {0}
 AllStop v (verbatim text ∷ ps) = AllStop v ps
@@ -61,8 +61,8 @@ put_values v (verbatim text ∷ ps) r = put_values v ps r
 put_values v (part c ∷ ps) r =
     option_and_then (put_values v ps) (put_value greatest_year c (value_of greatest_year v c) r)
 
--- The text of the moment by the tree determines the moment: each component's text is parsed whole, and the values of
--- the components make a record that resolves to the moment, with the defaults.
+-- The text of the moment by the tree determines the moment, if each component has a text: each text is parsed whole,
+-- and the values of the components make a record that resolves to the moment, with the defaults.
 pub record DeterminesMoment (tree : Tree) (defaults : Defaults) (v : OffsetDateTime) : Type 0 where
   pub stops : AllStop v (pieces tree)
   pub after : Record

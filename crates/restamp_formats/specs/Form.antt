@@ -54,8 +54,8 @@ IsNamedText Named.Iso8601 digits v result =
     (text : Result Items Unwritable) × Writes (unwritable_3339 v) (moment_text 9 v) text × (result ≡ written text)
 IsNamedText (Named.Count unit) digits v result = IsCounted unit v result
 
--- The text of a moment by an output format, or the first reason why it has no text. By a description it has at most
--- 35 bytes.
+-- The text of a moment by an output format, or the first reason why it has no text. By a description, a text of more
+-- than 35 bytes is an error (`TooLong`).
 abbrev pub IsWrittenBy : Writing → FractionDigits → OffsetDateTime → Result Items Reason → Type 0
 IsWrittenBy (Writing.Named named) digits v result = IsNamedText named digits v result
 IsWrittenBy (Writing.Described d) digits v result = result ≡ described (text_of 35 greatest_year v (shape d))

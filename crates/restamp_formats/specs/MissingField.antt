@@ -76,8 +76,8 @@ abbrev mutual
   one_has k none = false
   one_has k (more t ts) = has_kind k t || one_has k ts
 
--- A text with a component of that kind has that part: for `Year` any part of a year, for `Offset` the hour of an
--- offset. A count from 1970 has both, since it is a moment in UTC.
+-- A text with a component of that kind has that part, one of two: `Year` is any part of a year, `Offset` is the hour
+-- of an offset. A count from 1970 has both, since it is a moment in UTC.
 abbrev pub is_of : Part → Kind → Bool
 is_of Part.Year Kind.Year = true
 is_of Part.Year Kind.YearCentury = true
@@ -109,27 +109,27 @@ abbrev mutual
   each_always p none = true
   each_always p (more t ts) = always p t && each_always p ts
 
--- the tree has the components of a day of a year: the day of the year, or month and day, or a weekday and the number of
--- a week that starts on Sunday or Monday
+-- the tree has the components, even optional ones, of a day of a year: the day of the year, or month and day, or a
+-- weekday and the number of a week that starts on Sunday or Monday
 abbrev pub has_day : Tree → Bool
 has_day t =
     has_kind Kind.Ordinal t || (has_kind Kind.Month t && has_kind Kind.Day t)
     || (has_kind Kind.Weekday t && (has_kind Kind.SundayWeek t || has_kind Kind.MondayWeek t))
 
--- the tree has the components of a day of an ISO 8601 week year: week and weekday
+-- the tree has the components, even optional ones, of a day of an ISO 8601 week year: week and weekday
 abbrev pub has_iso_day : Tree → Bool
 has_iso_day t = has_kind Kind.IsoWeek t && has_kind Kind.Weekday t
 
--- the tree has the components of a whole year: the year, or its century and its last two digits
+-- the tree has the components, even optional ones, of a whole year: the year, or its century and its last two digits
 abbrev pub has_whole_year : Tree → Bool
 has_whole_year t = has_kind Kind.Year t || (has_kind Kind.YearCentury t && has_kind Kind.YearLastTwo t)
 
--- the tree has the components of a whole ISO 8601 week year: that year, or its century and its last two digits
+-- the tree has the components, even optional ones, of a whole ISO 8601 week year: it, or century and last two digits
 abbrev pub has_whole_iso_year : Tree → Bool
 has_whole_iso_year t = has_kind Kind.IsoYear t || (has_kind Kind.IsoYearCentury t && has_kind Kind.IsoYearLastTwo t)
 
--- The tree has the components of a day and its year. If the `Bool` is true, a default year counts for a calendar year
--- of which some text may have no part.
+-- The tree has the components of a day and its year. If the `Bool` is true, and some text may have no part of any
+-- year, neither calendar year nor ISO 8601 week year, a default year counts as the whole calendar year.
 abbrev pub has_full_date : Bool → Tree → Bool
 has_full_date has_year t =
     (has_day t && (has_whole_year t || (has_year && not (always Part.Year t))))

@@ -135,7 +135,7 @@ MeansWriting name result =
 abbrev pub IsWritingFault : List ℕ → Fault → Type 0
 IsWritingFault name f = (writing_named name ≡ None) × IsFault (description_name name) f
 
--- the printed text of an error; `None` for a description's error that quotes a word of the description
+-- the printed text of an error; `None`, which leaves it unspecified, for one that quotes a word of the description
 abbrev pub fault_text : Fault → Option (List ℕ)
 fault_text unnamed = Some (codes "no format has this name, and a description has a `[` or a `%`")
 fault_text (faulty refusal) = refusal_text refusal

@@ -10,7 +10,7 @@ use Rattle.restamp_formats.specs.declared.reason.OffsetParts.{OffsetParts}
 -- Why a timestamp isn't rewritten: no format matches it; it has a fraction after a minus; the local time is
 -- nonexistent, or ambiguous with these offsets; its year at the output's offset, or in UTC for a count, is out of
 -- range; it is outside the range of time zones; its suffix rejects it; it has no text by a named format, or by a
--- description; it ends after byte 262144 of its line; or the line has no timestamp.
+-- description; it ends after byte 262144 of its line; or the line has no timestamp, but must have one.
 pub data Reason : Type 0 where
   unread : Refusal → Reason
   negative_fraction : Reason

@@ -46,7 +46,7 @@ impl FromReason for Reason {
     }
 }
 
-/// The part of a [`Reason`] that the choice of a default year needs: whether it is `Nonexistent` or `Ambiguous`.
+/// All that the choice of a default year needs of a [`Reason`]: a bool, true for `Nonexistent` and for `Ambiguous`.
 #[derive(Clone, Copy, Debug, PartialEq, Eq)]
 pub struct Brief {
     /// Whether the reason is `Nonexistent` or `Ambiguous`.

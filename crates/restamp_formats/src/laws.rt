@@ -3,8 +3,8 @@ ghost use Rattle.restamp_formats.specs.Common.{greatest_year};
 ghost use Rattle.restamp_formats.specs.Laws.{AutoHasAll, ReadsRewrittenBack, ReadsSuffixedBack, ReadsZonedBack, WritesZonedSame, KeepsMoment, AllValuesDetermine, SignsDetermine, OneTree, CommonReadsBack};
 ghost use Rattle.restamp_formats.specs.MissingField.{ClocksHaveNoUse, HasNoUse, ParsesNoMoment};
 
-/// A text written by RFC 3339, RFC 2822 or ISO 8601 parses by that format as the moment that was written, at the offset
-/// of the text, if each nonzero digit of its fraction was written; and the match has all bytes of the text.
+/// The text that RFC 3339, RFC 2822 or ISO 8601 writes of a moment, converted to a form's clock, parses by that format
+/// as the converted moment, if each nonzero digit of its fraction was written; and the match has all bytes of the text.
 /// [`Auto`](time_formatting::FractionDigits::Auto) omits no such digit.
 ///
 /// A text written by a description parses likewise by a description with an equal tree, if each component's text is

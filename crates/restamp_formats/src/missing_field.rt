@@ -215,8 +215,8 @@ fn group_always(group: Group, inside: &[Step], part: Part) -> bool
     }
 }
 
-// Whether the steps have the components of a day of a year: the day of the year, or month and day, or a weekday and the
-// number of a week that starts on Sunday or Monday.
+// Whether the steps have the components, even optional ones, of a day of a year: the day of the year, or month and day,
+// or a weekday and the number of a week that starts on Sunday or Monday.
 fn has_day(steps: &[Step]) -> bool
     ensures { result ≡ spec.has_day (steps_shape steps.now) }
 {
@@ -226,14 +226,14 @@ fn has_day(steps: &[Step]) -> bool
             && (has_kind(steps, Kind::SundayWeek) || has_kind(steps, Kind::MondayWeek)))
 }
 
-// Whether the steps have the components of a day of an ISO 8601 week year: week and weekday.
+// Whether the steps have the components, even optional ones, of a day of an ISO 8601 week year: week and weekday.
 fn has_iso_day(steps: &[Step]) -> bool
     ensures { result ≡ spec.has_iso_day (steps_shape steps.now) }
 {
     has_kind(steps, Kind::IsoWeek) && has_kind(steps, Kind::Weekday)
 }
 
-// Whether the steps have the components of a whole year: the year, or its century and its last two digits.
+// Whether the steps have the components, even optional ones, of a whole year: it, or its century and last two digits.
 fn has_whole_year(steps: &[Step]) -> bool
     ensures { result ≡ spec.has_whole_year (steps_shape steps.now) }
 {
@@ -241,7 +241,7 @@ fn has_whole_year(steps: &[Step]) -> bool
         || (has_kind(steps, Kind::YearCentury) && has_kind(steps, Kind::YearLastTwo))
 }
 
-// Whether the steps have the components of a whole ISO 8601 week year: that year, or its century and last two digits.
+// Whether the steps have a whole ISO 8601 week year, even in optional components: it, or century and last two digits.
 fn has_whole_iso_year(steps: &[Step]) -> bool
     ensures { result ≡ spec.has_whole_iso_year (steps_shape steps.now) }
 {
@@ -249,8 +249,8 @@ fn has_whole_iso_year(steps: &[Step]) -> bool
         || (has_kind(steps, Kind::IsoYearCentury) && has_kind(steps, Kind::IsoYearLastTwo))
 }
 
-// Whether the steps have the components of a day and its year. If `has_year` is true, a default year counts for a
-// calendar year of which some text may have no part.
+// Whether the steps have the components of a day and its year. If `has_year` is true, and some text may have no part of
+// any year, neither calendar year nor ISO 8601 week year, a default year counts as the whole calendar year.
 fn has_full_date(steps: &[Step], has_year: bool) -> bool
     ensures { result ≡ spec.has_full_date has_year (steps_shape steps.now) }
 {

@@ -40,13 +40,13 @@ enum FormatName<'a> {
     Rfc3339,
     Rfc2822,
     Iso8601,
-    // A description in brackets whose texts are numbers of seconds.
+    // The name `unix`: this description in brackets, whose texts are numbers of seconds.
     Counted(&'a [u8]),
-    // A description in brackets whose texts are parsed without defaults.
+    // The name `common`: this description in brackets, whose texts are parsed without defaults.
     Complete(&'a [u8]),
-    // Any other description in brackets.
+    // This description in brackets: the text itself, or that of `unix-ms`, `unix-us`, `unix-ns` or `syslog`.
     Brackets(&'a [u8]),
-    // A description as in strftime.
+    // The text itself, a description as in strftime.
     Strftime(&'a [u8]),
     // Neither a name nor a description.
     Unknown,

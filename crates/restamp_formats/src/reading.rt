@@ -58,7 +58,7 @@ pub struct Defaults<'a> {
     pub latest: Option<OffsetDateTime>,
 }
 
-/// Which bytes at the start of a text, maybe after white space, match a format, and the moment that they mean.
+/// The bytes of a text that match a format, and the moment that they mean. They begin at byte 0, except as in `start`.
 #[derive(Clone, Copy, Debug)]
 pub struct Match {
     /// The moment.

@@ -54,7 +54,7 @@ pub enum Reason {
     Unformattable(Unformattable),
     /// It ends after the first 262144 bytes of its line.
     TooFar,
-    /// The line has no timestamp.
+    /// The line has no timestamp, but must have one.
     Missing,
 }
 

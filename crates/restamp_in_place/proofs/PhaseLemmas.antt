@@ -135,7 +135,7 @@ module _ (aim : Replacement) where
   HasBackup-synced {done} {second} h =
       record { apart = h.apart; beside = h.beside; backed = λ file may. h.backed file (rw may (may_now done second)) }
 
-  -- the new file, if the backup is on the disk
+  -- the new file, if the name of a requested backup is on the disk
   is_new : (done : List Event) (file : Option ℕ) → IsWhole aim done → IfSome aim.backup (HasBackup aim done) → file ≡ Some aim.number
       → IsNew aim.before done aim.name aim.backup aim.new file
   is_new done file whole backed is = record {

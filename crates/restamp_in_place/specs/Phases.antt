@@ -8,7 +8,7 @@ use Rattle.restamp_in_place.specs.Replacing.{Made, Changed, Event, leads, stored
 use Rattle.restamp_in_place.specs.Replacing.Event.{Leads}
 
 -- The plan: the folder's earlier events, the names of the file, the new file and the backup, the numbers of both files,
--- and the new bytes.
+-- and the new bytes. `backup` is `None` if no backup is requested, and `new` is `None` if no new bytes are made.
 pub record Replacement : Type 0 where
   pub before : List Event
   pub name : List ℕ
@@ -63,13 +63,13 @@ pub record Linked (aim : Replacement) (done : List Event) : Type 0 where
   pub apart : ¬ (aim.temporary ≡ second)
   pub beside : ¬ (aim.name ≡ second)
 
--- the backup is on the disk
+-- A crash leaves the backup's name pointing to the old file. The file's bytes on the disk are those from before.
 pub record HasBackup (aim : Replacement) (done : List Event) (second : List ℕ) : Type 0 where
   pub apart : ¬ (aim.temporary ≡ second)
   pub beside : ¬ (aim.name ≡ second)
   pub backed : IsBackedUp aim.before done aim.name second
 
--- The new file is on the disk, and so is the backup if one is requested.
+-- The new file is on the disk, and so is the backup's name if a backup is requested.
 pub record Backed (aim : Replacement) (done : List Event) : Type 0 where
   pub ready : Ready aim done
   pub backed : IfSome aim.backup (HasBackup aim done)
@@ -85,7 +85,7 @@ pub record BackupRemovable (aim : Replacement) (done : List Event) : Type 0 wher
   pub unbacked : IfSome aim.backup (λ second.
       leads done aim.name ≡ Some aim.original → TempRemovable aim (Leads second None ∷ done))
 
--- The file's name points to the new file, whose bytes are on the disk. A requested backup is on the disk, too.
+-- The file's name points to the new file, whose bytes are on the disk. So is the name of a requested backup.
 pub record Put (aim : Replacement) (done : List Event) : Type 0 where
   pub reached : Reached aim done
   pub is : leads done aim.name ≡ Some aim.number

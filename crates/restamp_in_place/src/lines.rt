@@ -24,7 +24,7 @@ pub trait FileTransform: Drop {
     /// The error if no new bytes could be made.
     type Stop: Drop;
 
-    // Relates the transform before and after `make` to the old bytes, and to the new ones if it made any.
+    // Relates the transform before and after `make` to the old bytes and the new ones, which are `None` for `Same`.
     ghost makes: { Self → Self → List ℕ → Option (List ℕ) → Type 0 };
 
     /// Reads the old bytes to their end, and writes the new ones. If the file needs no change, it may write anything.

@@ -24,7 +24,7 @@ pub(crate) struct Plan<'a> {
 }
 
 // Creates an empty file under the first unused name of `.NAME.restamp-0` to `.NAME.restamp-999`. Returns that name and
-// the file's writer. If all are in use, the error is of the kind `AlreadyExists`.
+// the file's writer. If all are in use, the error is of the kind `AlreadyExists`; after any other, a file may remain.
 fn create_beside<F: Folder>(
     folder: &mut F,
     alloc: Global,
@@ -196,7 +196,7 @@ fn finish<F: Folder, S: Drop>(
 /// It writes the new bytes to a new file beside the old one, stores that on the disk, and renames it. The old file then
 /// has the backup's name, if one is given, which must be unused; after an error it may have it, too. It isn't replaced
 /// if the maker returns `Same` or an error, if a check finds that another program changed or replaced it, or if a step
-/// fails. Then the new file is removed, unless that fails too. Two exceptions: if a rename fails after it was made, or
+/// fails. Then the new file is removed, unless this or its creation fails. But if a rename fails after it was made, or
 /// if only the last write of the folder to the disk fails, the new file is in place, and the result is an error.
 ///
 /// Under the name, a crash at any moment leaves what a crash before the call could leave, or the whole new file.

@@ -134,7 +134,7 @@ strict_year : (bytes : List ℕ) (b : Bool) → has_year (if b then bytes else t
 strict_year bytes true = refl
 strict_year bytes false = date-year bytes
 
--- without four digits, RFC 3339 with a strict separator fails at the year
+-- without four digits, RFC 3339 with only `T`, `t` or a space as separator fails at the year
 strict-fails : (bytes : List ℕ) → has_year bytes ≡ false → FailsAt true (strict_text bytes) Year
 strict-fails bytes none = year-fails (strict_text bytes) (strict_year bytes (has_separator bytes) ∙ none)
 

@@ -113,7 +113,7 @@ may_be_mail bytes =
     if slice_index bytes 0 == 32 then begins_day (slice_index bytes 1) (slice_index bytes 2)
     else begins_day (slice_index bytes 0) (slice_index bytes 1)
 
--- the bytes may start with a text of the format, judged by the first few
+-- the bytes may start with a text of the format, judged by at most the first four
 abbrev pub may_be_of : Reading → List ℕ → Bool
 may_be_of reading.Rfc3339 bytes = has_year bytes
 may_be_of (reading.Zoned zones) bytes = has_year bytes

@@ -61,8 +61,8 @@ abbrev pub MatchesPrefix : Outcome.Reading → List ℕ → Bool → Type 0
 MatchesPrefix reads text true = IsMatched true reads text
 MatchesPrefix reads text false = IsMatched true reads text → ⊥
 
--- The location of a rejected value in a part: the start of the component that the error reports as out of range, or if
--- there is none, the start of the part.
+-- The location of a rejected value in a part: the start of the last component that the error calls out of range, or for
+-- an absent `ordinal` of the last week number; without such a component, the start of the part.
 abbrev pub IsValueLocation : Marking → Part → Refusal → ErrorLocation → Type 0
 IsValueLocation marks p e w =
     (index : Option ℕ) × IsValueAt marks p.text empty (range_name e) index
@@ -154,7 +154,7 @@ OneErrorLocation =
 -- ---- The part that is missing from a rejected timestamp.
 
 -- the missing part of a record without a date: `Day` if it has no day, otherwise `WholeYear` if it has a part of a
--- year, else `Year`
+-- year or a whole year of the other kind than its day, else `Year`
 abbrev pub missing_date_field : Record → MissingField
 missing_date_field r =
     if not (has_day r) && not (has_iso_day r) then missing_field.Day else
@@ -191,7 +191,7 @@ IsMissingFieldBy reads refuses defaults text result =
     × (result ≡ Some (missing_field_in (completed defaults r))))
 
 -- The missing part of a text by a format; always `None` for RFC 3339, RFC 9557 and RFC 2822, whose texts have all of a
--- moment, and for `Complete`.
+-- moment, and for `Complete`, even if the text omits a part of a moment.
 abbrev pub IsMissingFieldIn : Reading → Defaults → List ℕ → Option MissingField → Type 0
 IsMissingFieldIn reading.Iso8601 = IsMissingFieldBy (Iso8601.Reads greatest_year) (Iso8601.Refuses greatest_year)
 IsMissingFieldIn (reading.Described d) =

@@ -60,8 +60,8 @@ fn index_of_value<F: Locate>(format: &F, text: &[u8], error: Parse) -> Option<us
     }
 }
 
-// Locates a rejected value in a part of a line: the start of the component that the error reports as out of range, or
-// if there is none, the start of the part.
+// Locates a rejected value in a part of a line: the start of the last component that the error calls out of range, or
+// for an absent `ordinal` of the last week number; without such a component, the start of the part.
 fn find_value<'f, F: Locate>(format: &F, part: Part<'_>, error: Parse) -> ErrorLocation<'f>
     ensures { spec.IsValueLocation (F.marks format.now) (erased_part part.entry) (refusal_of error) (spec.erased_location result) }
 {

@@ -175,10 +175,10 @@ impl Job<'_> {
     }
 
     /// The verdict on a line without its LF. The line is rejected if no format matches its timestamp, if this ends
-    /// after the first [`LIMIT`] bytes, if its moment is within the bounds `since` and `until` but has no text in the
+    /// after the first [`LIMIT`] bytes, if its moment is from `since` on and before `until` but has no text in the
     /// job's form, or if there is no timestamp and one is required. Otherwise it is `Without` if there is no timestamp,
-    /// dropped if the moment is outside the bounds, and else rewritten. Of a line with more than `LIMIT` + [`REACH`]
-    /// bytes, the caller may pass only the first `LIMIT` + `REACH`. The verdict is then the one on these bytes.
+    /// dropped if the moment is before `since`, or is `until` or later, and else rewritten. Of a line with more than
+    /// `LIMIT` + [`REACH`] bytes, the caller may pass only that many first bytes. The verdict is then the one on these.
     ///
     /// Without a place, the timestamp starts at the first byte from which on a format matches, and has at most
     /// [`REACH`] bytes. It neither starts nor ends inside a word or a number: between two bytes that are both ASCII

@@ -101,8 +101,8 @@ fn dated<'a>(defaults: &Defaults<'a>) -> Defaults<'a>
     }
 }
 
-// The missing part of a text, with the default year and offset; `None` if the format doesn't match a prefix of the
-// text. Always `None` for RFC 3339, RFC 9557 and RFC 2822, whose texts have all of a moment, and for `Complete`.
+// The missing part of a text, with the default year and offset; `None` if the format matches no prefix of it. Always
+// `None` for `Complete`, even if a part is missing, and for RFC 3339, RFC 9557 and RFC 2822, whose texts lack none.
 fn missing_field_in_text(
     reading: &Reading,
     defaults: &Defaults<'_>,
@@ -121,10 +121,10 @@ fn missing_field_in_text(
 
 impl Job<'_> {
     /// The missing part of a line's timestamp that was rejected for `reason`: the first of a day, its year, an hour, AM
-    /// or PM of an hour from 1 to 12, a minute, a second and an offset that neither the text, parsed by the first
-    /// format, nor a default supplies; the year of `latest`, if any, replaces the default `year`. `None` if `reason`
-    /// isn't `InsufficientInformation`, if the job has no place or the line no part there, if the first format matches
-    /// no prefix of that part, or if that format is RFC 3339, RFC 9557, RFC 2822 or `Complete`.
+    /// or PM of an hour from 1 to 12, the minute of a given second or fraction, the second of a given fraction, and an
+    /// offset that neither the text, by the first format, nor a default supplies. The year of any `latest` replaces the
+    /// default `year`. `None` if `reason` isn't `InsufficientInformation`, if the job has no place or the line no part
+    /// there, or if the first format matches no prefix of that part, or is RFC 3339, RFC 9557, RFC 2822 or `Complete`.
     #[inline(never)]
     pub fn find_missing_field(&self, line: &[u8], reason: Reason) -> Option<MissingField>
         ensures { spec.IsMissingField self.now line.now (seen reason) result }

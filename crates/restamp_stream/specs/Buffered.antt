@@ -45,7 +45,7 @@ Stops job mid after rest held =
     (before : State) (read more : List ℕ) → Answered job before mid read rest held
     → Stopped job before after (lines_of (read ++ more))
 
--- The work stopped at a failed write; or at a rejected line, and the fact holds.
+-- The work stopped at a failed write or flush; or at a rejected line, and the fact holds.
 abbrev pub StoppedBy : Stop → Type 0 → Type 0
 StoppedBy Unread fact = ⊥
 StoppedBy Unwritten fact = Unit {0}
@@ -61,7 +61,7 @@ FailedBy Refused fact = ⊥
 abbrev pub ContinuesLine : Option (List ℕ) → Option (List ℕ) → TailAction → List ℕ → Type 0
 ContinuesLine out out' rest bytes = HasNoLf bytes × Appends out out' (passed rest bytes)
 
--- Bytes through the first LF were written (`Dropping`: dropped; `Absent`: there are none), and `after` is the rest.
+-- Bytes through the first LF were written (`Dropping`: dropped); `after` is the rest. `Absent`: `after` is all bytes.
 abbrev pub EndsLine : Option (List ℕ) → Option (List ℕ) → TailAction → List ℕ → List ℕ → Type 0
 EndsLine out out' Absent bytes after = (after ≡ bytes) × Keeps out out'
 EndsLine out out' rest bytes after =

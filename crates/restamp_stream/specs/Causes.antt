@@ -10,14 +10,14 @@ use Rattle.restamp_stream.specs.Reports.{Tally}
 abbrev pub faults_of : {W L : Type 0} → (W → ℕ) → (L → ℕ) → Stream W L → ℕ
 faults_of faults log_faults s = faults s.out.sink + log_faults s.log
 
--- The count of failed calls (`faults_of`) rose from `before` to `now` if a failed write stopped the work; it is
--- unchanged if the work stopped otherwise.
+-- The count of failed calls (`faults_of`) rose from `before` to `now` if a failed write or flush stopped the work; it
+-- is unchanged if the work stopped otherwise.
 abbrev pub IsCounted : Stop → ℕ → ℕ → Type 0
 IsCounted Unwritten before now = Rises before now
 IsCounted _ before now = now ≡ before
 
--- The count of failed calls (`faults_of`) rose (`Rises`) from `before` to `now` if a failed write stopped the work;
--- it is unchanged if the work didn't stop, or stopped otherwise.
+-- The count of failed calls (`faults_of`) rose (`Rises`) from `before` to `now` if a failed write or flush stopped the
+-- work; it is unchanged if the work didn't stop, or stopped otherwise.
 abbrev pub HasWriteCause : {V : Type 0} → Result V Stop → ℕ → ℕ → Type 0
 HasWriteCause result before now = MatchResult result (λ _. now ≡ before) (λ stop. IsCounted stop before now)
 

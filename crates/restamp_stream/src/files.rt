@@ -17,10 +17,10 @@ pub trait Opening {
     /// The reader of a file.
     type Input: Source + Drop;
 
-    // The bytes of the file of that name, if they are known.
+    // The bytes of the file of that name. `None`: no contract states them, whether or not the file can be opened.
     ghost bytes_of: { Self → List ℕ → Option (List ℕ) };
 
-    // The number of files that it failed to open, plus the number of closed files that were cut off.
+    // How many files it failed to open, plus how many closed ones were cut off. The count may stop from 2^64 - 1 on.
     ghost faults: { Self → ℕ };
 
     /// Opens the file of that name, at its start. No call of the returned reader has failed yet.
@@ -29,8 +29,8 @@ pub trait Opening {
         ensures started { IfOk result (λ input. Self.Input.faults input ≡ 0) }
         ensures cause { HasCause result (faults self.old) (faults self.new) }
         ensures same { bytes_of self.new ≡ bytes_of self.old };
-    /// Closes a file that it opened. Counts the file as cut off if a read of the file has failed, or if the reads have
-    /// returned 18446744073709551615 bytes or more.
+    /// Closes a file that it opened. Counts the file as cut off if a read of the file has failed or was interrupted, or
+    /// if the reads have returned 18446744073709551615 bytes or more.
     fn close(&mut self, input: Self::Input)
         ensures cut_off { IsCutOff 0 (Self.Input.faults input) (Self.Input.given input) → Rises (faults self.old) (faults self.new) }
         ensures whole { ¬ IsCutOff 0 (Self.Input.faults input) (Self.Input.given input) → faults self.new ≡ faults self.old }
@@ -82,8 +82,8 @@ impl<W: Sink, L: Sink> Stream<W, L> {
     /// Processes the files in turn with one tally, each as [`Stream::serve`] does, which drops bytes buffered before.
     ///
     /// If a file can't be opened or read to its end, that is logged, and the other files are processed: the result is
-    /// never [`Stop::Unread`]. The work stops at a failed write, and at the first rejected line if `strict` is set. The
-    /// files and lines before that line are processed. After a failed write it is unknown how much was written.
+    /// never [`Stop::Unread`]. The work stops at a failed write or flush, and at the first rejected line if `strict` is
+    /// set. Files and lines before that line are processed. After [`Stop::Unwritten`] it is unknown what was written.
     pub fn serve_files<T: Rewriting, O: Opening>(
         &mut self,
         rewriting: &T,

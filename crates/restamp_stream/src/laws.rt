@@ -25,7 +25,7 @@ pub fn law_kept<T: Rewriting>(rewriting: &T, name: &[u8], settings: Settings<'_>
     ensures input { KeptBytes (job_of (T.is_action rewriting.now) (T.is_reason rewriting.now) name.now settings.entry) }
 {}
 
-/// Processes files as [`Stream::serve_files`] does, which stops early only after a failed write or at a rejected line.
+/// Calls [`Stream::serve_files`], which stops early only after a failed write or flush, or at a rejected line.
 /// After `Ok`, if no file failed to open or was cut off, all lines are processed, and their output is written.
 pub fn law_done<T: Rewriting, O: Opening, W: Sink, L: Sink>(
     stream: &mut Stream<W, L>,

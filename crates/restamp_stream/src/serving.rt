@@ -121,7 +121,7 @@ impl<W: Sink, L: Sink> Stream<W, L> {
         answered
     }
 
-    // Processes the remaining bytes at the end of the input as a line without LF, unless empty, and writes the output.
+    // If bytes remain at the end of the input, processes them as a line without LF, and then writes the output.
     fn finish<T: Rewriting>(&mut self, file: &File<'_, T>, block: &Block) -> Result<(), Stop>
         requires none { self.old.out.buffer.items ≡ [] }
         requires started { HasNoLf block.now.items }
@@ -140,7 +140,7 @@ impl<W: Sink, L: Sink> Stream<W, L> {
         Ok(())
     }
 
-    // Processes all lines. Writes what it can before each read. Calls `fail` at a failed read or after 2^64 - 1 reads.
+    // Processes all lines. Writes what it can before each read. Calls `fail` if `fill` fails or after 2^64 - 1 reads.
     fn serve_lines<T: Rewriting, R: Source>(
         &mut self,
         file: &File<'_, T>,

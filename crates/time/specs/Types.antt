@@ -1,4 +1,4 @@
--- The types that contracts name, from the crates below.
+-- The types that callers' contracts name, from the crates below.
 pub use Rattle.time_components.specs.declared.format_description.Component.{Component}
 pub use Rattle.time_components.specs.declared.inspect.Step.{Step}
 pub use Rattle.time_descriptions.specs.declared.description.Description.{Description}

@@ -1,4 +1,4 @@
--- The definitions that callers' contracts use, from the crates below. Their parameter `Y` is the greatest year.
+-- Definitions that callers' contracts use, from the crates below. Contracts pass `greatest_year` as the parameter `Y`.
 pub use Rattle.time_components.specs.Tree.{Tree, borrowed_shape, owned_shape, v3_shape, steps_shape}
 pub use Rattle.time_descriptions.specs.Description.{shape, version_of, IsRefused}
 unfoldable pub use Rattle.time_descriptions.specs.Grammar.{Describes}

@@ -75,7 +75,7 @@ trait Over: Parsable {
     fn value_over<V: AnswerOver>(&self, text: &[u8], known: Parsed) -> Result<V, Parse>;
 }
 
-// Calls `parse_into`, not `parse_date` and its like, so that each of those has a single call, which is then inlined.
+// Calls `parse_into`, not `parse_date` and its like: another call of those may keep the compiler from inlining them.
 impl Over for Description<64> {
     fn value_over<V: AnswerOver>(&self, text: &[u8], known: Parsed) -> Result<V, Parse> {
         let mut record = known;

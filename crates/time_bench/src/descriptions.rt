@@ -57,7 +57,7 @@ pub const ORDINAL_ITEMS: [BorrowedFormatItem<'static>; 3] = [
     item!(Ordinal, padding: Padding::Zero),
 ];
 
-/// The items of a dot and the one or more digits of a fraction, as `.25`.
+/// The items of a dot and the 1 to 32 digits of a fraction, as `.25`. Those after the ninth don't change the value.
 pub const FRACTION_ITEMS: [BorrowedFormatItem<'static>; 2] = [
     BorrowedFormatItem::StringLiteral("."),
     item!(Subsecond, digits: SubsecondDigits::OneOrMore),

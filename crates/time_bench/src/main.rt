@@ -112,7 +112,7 @@ mod tests {
     use crate::writing;
     use std::test::Fail;
 
-    // Each of three texts ends in `Z`, the byte 90.
+    // For the case `z`, three texts are written. Each adds its last byte to the sum: `Z`, the byte 90.
     #[test]
     fn written_sums(rt: HostRuntime) -> Result<(), Fail> {
         assert_eq!(rt; writing::sum_of("z", "3", "5"), Some(270));

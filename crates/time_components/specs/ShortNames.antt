@@ -22,7 +22,7 @@ IsTitleCase case_sensitive text rest letters =
 abbrev pub letters_of : {A : Type 0} → (A → List ℕ) → A → List ℕ
 letters_of name_of value = str_to_ascii_lowercase (take 3 (name_of value))
 
--- The result is a value whose name, in lower case, begins with exactly these letters, or `None` if no name does.
+-- The result is a value for which `letters_of` gives exactly `letters`, or `None` if it gives them for no value.
 abbrev pub IsWithLetters : {A : Type 0} → (A → List ℕ) → List ℕ → Option A → Type 0
 IsWithLetters {A} name_of letters result =
     MatchOption result ((value : A) → letters ≢ letters_of name_of value) (λ value. letters ≡ letters_of name_of value)

@@ -70,20 +70,20 @@ IsSigned mandatory behind alone text rest v =
     ((tail : List ℕ) × (text ≡ sign_byte v.0 ∷ tail) × behind tail rest v.1)
     ⊎ ((mandatory ≡ false) × (v.0 ≡ Positive) × alone text rest v.1)
 
--- The text is a year: a sign and four to `most` digits, or, if no sign is mandatory, four digits alone; both with the
--- padding. The value is the number, negative after `-`.
+-- The text is a sign and a year in four to `most` places, or, if no sign is mandatory, a year in four places. Spaces of
+-- the padding count as places. Without padding, one digit is enough. The value is the number, negative after `-`.
 abbrev pub SpellsYear : Bool → Padding → ℕ → Form Value
 SpellsYear mandatory padding most =
     HasMappedValue signed_value (IsSigned mandatory (IsPaddedRun padding 4 most) (IsPaddedRun padding 4 4))
 
--- The text is a century: a sign and two to `most` digits with the padding, or, if no sign is mandatory, one or two
--- digits alone, whatever the padding. The value is the number, negative after `-`, and whether the sign is `-`.
+-- The text is a sign and a century in 2 to `most` places with the padding, as for a year; or, if no sign is mandatory,
+-- 1 or 2 digits, whatever the padding. The value is the number, negative after `-`, and whether the sign is `-`.
 abbrev pub SpellsCentury : Bool → Padding → ℕ → Form Value
 SpellsCentury mandatory padding most =
     HasMappedValue flagged_value (IsSigned mandatory (IsPaddedRun padding 2 most) (IsDigitRun 1 2))
 
--- The text is two digits with the padding, after a sign, or alone if no sign is mandatory. The value is the number,
--- negative after `-`, and whether the sign is `-`.
+-- The text is a number in two places with the padding (one or two digits without padding), after a sign, or alone if no
+-- sign is mandatory. The value is the number, negative after `-`, and whether the sign is `-`.
 abbrev pub SpellsOffsetHour : Bool → Padding → Form Value
 SpellsOffsetHour mandatory padding =
     HasMappedValue flagged_value (IsSigned mandatory (IsPaddedRun padding 2 2) (IsPaddedRun padding 2 2))

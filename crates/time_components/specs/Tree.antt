@@ -22,7 +22,7 @@ mutual
   pub data Tree : Type 0 where
     -- literal bytes
     literal : List ℕ → Tree
-    -- a component, and whether an `Ignore` must end between UTF-8 characters
+    -- a component, and whether an `Ignore` matches only bytes that end between UTF-8 characters
     component : Bool → Component → Tree
     -- all trees in sequence
     sequence : Trees → Tree
@@ -131,7 +131,7 @@ steps_after (step.More b) steps = drop (length (further steps)) steps
 steps_after (step.Component c) steps = steps
 steps_after (step.Group g len) steps = drop len steps
 
--- the trees of a row of steps, in a recursion of at most n levels: all of them if n is at least the number of steps
+-- the trees of a row of steps, in a recursion of at most n levels: complete for up to n steps, perhaps cut for more
 unfoldable pub trees_in : ℕ → List Step → Trees
 trees_in zero steps = none
 trees_in (suc n) [] = none

@@ -19,7 +19,7 @@ use time_values::{Month, Weekday};
 
 // The two parsers that follow try the fast path in `fast` before the plain parser in `numbers`.
 
-// Parses a year with padding, negative after `-`: a sign and four to `MOST` digits, or four if no sign is required.
+// Parses a signed year: a sign and 4 to `MOST` padded digits, or 4 if none is required; `Padding::None` allows fewer.
 #[inline(always)]
 fn full_year<const MOST: u8>(
     input: &[u8],
@@ -36,7 +36,7 @@ fn full_year<const MOST: u8>(
     }
 }
 
-// Parses an offset's signed hours: an optional or mandatory sign and two padded digits. The bool is true for `-`.
+// Parses signed hours: a sign, maybe optional, and two digits; `Padding::None` allows one. The bool is true for `-`.
 #[inline(always)]
 fn offset_hour(
     input: &[u8],

@@ -145,8 +145,8 @@ pub enum OwnedFormatItem {
     First(Vec<Self>),
 }
 
-/// A format description of version 3, in the numbering of the crate `time`. The bytes that its component `Ignore` skips
-/// must end between UTF-8 characters: the byte after them, if there is one, is no continuation byte, 0x80 to 0xBF.
+/// A format description of version 3, in the numbering of the crate `time`. Its component `Ignore` matches only if the
+/// skipped bytes end between UTF-8 characters: the byte after them, if any, is no continuation byte, 0x80 to 0xBF.
 #[derive(Drop)]
 pub struct FormatDescriptionV3<'a> {
     /// The item that it consists of, such as a sequence of items.

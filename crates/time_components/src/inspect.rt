@@ -131,7 +131,7 @@ pub fn item_len(step: &Step, behind: &[Step]) -> usize
     }
 }
 
-// It doesn't split at `item_len`, since a component, the most frequent step, needs no split.
+// It doesn't split `behind` at `item_len`: for a component, the most frequent step, it returns all of `behind`.
 //
 /// The steps of `behind` after those that belong to `step`, as [`item_len`] counts them.
 #[inline(always)]

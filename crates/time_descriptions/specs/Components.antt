@@ -87,9 +87,9 @@ bracketed text =
 -- ---- How a parser of items appends steps
 
 -- The result and the new steps of a parser that appends to `old`, with room for n steps in all. The text parses as
--- `read`, and starts `begun` steps. If these fit, they are appended, as `steps` of what is read, and the result is the
--- rest; or it is the fault in `read`. Otherwise it is `NoRoom`, and n is less than the old steps and `bytes` together.
--- The appended steps and the rest's bytes together are at most `bytes`. After an error, the new steps are unspecified.
+-- `read`, and starts `begun` steps. If these fit, the result is the rest, and `steps` of what is read are appended; or
+-- it is the fault in `read`. If not, it is `NoRoom`, and n < old steps + `bytes`. `bytes` is the text's length, or 1
+-- more for a group's contents; it limits the appended steps plus the rest's bytes. An error leaves `new` unspecified.
 abbrev pub Adds : {A : Type 0} → (A → List Step) → ℕ → Read A → ℕ → ℕ
     → List Step → Result (Bor (List ℕ)) Fault → List Step → Type 0
 Adds {A} steps n read begun bytes old (Ok rest) new =

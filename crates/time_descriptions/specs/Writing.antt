@@ -118,7 +118,7 @@ abbrev pub is_escaped : ℕ → Bool
 is_escaped b = b == 91 || b == 92 || b == 93
 
 -- the text of a literal: its bytes, after a backslash if they are one bracket or one backslash; the bytes of another
--- literal are never escaped
+-- literal are never escaped, even if their text then doesn't describe that literal
 abbrev pub literal_text : List ℕ → List ℕ
 literal_text (b ∷ []) = if is_escaped b then 92 ∷ b ∷ [] else b ∷ []
 literal_text bytes = bytes

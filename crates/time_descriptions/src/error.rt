@@ -55,7 +55,7 @@ pub enum InvalidFormatDescription<'a> {
     NotSupported {
         /// What isn't supported, in English.
         what: &'static str,
-        /// The kind of description that doesn't support it, in English.
+        /// The kind of description that doesn't support it, in English: `a description` or `a strftime description`.
         context: &'static str,
         /// The index of the bracket before the list's `optional` or `first`, or of the conversion's `%`.
         index: usize,
@@ -113,7 +113,7 @@ fn write_missing<W: fmt::Write>(f: &mut fmt::Formatter<W>, name: &str, index: us
     )
 }
 
-// Writes what isn't supported, in which kind of description, and its index.
+// Writes that `what` isn't supported in `context`, such as `a strftime description`, and the index.
 fn write_not_supported<W: fmt::Write>(
     f: &mut fmt::Formatter<W>,
     what: &str,
@@ -163,7 +163,7 @@ fn index_of(text: &[u8], left: usize) -> usize
     text.len().saturating_sub(left)
 }
 
-// The bytes from the index on, `len` of them or all that remain.
+// The bytes from the index on, `len` of them or all that remain. The index must not exceed the text's length.
 fn word_at(text: &[u8], index: usize, len: usize) -> &[u8]
     requires { index ≤ length text.now }
     ensures { result.now ≡ take len (drop index text.now) }
@@ -199,7 +199,7 @@ fn unsupported_text(what: Unsupported) -> &'static str
     }
 }
 
-// The words that name the kind of description that doesn't support `what`.
+// The words for the kind of description that doesn't support `what`: `a description` or `a strftime description`.
 fn context_text(what: Unsupported) -> &'static str
     ensures { result.now ≡ refusal.context_text what }
 {

@@ -46,12 +46,12 @@ abbrev mutual
 abbrev pub text_of : ℕ → ℕ → OffsetDateTime → Tree → Result (List ℕ) Unformattable
 text_of most Y v tree = text_after most Y v [] tree
 
--- a text as its bytes, or the error
+-- the bytes of a `Text`, or the error
 abbrev pub bytes_of : Result Items Unformattable → Result (List ℕ) Unformattable
 bytes_of (Ok text) = Ok text.items
 bytes_of (Err why) = Err why
 
--- a text in an array as its bytes, or the error
+-- the bytes of a text in an `ArrayVec`, or the error
 abbrev pub array_bytes_of : Result (ArrayVec ℕ) Unformattable → Result (List ℕ) Unformattable
 array_bytes_of (Ok text) = Ok text.items
 array_bytes_of (Err why) = Err why
@@ -66,7 +66,7 @@ unformattable_text TooLong = codes "The text is too long."
 
 -- ---- Laws of the definitions, each proved by the function of module `laws` whose contract it is
 
--- A component's text spells the component's value for the moment, before each rest that `Stops` allows after the text.
+-- A component's text spells its value for the moment before each rest that `Stops` allows, for either flag of `Spells`.
 abbrev pub ComponentSpelled : ℕ → Type 0
 ComponentSpelled Y =
     (v : OffsetDateTime) (c : Component) (whole : Bool) (text rest : List ℕ)

@@ -130,7 +130,7 @@ pub enum FractionDigits {
 }
 
 impl FractionDigits {
-    // How many digits of a fraction of that many nanoseconds are written, 0 to 9.
+    // How many digits `self` selects for a fraction of that many nanoseconds, 0 to 9. `Exactly` ignores the fraction.
     #[inline(always)]
     pub(crate) fn count(self, nanosecond: u32) -> usize
         ensures count { result ≡ count_of self nanosecond }

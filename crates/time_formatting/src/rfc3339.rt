@@ -70,7 +70,7 @@ pub(crate) fn reason(value: OffsetDateTime) -> Option<Unwritable>
 }
 
 /// The text of a moment by RFC 3339, section 5.6, such as `2021-01-02T03:04:05.52+06:07`. `digits` selects how many
-/// digits of the fraction it has. An offset of 0 is `Z`.
+/// digits of the fraction it has; the fraction is truncated to them, not rounded. An offset of 0 is `Z`.
 ///
 /// The error is the first that applies: [`Unwritable::Year`] if the year is outside 0 to 9999,
 /// [`Unwritable::OffsetHour`] if the hours of the offset are outside -23 to 23, or [`Unwritable::OffsetSecond`] if the

@@ -39,8 +39,8 @@ IsAnswer line answer =
 abbrev pub AreAnswers : List (List ℕ) → List ℕ → Type 0
 AreAnswers = output.AreAnswers IsAnswer
 
--- The answers to the lines of the input, each followed by LF, are appended to the writer's contents, if they are known.
--- The parameters are the contents before, those after, and the input. An empty input has no lines.
+-- The answers to the input's lines, each followed by LF, are appended to the writer's contents. If those before (first
+-- parameter) are none, those after (second) may be anything. The last is the input. An empty input has no lines.
 abbrev pub WritesAnswers : Option (List ℕ) → Option (List ℕ) → List ℕ → Type 0
 WritesAnswers = output.WritesAnswers IsAnswer
 

@@ -27,7 +27,7 @@ use Rattle.time_locating.specs.declared.iso8601.Piece.TheVariants as piece
 abbrev pub rest_of : {V : Type 0} → Option (List ℕ × V) → Option (List ℕ)
 rest_of found = option_map (λ f. f.0) found
 
--- the rest after a piece, whatever the pieces before it, or none if the piece doesn't match
+-- the rest after a piece as `Piece` defines it, with its range, whatever the pieces before it; none if it doesn't match
 abbrev pub after : Piece → Reader
 after piece.Year bytes = rest_of (year bytes)
 after piece.Dash bytes = byte 45 bytes
@@ -121,11 +121,11 @@ offset_piece offsets.hour = piece.OffsetHour
 offset_piece offsets.colon = piece.Colon
 offset_piece offsets.minute = piece.OffsetMinute
 
--- the misses of the rows of a time that may follow a part of that kind; the bytes begin after the `T`, if there is one
+-- the misses of a time's rows after a date of that kind, or no date (`Unknown`); the bytes begin after the `T`, if any
 abbrev pub time_misses : ExtendedKind → List ℕ → List Miss
 time_misses kind = rows_misses (rows_after time_piece time_rows kind)
 
--- the misses of the rows of an offset that may follow a part of that kind
+-- the misses of the rows of an offset that may follow a time of that kind; without a time, the kind is `Unknown`
 abbrev pub offset_misses : ExtendedKind → List ℕ → List Miss
 offset_misses kind = rows_misses (rows_after offset_piece offset_rows kind)
 
@@ -147,7 +147,7 @@ unfoldable pub from_time : Bool → ExtendedKind → List ℕ → List Miss
 from_time needs_t kind bytes =
     after_time (time_text needs_t kind bytes) ++ after_t needs_t kind bytes (byte 84 bytes)
 
--- the misses of a text that is parsed without a date: as a time, perhaps with an offset, and then as an offset alone
+-- the misses of a text parsed without a date: as a time, perhaps with an offset of its kind, then as an offset alone
 abbrev pub without_date : List ℕ → List Miss
 without_date bytes = from_time false Unknown bytes ++ offset_misses Unknown bytes
 

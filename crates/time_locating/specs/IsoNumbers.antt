@@ -19,7 +19,7 @@ year_of (calendar y m d) = y
 year_of (ordinal y d) = y
 year_of (week y w d) = y
 
--- a record may have the date's year: it is at most `greatest_year`, with either sign
+-- a record may have the date's year: it is at most `greatest_year`, which is always 999999, with either sign
 abbrev pub IsYearInRange : IsoDate → Type 0
 IsYearInRange d = IsTrue (nat_le (unsigned_abs (year_of d)) greatest_year)
 

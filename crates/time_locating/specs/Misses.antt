@@ -44,7 +44,7 @@ LiteralReport = List ℕ → List ℕ
 abbrev pub all_bytes : LiteralReport
 all_bytes text = text
 
--- only the first byte is reported, since a description stores each byte of a literal by itself
+-- only the first byte is reported, since a `Description` or `Prepared` stores each byte of a literal as its own step
 abbrev pub first_byte : LiteralReport
 first_byte [] = []
 first_byte (b ∷ text) = b ∷ []

@@ -39,7 +39,7 @@ abbrev pub Locates : Locating
 Locates bytes r m = LocatesPlace (PlaceSyntax true) places nothing_read expected_from expected_at bytes m
 
 -- How many bytes are left at the start of the component of that name, whatever the record. None if a place doesn't
--- match, if no place has the name, or if the place has no text: the offset's minute after a zone name, or an omitted
--- second.
+-- match, if no place's error has the name, or if the place has no text: the offset's minute after a zone name, or an
+-- omitted second.
 abbrev pub Marks : Marking
 Marks name bytes r mark = MarksText (PlaceSyntax true) expected_from fault places nothing_read name bytes mark

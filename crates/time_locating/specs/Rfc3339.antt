@@ -7,7 +7,7 @@ use Rattle.time_locating.specs.Marks.{LocatesPlace, MarksText, at_once}
 use Rattle.time_locating.specs.Located.{Locating, Marking}
 use Rattle.time_locating.specs.Misses.{Expectation, these_bytes, expected_of}
 
--- what is expected at a place: its fixed byte, or else the component that its error names
+-- what is expected at a place: its fixed byte, `-` or `:`, or else the component that its error names
 abbrev pub expected_at : Place → Expectation
 expected_at YearDash = these_bytes (codes "-")
 expected_at MonthDash = these_bytes (codes "-")

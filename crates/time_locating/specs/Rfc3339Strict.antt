@@ -1,4 +1,4 @@
--- The place of a text that RFC 3339 with a strict separator rejects.
+-- The place of a text that RFC 3339 with only `T`, `t` or a space as separator rejects.
 use Rattle.std.specs.Prelude.{◌≡◌, ℕ, ◌+◌, ◌-◌, List, length, Option}
 use Rattle.std.specs.Option.{option_map}
 use Rattle.time_record.specs.Record.{Record}

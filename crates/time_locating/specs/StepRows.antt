@@ -5,7 +5,7 @@ use Rattle.std.specs.Prelude.{◌≡◌, ◌≤◌, ◌<◌, List, length}
 use Rattle.time_components.specs.Tree.{steps_trees, Tree, none, more}
 use Rattle.time_components.specs.declared.inspect.Step.{Step}
 
--- `item` are the steps of the first item of `steps`, whose tree is `tree`, and `after` those of the items after it.
+-- The only tree of `item` is `tree`, that of the first item of `steps`. `after` has the trees of the items after it.
 pub record IsSplit (steps item after : List Step) : Type 0 where
   pub tree : Tree
   pub alone : steps_trees item ≡ more tree none

@@ -190,7 +190,7 @@ fn rows_missed(rows: &[&[Piece]], input: &[u8]) -> Option<Miss<'static>>
     missed
 }
 
-// The rows of pieces that a time may have in a text of that kind: basic, extended, or not known yet.
+// The rows of pieces of a time in a text of that kind. Unless it is basic, the colon before the minute is optional.
 fn times_of(kind: ExtendedKind) -> &'static [&'static [Piece]]
     ensures { map (λ row. row.now) result.now ≡ spec.rows_after spec.time_piece time_rows kind }
 {
@@ -201,7 +201,7 @@ fn times_of(kind: ExtendedKind) -> &'static [&'static [Piece]]
     }
 }
 
-// The rows of pieces that an offset may have in a text of that kind: basic, extended, or not known yet.
+// The rows of pieces of an offset in a text of that kind. Unless it is basic, the colon before the minute is optional.
 fn offsets_of(kind: ExtendedKind) -> &'static [&'static [Piece]]
     ensures { map (λ row. row.now) result.now ≡ spec.rows_after spec.offset_piece offset_rows kind }
 {
@@ -277,8 +277,8 @@ fn too_great(numbers: DateNumbers, kind: ExtendedKind) -> Option<(usize, &'stati
     }
 }
 
-// The furthest miss of a text, in its date, time or offset. Never `None`: a valid text has a miss, too, that of a form
-// that it doesn't have.
+// The furthest miss after the date. If none matches, or its day, ordinal or week is too great, the furthest in the date
+// or in a text without one. Never `None`: a valid text has a miss, too, that of a form that it doesn't have.
 fn missed(input: &[u8]) -> Option<Miss<'static>>
     ensures { (r : Record) → erased_miss result ≡ furthest (spec.misses input.now r) }
 {

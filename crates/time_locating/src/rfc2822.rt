@@ -213,7 +213,7 @@ fn rest_before<'a>(place: Place, input: &'a [u8]) -> Option<&'a [u8]>
 }
 
 // How many bytes are left at the start of the component of this name, in a text whose places all match. `None` if no
-// place has the name, or if that place's text is empty.
+// place's error has the name (as for `weekday`), or if that place's text is empty.
 fn mark_of_place(input: &[u8], name: &str) -> Option<usize>
     ensures { (rest : List ℕ) (n : Numbers) → HasForm true input.now rest n
         → MarksPlaces (PlaceSyntax true) spec.expected_from fault name.now places nothing_read input.now result }

@@ -42,7 +42,7 @@ const PLACES: [Place; 15] = [
     Place::OffsetMinute,
 ];
 
-// What is reported as expected at a place: its fixed byte, or else the component that the place's error names.
+// What is reported as expected at a place: its fixed byte, `-` or `:`, or else the component that its error names.
 fn expected_at(place: Place) -> Expected<'static>
     ensures { wants result ≡ expected_at place }
 {

@@ -1,4 +1,4 @@
-//! Locates the errors of RFC 3339 texts with a strict separator.
+//! Locates the errors of texts by RFC 3339 with only `T`, `t` or a space between the date and the time.
 use crate::rfc3339::error_place;
 use crate::{Locate, Located};
 use time_parsing::{Rfc3339, Rfc3339Strict, strict_text};

@@ -142,7 +142,7 @@ fn walk_first<'a, 'd, I: Inspect>(
 }
 
 // Reads a literal, the bytes `text`, at the front of the input. Without a match the miss is at the literal's first byte
-// that isn't there. There is never a mark.
+// that isn't there, and expects the literal's bytes from that one on. There is never a mark.
 fn literal<'a, 'd>(text: &'d [u8], input: &'a [u8]) -> Walked<'a, 'd>
     ensures reads { (r : Record) → Attempts greatest_year (tree.literal text.now) input.now r result.rest r }
     ensures misses { (r : Record) → IsFurthest (Misses all_bytes (tree.literal text.now) input.now r)
@@ -191,7 +191,7 @@ fn read_component<'a>(
 }
 
 // Reads a component at the front of the input, and stores its value. Without a match the miss is at the start of the
-// input, and the record is unchanged. An `Ignore` must end between UTF-8 characters.
+// input, and the record is unchanged. An `Ignore` matches only if the skipped bytes end between UTF-8 characters.
 fn read_whole_component<'a>(
     component: Component,
     parsed: &mut Parsed,

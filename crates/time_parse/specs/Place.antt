@@ -139,7 +139,7 @@ IsRequestedAnswer false = IsAnswer
 IsRequestedAnswer true = IsPlacedAnswer
 
 -- The format has a meaning, and the target's name is known. The answers to the lines of the input by them, each
--- followed by LF, are appended to the writer's contents, if they are known.
+-- followed by LF, are appended to the contents `old`, which gives `new`. If `old` is none, `new` may be anything.
 abbrev pub WritesAnswers : Bool → Version → List ℕ → List ℕ → Option (List ℕ) → Option (List ℕ) → List ℕ → Type 0
 WritesAnswers prints_places version format target old new input =
     (meaning : Meaning) × (value : Target)

@@ -39,7 +39,7 @@ reason_of (fault.UnknownFormat name) = unknown_format name.now
 reason_of (fault.Description format error) = faulty format.now (description.refusal_of error)
 reason_of (fault.UnknownTarget name) = unknown_target name.now
 
--- The message of a reason; none for a message that quotes an unknown word of the description, which isn't specified.
+-- The message of a reason; none, so unspecified, if it quotes a faulty name, modifier, letter or flag of a description.
 abbrev pub reason_text : Reason → Option (List ℕ)
 reason_text (unknown_format name) = Some (codes "no format has this name, and a description has a `[` or a `%`")
 reason_text (faulty format refusal) = description.refusal_text refusal
@@ -170,7 +170,7 @@ question_of prints_places (option ∷ format ∷ target ∷ []) =
 question_of prints_places words = unknown
 
 -- The request of the words after the program's name: `--help` or `--version` alone, or `[--place] [--v1] FORMAT
--- TARGET`, with the options in this order; unknown for any other words.
+-- TARGET`, in this order. `--place` or `--v1`, where that option may be, is never FORMAT. Unknown for other words.
 abbrev pub command_of : List (List ℕ) → CommandValue
 command_of [] = unknown
 command_of (word ∷ []) = page word

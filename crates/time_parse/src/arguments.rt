@@ -80,7 +80,7 @@ fn question_of(prints_places: bool, words: &[String]) -> Command<'_>
 }
 
 /// The request of the words after the program's name: `--help` or `--version` alone, or `[--place] [--v1] FORMAT
-/// TARGET`, with the options in this order. `Unknown` for any other words.
+/// TARGET`, in this order. `--place` or `--v1`, where that option may be, is never FORMAT. `Unknown` for other words.
 pub fn command_of(words: &[String]) -> Command<'_>
     ensures { spec.value_of result ≡ spec.command_of (map string_bytes words.now) }
 {

@@ -74,8 +74,8 @@ fn follow(rt: &HostRuntime, words: &[String]) -> io::Result<u8> {
     }
 }
 
-// Runs what the words of the command line request. If they can't be read, as when one isn't UTF-8, prints the usage,
-// and exits with 2. `Err` if a page, the usage or a report can't be written, or if memory for the words runs out.
+// Runs what the words of the command line request. If they can't be read (one isn't UTF-8, or memory runs out), prints
+// the usage, and exits with 2. `Err` if a page, the usage or a report can't be written, or `words` can't be allocated.
 fn main(rt: HostRuntime) -> io::Result<ExitCode> {
     let Ok(arguments) = env::args(&rt) else {
         return Ok(ExitCode::from(print_usage(&rt)?));

@@ -69,8 +69,8 @@ unfoldable pub time_over : ℕ → Bool → ExtendedKind → List ℕ → Record
 time_over Y needs_t kind bytes r =
     option_and_then (λ t. option_map (with_value t) (put_all Y (time_entries t.value) r)) (time_text needs_t kind bytes)
 
--- The record with the offset at the start of the bytes, but without an earlier offset's sign, and the rest and the kind
--- after the offset. `kind` is the kind before it. None if no offset matches, or a number is out of its range.
+-- The record with the offset at the start of the bytes and the flag of a negative offset cleared, even for `-05`; and
+-- the rest and the kind after it. `kind` is the kind before it. None if no offset matches, or a number is out of range.
 unfoldable pub offset_over : ℕ → ExtendedKind → List ℕ → Record → Option (Found Record)
 offset_over Y kind bytes r =
     option_and_then
@@ -98,13 +98,13 @@ parts Y =
     or time Y false then optional (offset Y)
     or offset Y
 
--- the rest after the parts at the start of the bytes, and the record with their values, or none if there is no part;
--- the kind isn't known before the first part
+-- The rest after the parts at the start of the bytes, and the record with their values and, after an offset, with the
+-- flag of a negative offset cleared; none if there is no part. The kind isn't known before the first part.
 unfoldable pub reading : ℕ → List ℕ → Record → Option (List ℕ × Record)
 reading Y bytes r =
     option_map (λ f. (f.rest, f.value)) (parts Y (record { rest = bytes; value = r; kind = Unknown }))
 
--- the bytes begin with the parts of a text; the new record is the old one with their values and a leap second allowed
+-- the bytes begin with the parts of a text; by `reading`, they change r, with a leap second allowed, to the new record
 abbrev pub Reads : ℕ → Reading
 Reads Y bytes r rest new = reading Y bytes (with_leap_second r) ≡ Some (rest, new)
 

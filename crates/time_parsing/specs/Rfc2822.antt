@@ -38,7 +38,7 @@ abbrev pub entries : Numbers → List Entry
 entries n = date_entries n ++ time_entries n ++ offset_entries n.offset_sign n
 
 -- The bytes before `rest` are the texts of the fifteen places, each of its form and in its range. The new record is the
--- old one with their numbers, a leap second allowed, and no earlier offset's sign.
+-- old one with their numbers, a leap second allowed, and the flag of a negative offset cleared, even for `-0500`.
 abbrev pub Reads : ℕ → Reading
 Reads Y bytes r rest new =
     (n : Numbers) × HasForm true bytes rest n

@@ -47,7 +47,7 @@ abbrev pub with_leap_second : Record → Record
 with_leap_second r = record r { leap_second_allowed = true }
 
 -- The bytes before `rest` are the texts of the fifteen places, each of its form and in its range. The new record is the
--- old one with their numbers, a leap second allowed, and no earlier offset's sign.
+-- old one with their numbers, a leap second allowed, and the flag of a negative offset cleared, even for `-05:00`.
 abbrev pub Reads : ℕ → Reading
 Reads Y bytes r rest new =
     (n : Numbers) × (m : Month) × HasForm true bytes rest n × (month_number m ≡ n.month)

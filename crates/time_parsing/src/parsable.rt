@@ -13,8 +13,8 @@ use time_values::{Date, OffsetDateTime, PlainDateTime, Time, Timestamp, UtcDateT
 
 /// A format by which texts can be parsed.
 ///
-/// All calls but [`Parsable::parse_into`] accept defaults for components that the text omits, such as the year that
-/// `03-04` omits. The text is parsed over the defaults, and its components replace theirs. `None` means no defaults.
+/// All calls but [`Parsable::parse_into`] accept defaults, or `None`, for components that the text omits, as a year.
+/// A component of the text replaces only the same default: a default ordinal overrules the text's month and day.
 pub trait Parsable {
     // The format matches a prefix of the bytes, parsed over a record, with this rest and this record after it.
     ghost reads: { Self → Reading };

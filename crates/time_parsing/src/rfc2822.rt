@@ -23,8 +23,8 @@ use time_values::error::Parse;
 /// A text needs the date, the time and the offset, whatever value it is parsed as. Blanks and comments may be where
 /// [`Place`](time_readers::rfc2822::Place) lists blanks. The weekday may be missing, and isn't compared with the date.
 /// Names match in any case. The year has four digits, from 1900, or two: 00 to 49 are 2000 to 2049, and 50 to 99 are
-/// 1950 to 1999. The second may be missing. A missing second and the second of a numeric offset are those of the
-/// defaults, or else 0.
+/// 1950 to 1999. The second may be missing. A missing second, the second's fraction and the second of a numeric offset
+/// are those of the defaults, or else 0. But a default fraction without any second makes the time incomplete.
 ///
 /// The offset is a sign, an hour 00 to 25 and a minute 00 to 59, or a zone name: `GMT`, `EST`, `EDT`, `CST`, `CDT`,
 /// `MST`, `MDT`, `PST` or `PDT`; or, if fewer than three bytes remain, `UT` or one letter except `J`, both for UTC.

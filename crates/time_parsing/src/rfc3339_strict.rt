@@ -1,4 +1,4 @@
-//! The format of RFC 3339 with a strict separator.
+//! The format of RFC 3339 with only `T`, `t` or a space between the date and the time.
 ghost use Rattle.std.specs.Prelude.{◌≡◌};
 ghost use Rattle.time_parsing.specs.Rfc3339Strict as spec;
 

@@ -101,7 +101,7 @@ with_half n r =
 
 -- ---- Which steps of a description are joined
 
--- the steps of the short name of a month and a day, which may be padded with a space, with this byte between them
+-- the steps of the short name of a month and a day (two digits, or a space and a digit), with this byte between them
 abbrev pub month_day_parts : ℕ → List Step
 month_day_parts b =
     step.Component (MonthShort MONTH_NAME) ∷ step.Literal b ∷ step.Component (Day SPACED_DAY) ∷ []

@@ -8,7 +8,7 @@ use std::num::NonZero;
 use time_components::{Component, Padding, Period, Step, SubsecondDigits, modifier};
 use time_values::Month;
 
-/// A form of a date: its parts in order, with this byte between them. A day and a month's number have two digits.
+/// A form of a date: its parts in order, with this byte between them. Numbers have two digits, but a year four to six.
 #[derive(Clone, Copy, Debug, PartialEq, Eq)]
 pub enum Dated {
     /// A year, a month's number and a day, as `2021-03-04`. The year has four digits, or a sign and four to six. Only a
@@ -22,8 +22,8 @@ pub enum Dated {
     DayFirst(u8),
 }
 
-/// A form of a date, a time of the 24-hour clock with a second but no fraction, and an offset of a sign, an hour and a
-/// minute. Each number of the time and of the offset has two digits.
+/// A form of a date, a byte, a time of the 24-hour clock with a second but no fraction, and an offset of a sign, an
+/// hour and a minute, perhaps after a byte. Each number of the time and of the offset has two digits.
 #[derive(Clone, Copy, Debug, PartialEq, Eq)]
 pub struct InMoment {
     /// The form of the date.

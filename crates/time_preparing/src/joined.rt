@@ -113,7 +113,7 @@ pub(crate) fn joined_at(steps: &[Step]) -> Joined
 }
 
 // Three, five or six joined steps at the front of `steps`, or `None` if these can't be joined or the second step isn't
-// a literal's first byte. This is not a fast path.
+// a literal's first byte. This is not a fast path, although the contract always allows `None`: it parses no text.
 fn several_at(steps: &[Step]) -> Option<Joined>
     ensures { IfSome result (λ joined. BeginsWithParts joined steps.now) }
 {
@@ -135,7 +135,7 @@ fn several_at(steps: &[Step]) -> Option<Joined>
 
 // Three or five joined steps at the front of `steps`, with a literal of this byte as the second: those of a date with a
 // year of the extended range, of a month's name and a day, of a time or of an optional fraction. `None`: `steps` begins
-// with none of these, or a `Step::More` directly follows them. This is not a fast path.
+// with none of these, or a `Step::More` directly follows them. This is not a fast path: it parses no text.
 fn three_at(steps: &[Step], byte: u8) -> Option<Joined>
     ensures { IfSome result (λ joined. BeginsWithParts joined steps.now) }
 {

@@ -88,7 +88,7 @@ impl<const N: usize> Prepared<N> {
         self.steps.as_slice()
     }
 
-    // The known form of whole texts, or `Whole::Nothing`.
+    // The known form of whole texts of the steps, or only of their first alternative. `Whole::Nothing`: no known form.
     #[inline(always)]
     pub(crate) fn whole(&self) -> &Whole
         ensures { Leads result.now self.now }

@@ -102,7 +102,7 @@ IsSecondOfTime n second nanoseconds =
     (h m : ℕ) → says any_second n (hour_and_minute h m)
     ≡ Some (record { hour = h; minute = m; second = second; subsecond = nanoseconds })
 
--- if the hour is at most 23 and a valid second begins `after`, then `T` and a time of these numbers follow the date
+-- if the hour is up to 23 and a valid second begins `after` (past a `:` if extended), `T` and this time follow the date
 abbrev pub IsClock : FirstSixteen → Type 0
 IsClock f =
     (n : Number) (rest : List ℕ) (s nanoseconds : ℕ) → f.hour ≤ 23
@@ -113,6 +113,6 @@ IsClock f =
       kind = f.date.kind;
     })
 
--- the text begins with the date, the hour and the minute of these digits, if they are in range
+-- the text, basic or extended, begins with the date as `AreCalendarDigits` states, then with a time as `IsClock` states
 abbrev pub IsFirstSixteen : List ℕ → FirstSixteen → Type 0
 IsFirstSixteen text f = AreCalendarDigits text f.date × IsClock f

@@ -29,7 +29,7 @@ pub fn law_ranged_forms()
     ensures rfc2822 { RangedForms (rfc2822.HasForm true) (rfc2822.HasForm false) rfc2822.InRanges }
 {}
 
-/// `zero_or_more` repeats a reader until it rejects, if the reader consumes a byte or more whenever it succeeds.
+/// `zero_or_more` repeats a reader until it rejects, and returns the rest, if each success consumes a byte or more.
 pub fn law_repeated()
     ensures { (p : Reader) → Consumes p → IsRepeated p }
 {}
@@ -39,18 +39,18 @@ pub fn law_iso_pieces()
     ensures { IsoPiecesAreCuts }
 {}
 
-/// At most one row of the table of ISO 8601 times matches an input of a given kind.
+/// At most one row of the table of ISO 8601 times matches given bytes after a given `ExtendedKind`, also `Unknown`.
 pub fn law_one_time_row()
     ensures { OneTimeRow }
 {}
 
-/// At most one row of the table of ISO 8601 offsets matches an input of a given kind.
+/// At most one row of the table of ISO 8601 offsets matches given bytes after a given `ExtendedKind`, also `Unknown`.
 #[tactic(auto, using(crate::proofs::IsoTimes::one_offset_row))]
 pub fn law_one_offset_row()
     ensures { OneOffsetRow }
 {}
 
-/// For any digits and any unit, exactly one number is the truncated fraction, and exactly one the rounded fraction.
+/// For any digits and any whole unit, exactly one number is 0.digits * unit truncated, and exactly one it rounded.
 pub fn law_one_fraction()
     ensures { OneFraction }
 {}

@@ -35,7 +35,7 @@ pub enum Place {
     MonthBlanks,
     /// Four digits of 1900 or later; or two, if there aren't four.
     Year,
-    /// Blanks. After a year of four digits they contain no comments.
+    /// Blanks. After a year of four digits they are as in [`fws`].
     YearBlanks,
     /// Two digits.
     Hour,

@@ -136,7 +136,7 @@ hour_of_half (Some h) (Some is_pm) = Some (if is_pm then h % 12 + 12 else h % 12
 hour_of_half (Some h) None = None
 hour_of_half None is_pm = None
 
--- the numbers of a time, perhaps out of range, such as a second of 60
+-- the numbers of a time; those of a record within its ranges are in range for a time, except for a second of 60
 pub record Clock : Type 0 where
   pub hour : ℕ
   pub minute : ℕ
@@ -161,17 +161,17 @@ abbrev pub clock_of : Record → Option Clock
 clock_of r = option_and_then (λ h. clock_at h r.minute r.second r.subsecond) (hour_of r)
 
 -- the time of a record; without sufficient numbers the error is insufficient information, and for a number out of range
--- (as a second of 60) that of `time_refusal`
+-- (of a record within its ranges only a second of 60) that of `time_refusal`
 unfoldable pub IsTimed : Record → Result Time Refusal → Type 0
 IsTimed r result = MatchOption (clock_of r) (result ≡ Err insufficient)
     (λ c. IsConstructed (time_refusal c.hour c.minute c.second c.nanosecond)
     (HasClock c.hour c.minute c.second c.nanosecond) result)
 
--- an offset's minutes or seconds, negated if the record's flag of a negative offset is set, or 0 if they are missing
+-- an offset's stored minutes or seconds, of either sign; negated if `offset_is_negative` is set, and 0 if missing
 abbrev pub offset_part : Record → Option ℤ → ℤ
 offset_part r part = unwrap_or (option_map (signed_by r.offset_is_negative) part) (pos 0)
 
--- an offset's seconds, negated if the flag of a negative offset is set, or 0 if they or its minutes are missing
+-- an offset's seconds, of either sign; negated if `offset_is_negative` is set, and 0 if they or its minutes are missing
 abbrev pub offset_seconds_of : Record → ℤ
 offset_seconds_of r = option_map_or (λ _. offset_part r r.offset_second) r.offset_minute (pos 0)
 

@@ -19,7 +19,7 @@ pub record Resumes (Y : ℕ) (all : Trees) (b0 : List ℕ) (r0 : Record) (begun 
   pub begins : (m : ℕ) → BeginsAll Y left b r m → BeginsAll Y all b0 r0 (begun + m)
 
 -- The count rises by the number of items that alternatives visit, at most their number of nodes, without the group
--- around them.
+-- around them. It stops at 2 ^ 64 - 1.
 abbrev pub CountsFirst : ℕ → Trees → List ℕ → Record → ℕ → ℕ → Type 0
 CountsFirst Y ts bytes r = Rises (BeginsFirst Y ts bytes r) (places_of_all ts)
 

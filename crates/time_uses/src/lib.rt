@@ -37,14 +37,14 @@ pub fn mail_date(header: &str) -> Result<OffsetDateTime, Parse>
 /// Why a text of a configuration wasn't parsed as a date: because of its description, or of the text itself.
 #[derive(Debug, Drop)]
 pub enum NoDate<'a> {
-    /// The description can't be parsed, or has more than 64 steps.
+    /// The description can't be parsed, or has more than 64 steps: components, bytes of literals, and groups.
     Description(InvalidFormatDescription<'a>),
     /// The text doesn't match the description, or the parsed components give no valid date.
     Text(Parse),
 }
 
-/// The date of a whole text, parsed by a description of version 2, as `[year]-[month]-[day]`. Both are texts of a
-/// configuration. An error is that of the description, which may have up to 64 steps, or else that of the text.
+/// The date of a whole text by a description of version 2, as `[year]-[month]-[day]`, both from a configuration. An
+/// error is that of the description, with at most 64 steps (each byte of a literal is one), or else that of the text.
 pub fn configured_date<'a>(description: &'a str, text: &str) -> Result<Date, NoDate<'a>>
     ensures { IsConfigured description.now text.now result }
 {
@@ -76,8 +76,8 @@ pub fn time_of_day(text: &str) -> Result<Time, Parse>
     Time::parse(text, &Iso8601)
 }
 
-/// The date of a whole text by the format. `year` (ignored unless from -999999 to 999999) is the calendar year of a
-/// text without a full one, even with a century and two digits. An error if it doesn't match, or gives no valid date.
+/// The date of a whole text by the format. `year` (ignored beyond ±999999) is the calendar year of a text without a
+/// full one, even with a century and two digits; an ISO week date ignores it. An error without a match or valid date.
 pub fn date_in<F: Parsable>(year: i32, text: &[u8], format: &F) -> Result<Date, Parse>
     ensures { IsOutcome (IsDated greatest_year) (F.reads format.now) (F.refuses format.now) text.now
         (begun (put greatest_year (year_is year) empty)) (seen result) }

@@ -1,4 +1,4 @@
--- The proleptic Gregorian calendar, by counting. `Y` is the greatest year: years run from -Y to Y.
+-- The proleptic Gregorian calendar, by counting. Years run from -Y to Y. Weekdays are right if -Y-01-01 is a Monday.
 use Rattle.std.specs.Prelude.{◌≡◌, ℕ, zero, suc, ◌+◌, ◌-◌, ◌*◌, ◌%◌, ◌<◌, ◌≤◌, Bool, not, ◌&&◌, ◌||◌, ◌==◌, if◌then◌else◌, ℤ, pos, neg_ℤ, ◌+ℤ◌, ◌-ℤ◌, ◌≤ℤ◌, unsigned_abs}
 
 -- z lies from low to high, both included
@@ -58,7 +58,7 @@ ordinal_of y m d = days_of_months y (m - 1) + d
 abbrev pub day_number : ℕ → ℤ → ℕ → ℕ → ℕ
 day_number Y y m d = year_start Y y + (ordinal_of y m d - 1)
 
--- the weekday of the date `day` days after the Monday -999999-01-01, 0 for Monday to 6 for Sunday
+-- the weekday of the date `day` days after a Monday, such as -999999-01-01 or -9999-01-01; 0 for Monday to 6 for Sunday
 abbrev pub weekday_of : ℕ → ℕ
 weekday_of day = day % 7
 

@@ -7,6 +7,6 @@ use Rattle.std.specs.Prelude.{ℕ, ◌+◌, ◌-◌, ◌*◌, ◌/◌, nat_lt, i
 abbrev pub march_days : ℕ → ℕ
 march_days m = if nat_lt m 3 then 275 + 31 * m else (153 * m - 457) / 5
 
--- 1 from March on, and 0 for January and February
+-- how many years that begin in March have begun in the calendar year by the month m: 1 from March (3) on, and else 0
 abbrev pub march_year : ℕ → ℕ
 march_year m = if nat_lt 2 m then 1 else 0

@@ -11,8 +11,8 @@ use Rattle.time_values.specs.declared.error.DifferentVariant.{DifferentVariant}
 use Rattle.time_values.specs.declared.error.Error.{Error}
 use Rattle.time_values.specs.declared.error.Error.TheVariants.{ComponentRange as joint_range, TryFromParsed as joint_parsed, ParseFromDescription as joint_description}
 
--- a literal is missing, the named component of a text can't be read or is out of its range, bytes are left over,
--- components are missing, or the named one of a value is out of its range, which depends on others if the flag is true
+-- a literal is missing, a text's named component is unreadable or out of its range, bytes are left over, components
+-- are missing (or a timestamp fails), or a value's one is out of its range, which depends on others if the flag is true
 pub data Refusal : Type 0 where
   literal : Refusal
   component : List ℕ → Refusal

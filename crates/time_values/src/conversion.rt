@@ -51,8 +51,8 @@ impl TryFrom<SystemTime> for OffsetDateTime {
     }
 }
 
-// The time of the system's clock that many seconds and nanoseconds after 1970-01-01T00:00:00Z. An error names
-// `timestamp` if `seconds` is negative.
+// The time of the system's clock that many seconds and nanoseconds after 1970-01-01T00:00:00Z. Only a negative number
+// of seconds is an error, which names `timestamp`.
 fn system_time(seconds: i64, nanosecond: u32) -> Result<SystemTime, ComponentRange>
     requires { nanosecond < 1_000_000_000 }
     ensures { ConstructsSystemTime ((seconds *ℤ pos 1_000_000_000) +ℤ pos nanosecond) result }

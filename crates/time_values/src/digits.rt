@@ -89,8 +89,8 @@ pub fn six(n: u32) -> [u8; 6]
     [a, b, c, d, e, f]
 }
 
-// Removes groups of three zeros from the end of the nine digits of a nanosecond. Returns how many digits are left, and
-// the number that they represent.
+// Removes groups of three zeros from the end of the nine digits of a nanosecond. Returns how many digits are left (0,
+// 3, 6 or 9), and the number that they represent. For a nanosecond of 0, both are 0.
 #[tactic(auto, using(crate::proofs::NumberLemmas::significant_thousand, crate::proofs::NumberLemmas::significant_million, crate::proofs::NumberLemmas::significant_nothing))]
 fn without_thousands(nanosecond: u32) -> (usize, u32)
     ensures count { significant 9 nanosecond ≡ significant result.0 result.1 }

@@ -112,7 +112,7 @@ impl std::error::Error for ParseFromDescription {}
 /// The components that were read don't make a value of the expected type.
 #[derive(Clone, Copy, Debug, PartialEq, Eq)]
 pub enum TryFromParsed {
-    /// Components are missing.
+    /// Components are missing. `Timestamp::try_from` also returns it if a component is out of its range.
     InsufficientInformation,
     /// A component is out of its range.
     ComponentRange(ComponentRange),
@@ -222,7 +222,7 @@ impl TryFrom<Parse> for ParseFromDescription {
     }
 }
 
-/// Any error of constructing dates, months, times, offsets or moments, or of parsing them.
+/// A `ComponentRange`, `ParseFromDescription` or `TryFromParsed`: an error of constructing or parsing a value.
 #[derive(Debug, Drop, thiserror::Error)]
 pub enum Error {
     /// A component is out of its range.

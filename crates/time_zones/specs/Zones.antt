@@ -60,15 +60,15 @@ IsOnlyMoment zone clock m = HasLocalTime zone clock m × AtEach zone clock (λ n
 abbrev pub IsNonexistent : TimeZone → PlainDateTime → Type 0
 IsNonexistent zone clock = AtEach zone clock (λ n. ⊥)
 
--- the moments are the first and the last at which clocks of the zone show the date and time, and differ
+-- two different moments: the first and last in the range of zones at which clocks of the zone show the date and time
 abbrev pub AreFirstAndLast : TimeZone → PlainDateTime → OffsetDateTime → OffsetDateTime → Type 0
 AreFirstAndLast zone clock first last =
     HasLocalTime zone clock first × HasLocalTime zone clock last
     × (offset_instant greatest_year first <ℤ offset_instant greatest_year last)
     × AtEach zone clock (IsBetween (offset_instant greatest_year first) (offset_instant greatest_year last))
 
--- why a date and time isn't exactly one moment in the zone: for `Fold` its first and its last moment differ; else it is
--- nonexistent, for `Gap` in the range of zones at each offset, and for `OutsideZoneRange` outside it at some offset
+-- Why a date and time isn't one moment of the zone in the range of zones. For `Fold` its first and last moment differ.
+-- Else it has none there. For `Gap` it is in that range at each offset; for `OutsideZoneRange` at some offset it isn't.
 abbrev pub IsNotOne : TimeZone → PlainDateTime → NotOne → Type 0
 IsNotOne zone clock Gap = IsNonexistent zone clock × IsInZoneRangeAtEachOffset clock
 IsNotOne zone clock (Fold earlier later) = AreFirstAndLast zone clock earlier later
@@ -82,7 +82,7 @@ HasOneSource (Fixed offset) = Unit {0}
 HasOneSource (Posix rule) = Unit {0}
 HasOneSource (Tzif table) = (tzif_view table.now).rule ≡ None
 
--- clocks of the zone show the date and time at no moment but the two of the fold; true of the other errors
+-- no moment in the range of zones but the two of the fold has the date and time in the zone; true of the other errors
 abbrev pub HasNoThird : TimeZone → PlainDateTime → NotOne → Type 0
 HasNoThird zone clock Gap = Unit {0}
 HasNoThird zone clock (Fold earlier later) =

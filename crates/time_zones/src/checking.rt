@@ -86,10 +86,10 @@ fn check_zone_text(
     }
 }
 
-/// Checks the moment's suffix by RFC 9557, sections 3.3, 3.4 and 4.1. Returns the first error that applies:
-/// `CriticalKey` for a critical tag, since no key is known; `UnknownZone` for a zone's name that `zones` doesn't have;
-/// and, if `has_local_offset` (pass false for `Z` and `-00:00`), `OutsideZoneRange` for a zone's name and a moment
-/// outside the range of zones, or `OtherOffset` if the offset isn't the zone's. A zone's flag `!` changes nothing.
+/// Checks the moment's suffix by RFC 9557, sections 3.3, 3.4 and 4.1. A zone's flag `!` changes nothing. Returns the
+/// first error that applies: `CriticalKey` for a critical tag, since no key is known; `UnknownZone` for a zone's name
+/// that `zones` doesn't have; and, if `has_local_offset` (pass false for `Z` and `-00:00`), `OutsideZoneRange` for a
+/// name and a moment outside the range of zones, or `OtherOffset` if the zone, a name or an offset, has another offset.
 pub fn check_suffix(
     suffix: &Suffixed<'_>,
     moment: OffsetDateTime,

@@ -80,9 +80,9 @@ pub enum NotOne {
     Gap,
     /// The local time is ambiguous: it occurs more than once.
     Fold {
-        /// The first moment that has this local time.
+        /// The first moment in the range of zones that has this local time.
         earlier: OffsetDateTime,
-        /// The last moment that has this local time.
+        /// The last moment in the range of zones that has this local time.
         later: OffsetDateTime,
     },
     /// The local time occurs at no moment in the range of zones, and is before -9999-01-03T03:59:58 or after

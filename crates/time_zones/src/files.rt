@@ -9,7 +9,7 @@ use std::{fs, io};
 // The length of the longest file that is read as a zone, in bytes: 1 MiB. Those of the database have a few kilobytes.
 const MOST_BYTES: u64 = 1 << 20;
 
-/// Why a file wasn't read: it is missing, a folder or unreadable, or memory ran out.
+/// Why a file wasn't read: it is missing, it is a folder, it can't be read, or memory ran out.
 #[derive(Clone, Copy, Debug, PartialEq, Eq)]
 pub enum ReadFault {
     /// There is no such file.

@@ -14,7 +14,7 @@ use std::rt::{Env, Files};
 // The folder of zones on most systems.
 const FOLDER: &str = "/usr/share/zoneinfo";
 
-/// An owned zone: UTC, a POSIX rule, or the table of a TZif file.
+/// An owned zone, which may have no name: UTC, a POSIX rule, or the table of a TZif file.
 #[derive(Debug, Drop)]
 pub enum NamedZone {
     /// UTC.

@@ -15,7 +15,7 @@ use std::io::ErrorKind;
 use std::rt::{Env, Files};
 use std::str;
 
-/// A map from names to zones.
+/// A map from names to zones. The case of a name matters: `europe/berlin` isn't `Europe/Berlin`.
 #[derive(Debug, Drop)]
 pub struct Zones {
     alloc: Global,
@@ -66,7 +66,7 @@ impl Zones {
 }
 
 // Converts an error of listing the folder at the path: `NotFound` to `Unknown` with the path, another error of the
-// system to `Unreadable`, and any other to `OutOfMemory`.
+// system to `Unreadable` with its kind, and any other to `OutOfMemory`.
 fn fault_from(error: Error, path: String) -> ZoneFault
     ensures { IsFolderFault result }
 {
@@ -117,9 +117,9 @@ pub fn find_zones_in<F: ZoneFiles>(
 }
 
 /// `UTC`, and all zones of the folder that `TZDIR` names, or of /usr/share/zoneinfo if it is unset or empty, by their
-/// paths below it, such as `Europe/Berlin`. Skips the folders `posix` and `right` directly in it, symbolic links to
-/// folders, what can't be read, and files that aren't zone files or exceed 1 MiB. Of paths that differ only in ASCII
-/// case, the map has one. An error if the folder is missing or can't be read, `TZDIR` isn't UTF-8, or memory runs out.
+/// exact paths below it, such as `Europe/Berlin`. Skips the folders `posix` and `right` directly in it, symbolic links
+/// to folders, what can't be read, and files that aren't zone files or exceed 1 MiB. Of paths equal but for ASCII case,
+/// the map has only one. An error if the folder is missing or unreadable, `TZDIR` isn't UTF-8, or memory runs out.
 pub fn find_zones<R: Env + Files + AllocGlobal + Clone + Drop>(rt: &R) -> Result<Zones, ZoneFault>
     ensures utc { IfOk result (λ zones. zone_named zones (codes "UTC") ≡ Some Named.Utc) }
     ensures err { IfErr result IsFolderFault }

@@ -124,7 +124,7 @@ fn read_common<'a>(component: Component, parsed: &mut Parsed, input: &'a [u8]) -
     }
 }
 
-// Parses a component into the record, and returns the unread bytes. `None`: no match or a value out of range, and the
+// Parses any component into the record, and returns the unread bytes. `None`: no match or a value out of range, and the
 // record is unchanged.
 #[inline(always)]
 fn read_component<'a>(

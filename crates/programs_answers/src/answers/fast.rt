@@ -17,7 +17,7 @@ pub(super) fn missing_component(error: Parse) -> Option<&'static str>
 }
 
 /// `error: ` and the error's text, without LF, if the error is `InsufficientInformation`: the parsed text has too few
-/// components for the value. `None` for any other error.
+/// components for the value, or gives no valid timestamp. `None` for any other error.
 #[inline(always)]
 pub(super) fn insufficient_information(error: Parse) -> Option<&'static str>
     ensures { IfSome result (λ line. codes "error: " ++ refusal_text (refusal_of error) ≡ line.now) }

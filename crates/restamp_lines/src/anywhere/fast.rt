@@ -124,7 +124,7 @@ fn may_be_mail(bytes: &[u8]) -> bool
     }
 }
 
-// Whether the bytes may start with a text of the format, judged by the first few.
+// Whether the bytes may start with a text of the format, judged by at most the first four.
 #[inline(always)]
 fn may_be_of(reading: &Reading, bytes: &[u8]) -> bool
     requires { 0 < length bytes.now }

@@ -78,8 +78,8 @@ pub(super) fn ordinal(input: &[u8], padding: Padding) -> Option<ParsedItem<'_, N
     Some(ParsedItem(ordinal.0, NonZero::<u16>::new(ordinal.1)?))
 }
 
-// Parses a sign and `N` to `M` digits with `padding`, or, if the sign is missing and isn't mandatory, `A` to `B` digits
-// with `padding_alone`. Returns the sign, positive if it is missing, and the number without it.
+// Parses a sign and a number as `run` does, with `N`, `M` and `padding`; or, if the sign is missing and not mandatory,
+// with `A`, `B` and `padding_alone`. Returns the sign, positive if it is missing, and the number without it.
 #[inline]
 fn sign_and_run<const N: u8, const M: u8, const A: u8, const B: u8, T: Integer>(
     input: &[u8],
@@ -111,7 +111,7 @@ fn sign_and_run<const N: u8, const M: u8, const A: u8, const B: u8, T: Integer>(
     }
 }
 
-// Parses a year with padding, negative after `-`: a sign and four to `MOST` digits, or four if no sign is required.
+// Parses a signed year: a sign and 4 to `MOST` padded digits, or 4 if none is required; `Padding::None` allows fewer.
 #[cold]
 #[inline(never)]
 pub(super) fn full_year<const MOST: u8>(
@@ -127,8 +127,8 @@ pub(super) fn full_year<const MOST: u8>(
     Some(ParsedItem(found.0, signed_year(found.1.0, found.1.1)))
 }
 
-// Parses a century, negative after `-`: a sign and two to `MOST` digits with the padding, or, if no sign is there or
-// required, one or two digits whatever the padding. The bool is whether the sign is `-`, also for the number 0.
+// Parses a century, negative after `-`: a sign and two to `MOST` padded digits (`Padding::None` allows one), or, if no
+// sign is there or required, one or two digits whatever the padding. The bool is whether the sign is `-`, also for 0.
 #[inline]
 pub(super) fn century<const MOST: u8>(
     input: &[u8],
@@ -170,8 +170,8 @@ pub(super) fn timestamp<const MOST: u8>(
     Some(ParsedItem(found.0, signed_nanoseconds(found.1.0, found.1.1 * unit)))
 }
 
-// Parses the hours of an offset: an optional or mandatory sign, and two digits with the padding. They are negative
-// after `-`. The bool is whether the sign is `-`, also for 0 hours.
+// Parses the hours of an offset: an optional or mandatory sign, and two digits with the padding; `Padding::None` allows
+// one. The hours are negative after `-`. The bool is whether the sign is `-`, also for 0 hours.
 #[cold]
 #[inline(never)]
 pub(super) fn offset_hour(
@@ -185,7 +185,7 @@ pub(super) fn offset_hour(
     Some(ParsedItem(found.0, signed_hour(found.1.0, found.1.1)))
 }
 
-// Parses the minutes or the seconds of an offset, 0 to 99, without a sign: two digits with the padding.
+// Parses an offset's minutes or seconds, 0 to 99, without a sign: two padded digits; `Padding::None` allows one.
 #[inline]
 pub(super) fn offset_part(input: &[u8], padding: Padding) -> Option<ParsedItem<'_, i8>>
     ensures { Finds (HasMappedValue positive (IsPaddedRun padding 2 2)) signed input.now result }

@@ -132,7 +132,7 @@ impl<const N: usize> DescriptionText<N> {
         }
     }
 
-    // Appends bytes. The error is that there is no room for all of them.
+    // Appends bytes. If there is no room for all of them, it returns `Full` and appends none.
     pub(crate) fn put(&mut self, bytes: &[u8]) -> Result<(), Full>
         ensures { Puts N bytes.now self.old.bytes.items result self.new.bytes.items }
     {

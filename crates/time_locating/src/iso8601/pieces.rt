@@ -36,7 +36,7 @@ pub(crate) fn expected_at(piece: Piece) -> Expected<'static>
     }
 }
 
-// The rest after a piece, or `None` if the piece doesn't match.
+// The rest after a piece as [`Piece`] defines it, with its range, or `None` if the input doesn't begin with the piece.
 #[tactic(auto, using(crate::proofs::IsoLengths::signed))]
 pub(crate) fn past(piece: Piece, input: &[u8]) -> Option<&[u8]>
     ensures { option_copied result ≡ spec.after piece input.now }

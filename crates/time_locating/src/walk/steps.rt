@@ -162,7 +162,7 @@ fn walk_group<'a, 'd>(
 }
 
 // Reads a literal, whose steps are `item`: this byte, and the further bytes inside. Without a match the miss is at the
-// literal's first byte that isn't there. The record is unchanged.
+// literal's first byte that isn't there, and expects only that byte. The record is unchanged.
 fn literal<'a, 'd>(
     byte: &'d u8,
     inside: &'d [Step],

@@ -153,7 +153,7 @@ rfc3339_exact Y = record {
   not_both = λ b r x p e u v. (form b).never_both x u.0 v.0 u.2 v.1;
 }
 
--- for a text and a record, the strict RFC 3339 has at most one reading or one error, and never both
+-- for a text and a record, strict RFC 3339 (with `T`, `t` or a space) has at most one reading or one error, never both
 pub strict_exact : (Y : ℕ) → IsExact (Strict.Reads Y) (Strict.Refuses Y)
 strict_exact Y = record {
   one_rest = λ b. (rfc3339_exact Y).one_rest (strict_text b);

@@ -36,8 +36,8 @@ pub(super) fn date_time(input: &[u8]) -> Option<PlainDateTime>
     Some(plain)
 }
 
-/// Parses a date `YYYY-MM-DD` or `YYYYMMDD`, a time with `T` and an offset at the start of a text. Returns the moment
-/// and the rest. `None` for any other form, if the date doesn't exist, the second is 60, or the offset is out of range.
+/// Parses a date `YYYY-MM-DD` or `YYYYMMDD`, any time with `T` and an offset at the start of a text. Returns the moment
+/// and the rest. `None` for any other text, a date that doesn't exist or a second of 60. `Iso8601` may still accept it.
 #[inline(always)]
 pub fn front(input: &[u8]) -> Option<(OffsetDateTime, &[u8])>
     ensures { IfSome result (λ p. ReadsMoment greatest_year input.now p.0 p.1.now) }

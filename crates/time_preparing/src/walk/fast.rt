@@ -50,8 +50,8 @@ pub(super) fn component<'a>(
     }
 }
 
-// Reads a year of four digits without a sign, whatever the padding, and stores it. Returns the rest. `None`, without a
-// change, for another text, or if the sign is mandatory.
+// Reads the first four digits as a year, whatever the padding, and stores it. Returns the rest, with any fifth digit.
+// `None`, without a change, for an input that begins otherwise, as with a sign, or if the sign is mandatory.
 #[inline(always)]
 pub(super) fn year<'a>(
     parsed: &mut Parsed,
@@ -66,7 +66,7 @@ pub(super) fn year<'a>(
     Some(found.0)
 }
 
-// Reads a year of four digits and no sign, as `year` does, for a component that accepts no more than four digits.
+// Reads a year exactly as `year` does, with any fifth digit in the rest, for a component of at most four digits.
 #[inline(always)]
 fn standard_year<'a>(
     parsed: &mut Parsed,

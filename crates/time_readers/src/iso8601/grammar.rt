@@ -177,8 +177,8 @@ pub fn offset(input: &[u8], kind: ExtendedKind) -> Option<Part<'_, OffsetNumbers
     })
 }
 
-// Parses the minute of an offset, 0 to 59, and 0 if it is missing, and returns the kind after it. `None` if the text
-// isn't basic and a colon has no two digits of 0 to 59 after it, or if there are two digits above 59 without a colon.
+// Parses an offset's minute, 0 to 59; 0 if missing. The returned kind is extended after a parsed colon, else unchanged.
+// `None`: the text isn't basic and a colon isn't followed by 00 to 59, or two digits above 59 follow without a colon.
 #[inline(always)]
 #[tactic(auto, unfolding(crate::specs::IsoGrammar::offset_minute))]
 fn offset_minute(input: &[u8], kind: ExtendedKind) -> Option<Part<'_, u8>>

@@ -129,8 +129,8 @@ fn pairs(bytes: &[u8; 16]) -> [u8; 4]
 ///
 /// These are nineteen bytes, the first sixteen tested at once: a month's name of a capital and two small letters, a
 /// year of four digits, 1900 or later, an hour, a minute and a second. A byte above `(` must follow them. Stores their
-/// numbers. Returns the rest, or `None` for any other form, with the numbers unchanged. A second of 60 isn't of this
-/// form. With `CHECK_RANGES` the hour is at most 23, and else at most 29.
+/// numbers. Returns the rest, or `None` for any other form, with the numbers unchanged. The minute and the second are
+/// at most 59. With `CHECK_RANGES` the hour is at most 23, and else at most 29.
 #[inline(always)]
 pub fn to_offset<'a, const CHECK_RANGES: bool>(
     text: &'a [u8],

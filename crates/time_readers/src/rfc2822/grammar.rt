@@ -162,7 +162,7 @@ fn year<'a>(input: &'a [u8], numbers: &mut Numbers) -> Option<&'a [u8]>
     Some(short.0)
 }
 
-// Parses blanks and comments, one or more of them, after a year of two digits, and only blanks after one of four.
+// Parses blanks and comments, one or more of them, after a year of two digits, and one `fws` after a year of four.
 #[inline(always)]
 fn year_blanks(input: &[u8], year_is_full: bool) -> Option<&[u8]>
     ensures { (n : Numbers) → Reads (IsSilent (Rfc2822.year_blanks year_is_full) n) input.now result n }
@@ -218,7 +218,7 @@ fn second<'a, const CHECK_RANGES: bool>(input: &'a [u8], numbers: &mut Numbers) 
 }
 
 // Parses a sign and two digits, 0 to 25 with range checks, else 0 to 99; or a zone name. Stores the sign, or `None` for
-// a zone name, and the hour. No zone name begins with a sign.
+// a zone name, and the hour with its sign. No zone name begins with a sign.
 #[inline(always)]
 fn offset_hour<'a, const CHECK_RANGES: bool>(
     input: &'a [u8],

@@ -240,8 +240,8 @@ impl Parsed {
         Some(self)
     }
 
-    /// Sets the nanoseconds since 1970-01-01T00:00:00Z, from -31619087596800000000000 to 31494784780799999999999.
-    /// `None` if out of range.
+    /// Sets the nanoseconds since 1970-01-01T00:00:00Z, from -31619087596800000000000 to 31494784780799999999999: years
+    /// -999999 to 999999 in UTC. `None` if out of range.
     #[inline]
     pub fn with_unix_timestamp_nanos(mut self, value: i128) -> Option<Parsed>
         ensures { result ≡ put greatest_year (unix_timestamp_nanos_is value) self }

@@ -284,8 +284,8 @@ impl Parsed {
         })
     }
 
-    /// The nanoseconds since 1970-01-01T00:00:00Z, from -31619087596800000000000 to
-    /// 31494784780799999999999. `None` if not set.
+    /// The nanoseconds since 1970-01-01T00:00:00Z, from -31619087596800000000000 to 31494784780799999999999: years
+    /// -999999 to 999999 in UTC. `None` if not set.
     #[inline]
     pub fn unix_timestamp_nanos(&self) -> Option<i128>
         ensures value { result ≡ self.now.unix_timestamp_nanos }

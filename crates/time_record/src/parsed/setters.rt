@@ -334,8 +334,8 @@ impl Parsed {
         Some(())
     }
 
-    /// Sets the nanoseconds since 1970-01-01T00:00:00Z, from -31619087596800000000000 to 31494784780799999999999. If
-    /// out of range, returns `None` and changes nothing.
+    /// Sets the nanoseconds since 1970-01-01T00:00:00Z, from -31619087596800000000000 to 31494784780799999999999: years
+    /// -999999 to 999999 in UTC. If out of range, returns `None` and changes nothing.
     #[inline]
     pub fn set_unix_timestamp_nanos(&mut self, value: i128) -> Option<()>
         ensures { Sets (put greatest_year (unix_timestamp_nanos_is value) self.old)

@@ -76,8 +76,8 @@ pub(super) fn moment(steps: &[StoredStep]) -> Option<Whole>
     }))
 }
 
-// The form of the date in the first five steps, the byte of the sixth, and the later steps. `None`: the first five
-// aren't a known form of a date, or the sixth isn't the first byte of a literal.
+// The form of the date in the first five of at least six steps, the byte of the sixth, and the later steps. `None`: the
+// first five aren't a known form of a date, or the sixth isn't the first byte of a literal.
 #[inline(always)]
 fn front(steps: &[StoredStep]) -> Option<(Dated, u8, &[StoredStep])>
     requires { 6 ≤ length steps.now }

@@ -47,7 +47,7 @@ fn after_t<'a>(input: &'a [u8], kind: ExtendedKind) -> Option<Part<'a, TimeNumbe
     }
 }
 
-// Parses the rest of a time after a whole hour. `None` for a colon in a basic text, or an invalid minute or second.
+// Parses the rest of a time after a whole hour. `None` for `hh:` in a basic text, or an invalid minute or second.
 #[inline(always)]
 fn after_hour<'a>(input: &'a [u8], kind: ExtendedKind, hour: u8) -> Option<Part<'a, TimeNumbers>>
     requires { hour ≤ 23 }

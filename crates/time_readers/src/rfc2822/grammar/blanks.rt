@@ -15,7 +15,7 @@ use crate::{ParsedItem, rfc2822};
 const MOST_COMMENTS: u8 = 31;
 
 // Parses blanks, folded over lines or not: one fold; or blanks, and then any number of folds. Returns `None` for any
-// other input, and if a CR LF after blanks has no blank after it.
+// other input, and, in the second form, if a CR LF without a blank after it comes next.
 pub(crate) fn fws(input: &[u8]) -> Option<ParsedItem<'_, ()>>
     ensures { option_map (λ p. p.0.now) result ≡ spec.fws input.now }
 {
@@ -166,8 +166,8 @@ pub(crate) fn opt_cfws_colon_opt_cfws(input: &[u8]) -> Option<ParsedItem<'_, ()>
     Some(rfc2822::opt_cfws(rest))
 }
 
-// Parses a zone name in any case, as its hours from UTC: if the input has three bytes or more, a name of three letters
-// that `hours_of` knows, as `EST`; and else `UT` or one letter except J.
+// Parses a zone name in any case, as its hours from UTC. An input of three or more bytes must begin with a name that
+// `hours_of` knows, as `EST`. A shorter one must be `UT`, or begin with a letter except J. Otherwise returns `None`.
 pub(crate) fn zone_literal(input: &[u8]) -> Option<ParsedItem<'_, i8>>
     ensures { option_map (λ p. (p.1, p.0.now)) result ≡ zone_literal input.now }
 {

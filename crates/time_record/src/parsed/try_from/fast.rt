@@ -87,8 +87,8 @@ pub(super) fn date_and_time(parsed: &Parsed) -> Option<PlainDateTime>
     Some(PlainDateTime::new(date, time))
 }
 
-/// The moment of a date, a time and an offset. `None`: a timestamp is set, or one of the three is `None`, and the
-/// general conversion decides.
+/// The moment of a date, a time and an offset. `None`: a timestamp is set, or `date`, `time` or `offset` returns
+/// `None`, and the general conversion decides.
 #[inline(always)]
 #[tactic(auto, unfolding(crate::specs::Resolution::IsMoment))]
 pub(super) fn moment(parsed: &Parsed) -> Option<OffsetDateTime>
@@ -100,7 +100,7 @@ pub(super) fn moment(parsed: &Parsed) -> Option<OffsetDateTime>
     moment_of_parts(parsed)
 }
 
-// The moment of the record's date, time and offset; a timestamp is ignored. `None` if one of the three is `None`.
+// The moment by `date`, `time` and `offset`; a timestamp is ignored. `None` if one of these functions returns `None`.
 #[inline(always)]
 #[tactic(auto, unfolding(crate::specs::Resolution::IsMomentOfParts))]
 fn moment_of_parts(parsed: &Parsed) -> Option<OffsetDateTime>

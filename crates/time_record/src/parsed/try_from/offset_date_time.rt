@@ -16,8 +16,8 @@ use crate::parsed::try_from::time::{
 use time_values::OffsetDateTime;
 use time_values::error::TryFromParsed;
 
-// The moment of a record, or its error, as `OffsetDateTime::try_from` returns them. This is not a fast path: it inlines
-// the usual components' conversion, so that a record needs no memory if the compiler knows which components it has.
+// The moment of a record, or its error, as `OffsetDateTime::try_from` returns them. A record with the usual components
+// is converted inline, so that it needs no memory if the compiler knows what is set. `moment_of` converts the others.
 #[inline(always)]
 #[tactic(auto, unfolding(crate::specs::Resolution::IsMoment))]
 pub(super) fn moment_or_refusal(parsed: &Parsed) -> Result<OffsetDateTime, TryFromParsed>
@@ -43,7 +43,7 @@ fn moment_of(parsed: &Parsed) -> Result<OffsetDateTime, TryFromParsed>
 }
 
 // The moment at `nanos` nanoseconds since 1970-01-01T00:00:00Z, at offset 0. If `subsecond` is given, it replaces the
-// nanoseconds of the moment's second.
+// nanoseconds of the moment's second. Never an error, since the caller's numbers are in range.
 #[inline]
 fn moment_at(nanos: i128, subsecond: Option<u32>) -> Result<OffsetDateTime, TryFromParsed>
     requires nanos { IsTrue (is_instant greatest_year nanos) }

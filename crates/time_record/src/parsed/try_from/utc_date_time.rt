@@ -38,7 +38,7 @@ impl TryFrom<Parsed> for UtcDateTime {
 }
 
 // The moment at `nanos` nanoseconds since 1970-01-01T00:00:00Z. If `subsecond` is given, it replaces the nanoseconds of
-// the moment's second.
+// the moment's second. Never an error, since the caller's numbers are in range.
 #[inline]
 fn moment_at(nanos: i128, subsecond: Option<u32>) -> Result<UtcDateTime, TryFromParsed>
     requires nanos { IsTrue (is_instant greatest_year nanos) }
@@ -72,7 +72,7 @@ pub(super) fn moment_of_parts(parsed: &Parsed) -> Result<UtcDateTime, TryFromPar
     Ok(moment)
 }
 
-// The offset of a record, or 0 without an offset's hour.
+// The offset of a record, or 0 without an offset's hour; never an error.
 #[inline]
 #[tactic(auto, unfolding(crate::specs::Resolution::IsOffset, crate::specs::Resolution::IsOffsetOrUtc))]
 fn offset_or_utc(parsed: &Parsed) -> Result<UtcOffset, TryFromParsed>
